@@ -46,12 +46,12 @@ function __roam_first
     test (count (commandline -opc)) = 1
 end
 
-complete -c roam -n '__roam_first' -f -a mux -d 'keeps sessions by name'
-complete -c roam -n '__roam_first' -f -a serve -d 'serves a session'
-complete -c roam -n '__roam_first' -f -a attach -d 'runs a client of a session'
-complete -c roam -n '__roam_first' -f -a show -d 'prints the screen that bytes produce'
-complete -c roam -n '__roam_first' -f -a rows -d 'prints the rows that scroll off'
-complete -c roam -n '__roam_first' -f -a world -d 'replays a script of network events'
+complete -c roam -n '__roam_first' -f -a mux -d 'run terminal sessions'
+complete -c roam -n '__roam_first' -f -a serve -d 'serve a session'
+complete -c roam -n '__roam_first' -f -a attach -d 'run a client of a session'
+complete -c roam -n '__roam_first' -f -a show -d 'print the screen that bytes produce'
+complete -c roam -n '__roam_first' -f -a rows -d 'print the rows that scroll off'
+complete -c roam -n '__roam_first' -f -a world -d 'replay a script of network events'
 complete -c roam -n '__roam_program serve' -F -l dir -r
 complete -c roam -n '__roam_program serve' -f -l port -x
 complete -c roam -n '__roam_program serve' -f -l session -x

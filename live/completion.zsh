@@ -91,12 +91,12 @@ _roam() {
     case $state in
     command)
         found=(
-            'mux:keeps sessions by name'
-            'serve:serves a session'
-            'attach:runs a client of a session'
-            'show:prints the screen that bytes produce'
-            'rows:prints the rows that scroll off'
-            'world:replays a script of network events'
+            'mux:run terminal sessions'
+            'serve:serve a session'
+            'attach:run a client of a session'
+            'show:print the screen that bytes produce'
+            'rows:print the rows that scroll off'
+            'world:replay a script of network events'
         )
         _describe -t commands command found
         ;;

@@ -1,7 +1,7 @@
 #!/bin/sh
-# install.sh [PREFIX]: installs roam below PREFIX, ~/.local if none is named, or a newer build over an older one.
-# install.sh --remove [PREFIX]: removes it; PREFIX/lib/roam/install.sh does too. Sessions that run go on in both cases.
-# roam needs x86-64 Linux, glibc @LIBC@ and Python 3.9.
+# install.sh [PREFIX]: install roam below PREFIX, ~/.local if none is named, or upgrade an older build there.
+# install.sh --remove [PREFIX]: remove it; PREFIX/lib/roam/install.sh does the same. Running sessions continue in both cases.
+# roam needs Linux on x86-64, glibc @LIBC@ and Python 3.9.
 set -eu
 does=install
 if [ "${1-}" = --remove ]; then
@@ -29,12 +29,12 @@ fail() {
 
 python3 -c 'import sys; sys.exit(sys.version_info < (3, 9))' 2> /dev/null || fail "roam needs Python 3.9 or newer as python3 on the PATH"
 if [ $does = install ]; then
-    [ -f "$from/lib/roam/files" ] || fail "$from has no files of roam: unpack the whole tarball"
-    [ "$from" != "$prefix" ] || fail "$prefix is the unpacked tarball: name another folder"
+    [ -f "$from/lib/roam/files" ] || fail "$from lacks files of roam; unpack the whole tarball"
+    [ "$from" != "$prefix" ] || fail "$prefix is the unpacked tarball; name another directory"
     [ "$(uname -sm)" = "Linux x86_64" ] || fail "roam needs Linux on x86-64, and this is $(uname -sm)"
-    "$from/lib/roam/roam" --help > /dev/null 2>&1 || fail "the program doesn't run here: it needs glibc @LIBC@ or newer"
+    "$from/lib/roam/roam" --help > /dev/null 2>&1 || fail "the program does not run here; it needs glibc @LIBC@ or newer"
 else
-    [ -f "$prefix/lib/roam/files" ] || fail "no roam is installed below $prefix"
+    [ -f "$prefix/lib/roam/files" ] || fail "roam is not installed below $prefix"
 fi
 
 python3 - "$does" "$from" "$prefix" << 'END'
@@ -112,11 +112,11 @@ else:
 END
 
 if [ $does = remove ]; then
-    echo "roam is removed below $prefix; sessions that run go on"
+    echo "roam was removed from $prefix; running sessions continue"
     exit 0
 fi
-echo "roam is installed below $prefix: \`roam mux\` begins a session; $prefix/lib/roam/install.sh --remove removes it"
+echo "roam is installed below $prefix; start with \`roam mux\`; $prefix/lib/roam/install.sh --remove removes it"
 case :$PATH: in
 *:"$prefix/bin":*) ;;
-*) echo "$prefix/bin isn't on your PATH" ;;
+*) echo "$prefix/bin is not on your PATH; add it" ;;
 esac

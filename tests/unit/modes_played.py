@@ -58,7 +58,7 @@ class NoWindows:
 
     def why_one(self):
         """Return why there is no other window."""
-        return "no other window can be had here"
+        return "there is only one window"
 
     def is_full(self):
         """Return False: no key waits."""

@@ -213,12 +213,12 @@ class Loop(Fronts):
         self.place.processes["client"] = 5
         self.front.views.view.reconnector.retry.faults = 1
         for text, told in ((record("refused", 3, words="bad act"), b"the client process refused a line: bad act"),
-                           (b"full\n", b"no more terminals are taken: 16 are there")):
+                           (b"full\n", b"16 terminals are attached; no more are accepted")):
             client = self.connect()
             client.send(text)
             client.close()
             self.turn()
-            self.assertIn(told + b"; tried anew in ", self.shown())
+            self.assertIn(told + b"; next try in ", self.shown())
 
     def test_no_record(self):
         """What is no record ends the connection, as its end does."""
@@ -327,7 +327,7 @@ class Loop(Fronts):
 
     def test_not_taken(self):
         """A terminal that can't be taken is left alone."""
-        with mock.patch.object(tty, "make_raw", return_value=None), self.assertRaisesRegex(Fault, "^the terminal can't be made raw$"):
+        with mock.patch.object(tty, "make_raw", return_value=None), self.assertRaisesRegex(Fault, "^cannot switch the terminal to raw mode$"):
             self.front.first.begin()
         self.assertEqual((termios.tcgetattr(self.slave), self.shown()), (self.before, b""))
 
@@ -426,7 +426,7 @@ class Loop(Fronts):
         self.turn()
         self.assertIn(b"no server is in ", self.shown())
         self.assertTrue(self.front.views.commands.acts.paused)
-        self.assertEqual(self.front.display.notice, f"no server is in {self.place.folder}; tried anew in 1 s; C-c or q leaves")
+        self.assertEqual(self.front.display.notice, f"no server is in {self.place.folder}; next try in 1 s; C-c or q leaves")
         self.type(b"q")
         self.assertEqual(self.front.left, "[left]")
 
@@ -441,7 +441,7 @@ class Loop(Fronts):
         self.now += 0.1
         self.turn()
         client = self.taken(self.listener)
-        self.assertEqual(self.front.display.row.told, "the client process has ended; what was typed last may be lost")
+        self.assertEqual(self.front.display.row.told, "the client process ended; the last keys may be lost")
         self.assertEqual(self.front.loop.due["told"][0], self.now + 3.0)
         self.shown()
         client.send(b"old\nevents\n")
@@ -489,7 +489,7 @@ class Loop(Fronts):
         self.connect()
         with mock.patch.object(self.place, "revive_host", return_value=True, create=True):
             self.front.watchdog.revive()
-        said = "the shells had ended: new ones are there, and what was typed meanwhile is dropped"
+        said = "the pty host was restarted: the shells are new, and input typed in between was dropped"
         self.assertEqual((self.front.display.row.told, self.front.loop.due["told"][0]), (said, 103.0))
         self.shown()
         self.panes.rings(2)
@@ -581,7 +581,7 @@ class Loop(Fronts):
 
     def test_no_terminal(self):
         with mock.patch("os.isatty", side_effect=[True, False]):
-            with self.assertRaisesRegex(Fault, "standard input and output have to be a terminal"):
+            with self.assertRaisesRegex(Fault, "standard input and output must be a terminal"):
                 outer_terminal.OuterTerminal()
 
     def test_outer(self):
@@ -891,7 +891,7 @@ class Wishes(Case):
         person = self.person()
         person.busy = {2: "vi"}
         self.assertEqual(person.types(b"\x02o\x02x"), ["next"])
-        self.assertEqual(person.display.row.prompt, "close whatever runs in this pane? y closes it")
+        self.assertEqual(person.display.row.prompt, "close the program in this pane? y closes it")
         self.tell(person, PANES._replace(focus=3))
         self.assertEqual(person.types(b"n\x02x"), ["close"])
 
@@ -900,7 +900,7 @@ class Wishes(Case):
         self.assertEqual(person.types(b'\x02%\x02"'), ["split right", "split down"])
         small = self.person(Places({1: Rect(1, 1, 4, 8)}, 1, 1))
         small.display.row.told = ""
-        self.assertEqual((small.types(b"\x02%"), small.display.row.told), ([], "pane 1 is too small to be split: 4 by 8"))
+        self.assertEqual((small.types(b"\x02%"), small.display.row.told), ([], "pane 1 is too small to split: 4 by 8"))
 
     def test_close(self):
         """A pane with a shell is closed at once; one where another program runs once that is confirmed."""
@@ -921,15 +921,15 @@ class Wishes(Case):
         """Where it isn't known what runs it asks."""
         person = self.person()
         person.busy = None
-        self.assertEqual((person.types(b"\x02x"), person.display.row.prompt), ([], "close whatever runs in pane 1? y closes it"))
+        self.assertEqual((person.types(b"\x02x"), person.display.row.prompt), ([], "close the program in pane 1? y closes it"))
         person = self.person(None)
         person.busy = None
-        self.assertEqual((person.types(b"\x02x"), person.display.row.prompt), ([], "close whatever runs in this pane? y closes it"))
+        self.assertEqual((person.types(b"\x02x"), person.display.row.prompt), ([], "close the program in this pane? y closes it"))
 
     def test_close_last(self):
         person = self.person(places(24, 80))
         self.assertEqual((person.types(b"\x02x"), person.display.row.told),
-                         ([], "the last pane goes with its shell, and the session with it"))
+                         ([], "the last pane ends with its shell, and the session with it"))
 
     def test_scroll(self):
         """The scroll mode is told until it ends."""
@@ -954,7 +954,7 @@ class Wishes(Case):
     def test_others(self):
         """All others leave, as the host reports; where it doesn't answer in time, or isn't connected, that is told."""
         person = self.person()
-        stays = "the others can't be detached: the pty host doesn't answer"
+        stays = "cannot detach the others: the pty host does not answer"
         self.assertEqual((person.types(b"\x02D"), person.display.row.told), ([], stays))
         person.display.row.end_told()
         person.host.peer, person.host.ask = object(), mock.Mock()
@@ -973,15 +973,15 @@ class Wishes(Case):
         """Each line stands for its time: what a person has to read for longer than what he knows."""
         one = Places({1: Rect(1, 1, 23, 80)}, 1)
         for places, text, told, seconds in (
-                (PANES, b"\x02Z", "C-b Z is not bound; C-b ? shows the keys", 1.0), (PANES, b"\x02;", "no other pane was in focus", 1.0),
-                (PANES, b"\x02m", "the mouse focuses, scrolls and drags borders; C-b m ends that", 3.0),
-                (PANES, b"\x02m\x02m", "the mouse selects text, but where a program has it", 3.0),
-                (PANES, b"\x02q", f"{PANES.labels()}: a digit goes to the pane of this number", 3.0),
+                (PANES, b"\x02Z", "C-b Z is not bound; C-b ? lists the keys", 1.0), (PANES, b"\x02;", "no other pane was active before", 1.0),
+                (PANES, b"\x02m", "roam has the mouse: click, wheel, drag; C-b m gives it back", 3.0),
+                (PANES, b"\x02m\x02m", "the mouse selects text, except in programs that use it", 3.0),
+                (PANES, b"\x02q", f"{PANES.labels()}: press a pane's number", 3.0),
                 (one, b"\x02z", "pane 1 is the only one, and fills the session", 3.0),
-                (None, b"\x02z", "nothing is zoomed where the panes aren't told", 3.0), (PANES, b"\x02]", "no buffer is kept", 2.0),
-                (one, b"\x02 ", "shares are even", 1.0),
-                (one, b"\x02\x1b[1;5C", "pane 1 has no border at its left or right", 1.0),
-                (PANES, b"\x02D", "the others can't be detached: the pty host doesn't answer", 2.0)):
+                (None, b"\x02z", "cannot zoom: the server does not report its panes", 3.0), (PANES, b"\x02]", "there are no buffers", 2.0),
+                (one, b"\x02 ", "space is divided evenly", 1.0),
+                (one, b"\x02\x1b[1;5C", "pane 1 has no border on its left or right", 1.0),
+                (PANES, b"\x02D", "cannot detach the others: the pty host does not answer", 2.0)):
             person = self.person(places)
             person.types(text)
             self.assertEqual((person.display.row.told, person.loop.due["told"][0]), (told, self.now + seconds), text)
@@ -989,7 +989,7 @@ class Wishes(Case):
     def test_unknown(self):
         person = self.person()
         person.types(b"\x02Z")
-        self.assertEqual((person.display.row.told, person.loop.due["told"][0]), ("C-b Z is not bound; C-b ? shows the keys", 101.0))
+        self.assertEqual((person.display.row.told, person.loop.due["told"][0]), ("C-b Z is not bound; C-b ? lists the keys", 101.0))
 
     def test_interrupts(self):
         """C-c drops what waits of pastes, also where the program has it in another form; not where it isn't typed."""
@@ -1010,11 +1010,11 @@ class Wishes(Case):
             for chunk in chunks:
                 self.now += 0.02
                 person.types(chunk)
-            self.assertEqual((person.link.acts, person.display.row.told), ([], f"C-b {name} is not bound; C-b ? shows the keys"), chunks)
+            self.assertEqual((person.link.acts, person.display.row.told), ([], f"C-b {name} is not bound; C-b ? lists the keys"), chunks)
         person.types(b"\x02\x1b")
         self.now += 0.03
         person.loop.do_due()
-        self.assertEqual((person.link.acts, person.display.row.told), ([], "C-b Escape is not bound; C-b ? shows the keys"))
+        self.assertEqual((person.link.acts, person.display.row.told), ([], "C-b Escape is not bound; C-b ? lists the keys"))
         person.types(b"1\x02x\x1b2")
         self.assertEqual(person.link.acts[0], "char 31")
         person.types(b"n\x02\x1b\x1b[200~x\x1b[201~y")
@@ -1026,7 +1026,7 @@ class Wishes(Case):
         self.assertEqual(person.types(b"ls\r\x02%\x02x\x02o\x02q1\x02\x1b[C\x02r"), [])
         self.assertEqual(person.display.row.told, "")
         self.assertEqual(person.types(b"\x02[\x02]\x02="), [])
-        self.assertEqual((person.display.row.told, person.modes.has(ScrollMode)), ("no rows are kept that could be shown", False))
+        self.assertEqual((person.display.row.told, person.modes.has(ScrollMode)), ("this pane has no stored rows", False))
         person.types(b"\x02?")
         self.assertTrue(person.display.notice)
         person.types(b"\x02d")
@@ -1183,7 +1183,7 @@ class Painted(Case):
         self.assertEqual((person.commands.size.requested, person.loop.due["requested size"][0]), ((5, 20), 102.5))
         self.now = 102.5
         person.loop.do_due()
-        self.assertEqual((person.display.row.told, person.commands.size.requested), ("its panes have no room in 5 by 20", None))
+        self.assertEqual((person.display.row.told, person.commands.size.requested), ("5 by 20 is too small for its panes", None))
         self.assertFalse(person.display.part.shows_all())
 
 

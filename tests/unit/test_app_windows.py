@@ -343,7 +343,7 @@ class Opened(Windows):
         self.tell_list()
         self.type(b"a\x02crm x\r")
         self.tell("opened none a session has \x1b[2J99 windows at most")
-        self.assertEqual(self.front.display.row.told, "no window is opened: a session has ?[2J99 windows at most" + DROPPED)
+        self.assertEqual(self.front.display.row.told, "cannot open a window: a session has ?[2J99 windows at most" + DROPPED)
         self.type(b"b")
         self.assertEqual(self.typed, {1: "ab", 2: ""})
 
@@ -359,7 +359,7 @@ class Opened(Windows):
         self.assertEqual(self.typed, {1: "c", 2: "d"})
         self.add(3)
         self.tell("window 3 -", "opened 3")
-        self.assertEqual((self.front.views.number, self.front.display.row.told), (2, "window 3 is there now"))
+        self.assertEqual((self.front.views.number, self.front.display.row.told), (2, "window 3 is open now"))
 
     def test_given_up(self):
         """Once it was told that it takes long C-c waits for it no longer, and what follows that is typed; before that C-c is for it too."""
@@ -536,7 +536,7 @@ class Told(Windows):
         del self.windows[2]
         self.tell("gone 2")
         self.type(b" x\r\x1b[201~y")
-        self.assertEqual((self.typed, self.front.display.row.told), ({1: "y", 2: ""}, "nothing is pasted: its window is gone"))
+        self.assertEqual((self.typed, self.front.display.row.told), ({1: "y", 2: ""}, "not pasted: its window is gone"))
         # So is one that was pasted into a line that copy mode asked for.
         self.add(3)
         self.tell("window 3 -")
@@ -555,7 +555,7 @@ class Told(Windows):
         self.windows[2].runs_busy = {1: "vi"}
         for keys in (b"\x02x", b"n\x02&"):
             self.type(keys)
-            self.assertEqual(self.rows()[1], "shut window 2, with vi in pane 1? y shuts it")
+            self.assertEqual(self.rows()[1], "close window 2, with vi in pane 1? y closes it")
         del self.windows[2]
         self.tell("gone 2")
         self.said()
@@ -585,7 +585,7 @@ class Told(Windows):
         self.assertEqual(self.front.display.row.told, "2 other terminals detached")
         self.hosts[0].send(b"0 leave\n")
         self.turn()
-        self.assertEqual(self.front.left, "[detached from elsewhere]")
+        self.assertEqual(self.front.left, "[detached by another terminal]")
 
 
 class Named(Windows):
@@ -628,13 +628,13 @@ class Named(Windows):
         self.assertEqual(self.said(), ["shut 1"])
         self.windows[1].runs_busy = None
         self.type(b"\x02&")
-        self.assertEqual(self.rows()[1], "shut window 1, with whatever runs there? y shuts it")
+        self.assertEqual(self.rows()[1], "close window 1, with its programs? y closes it")
         self.type(b"n")
         self.assertEqual((self.said(), self.rows()[1]), ([], "[1] 1* 2"))
         self.windows[1].runs_busy = {}
         self.tell("gone 2")
         self.type(b"\x02&")
-        self.assertEqual(self.rows()[1], "shut window 1 and end the session, whose last it is? y shuts it")
+        self.assertEqual(self.rows()[1], "close window 1 and the session, whose last it is? y closes it")
         self.type(b"y")
         self.assertEqual(self.said(), ["shut 1"])
 
@@ -745,7 +745,7 @@ class Settings(Windows):
         other.write_text("set -g mouse off\nfoo\n", encoding="utf-8")
         self.front.runner.typed(f"source-file {other}")
         self.assertEqual((self.front.display.row.told, self.front.views.commands.pointing.is_on, self.front.settings.prefix),
-                         ("other.conf:2: foo isn't there in roam", False, "C-a"))
+                         ("other.conf:2: roam does not support foo", False, "C-a"))
         self.read("")
         self.assertEqual((self.front.settings.prefix, self.front.keyboard.modes.keymap.own), ("C-b", {}))
 

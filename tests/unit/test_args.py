@@ -48,10 +48,12 @@ class Meant(unittest.TestCase):
     def test_words_of_tmux(self):
         """Each word of tmux is known, and what does the same here is told, or that nothing does."""
         self.assertEqual([word for word in OF_TMUX if word not in TMUX_WORDS], [])
-        for name, told in (("a", "a is a word of tmux; roam has `roam mux attach NAME`"), ("lsk", "lsk is a word of tmux; roam has C-b ?"),
-                           ("kill-server", "kill-server is a word of tmux; roam has `roam mux kill NAME`"),
-                           ("splitw", "splitw is a word of tmux; roam has `roam mux cmd NAME split-window`"),
-                           ("swap-pane", "swap-pane: tmux has this, roam hasn't"), ("info", "info: tmux has this, roam hasn't"),
+        for name, told in (("a", "a is a tmux command; in roam, use `roam mux attach NAME`"),
+                           ("lsk", "lsk is a tmux command; in roam, use C-b ?"),
+                           ("kill-server", "kill-server is a tmux command; in roam, use `roam mux kill NAME`"),
+                           ("splitw", "splitw is a tmux command; in roam, use `roam mux cmd NAME split-window`"),
+                           ("swap-pane", "swap-pane: roam does not support this tmux command"),
+                           ("info", "info: roam does not support this tmux command"),
                            ("work", "")):
             self.assertEqual(told_of_tmux(name, "roam mux"), told)
 

@@ -113,16 +113,17 @@ class Rowed(Asked):
         self.filter = [b"screen 0 1 3\n s\n"] * 4
         for word in ("x", "--", "-x", "1.5", "", "1" * 10, "+1"):
             self.filter = [b"screen 0 1 3\n s\n"]
-            told = f"{word!r} is no row: 0 is the first of the screen, -1 the last above it, and - the outermost"
+            told = f"{word!r} is not a row: 0 is the first of the screen, -1 the last above it, - the first or last"
             self.refuses(told, scrollback.capture_rows, 0, word, None, False, False)
         self.generation = 4
         for does, words in ((scrollback.capture_rows, ("0", None)), (scrollback.log_rows, ())):
-            self.refuses("session main: no rows are kept of pane 1, as where ROAM_HISTORY is 0", does, 0, *words,
+            self.refuses("session main: pane 1 has no stored rows; ROAM_HISTORY may be 0", does, 0, *words,
                          False, False)
         self.generation = 5
-        self.refuses("session main: the pty host doesn't answer", scrollback.capture_rows, 0, "0", None, False, False)
+        self.refuses("session main: the pty host does not answer", scrollback.capture_rows, 0, "0", None, False, False)
         self.socket.close()
-        self.refuses("session main: its pty host is not running", scrollback.capture_rows, 0, "0", None, False, False)
+        told = "session main: its pty host is not running; `mux main` restarts it"
+        self.refuses(told, scrollback.capture_rows, 0, "0", None, False, False)
 
     def test_log(self):
         """Rows as they come, and the last screen; rows that were kept no longer are told."""
@@ -168,7 +169,7 @@ class Buffered(Asked):
         self.assertEqual(self.printed_by(scrollback.show_buffer, "1"), "one?[2J")
         self.assertEqual(self.printed_by(scrollback.show_buffer, None), "two\n b\ufffd\n")
         self.refuses("session main has no buffer 9", scrollback.show_buffer, "9")
-        self.refuses("'x' is no number of a buffer; `mux buffer list main` tells them", scrollback.show_buffer, "x")
+        self.refuses("'x' is not a buffer's number; `mux buffer list main` lists them", scrollback.show_buffer, "x")
 
     def test_refused(self):
         """One that is empty, or too long."""
@@ -196,17 +197,17 @@ class Buffered(Asked):
     def test_no_answer(self):
         """A host that tells of no buffers, takes none or ends, or that isn't there, is told of."""
         with mock.patch.object(self.socket.uploads, "take_buffer_line", lambda peer, line: False):
-            self.refuses("session main: the pty host tells of no buffers", scrollback.list_buffers)
-            self.refuses("session main: the buffer isn't kept", scrollback.set_buffer, "a")
+            self.refuses("session main: the pty host did not list its buffers", scrollback.list_buffers)
+            self.refuses("session main: the buffer was not stored", scrollback.set_buffer, "a")
             self.patch_of(paste, "ready", self.ready)
-            told = "session main: the pty host ended, or takes no buffer, and nothing was typed"
+            told = "session main: the pty host ended or refused the buffer; nothing was typed"
             self.refuses(told, scrollback.put_buffer, "1", 0)
         with mock.patch.object(self.socket, "take_line", lambda peer, number, line: self.socket.drop(peer)):
             self.refuses(told, scrollback.put_buffer, "1", 0)
         self.socket.close()
-        self.refuses("session main: its pty host is not running", paste.paste_buffer, 1, 0)
+        self.refuses("session main: its pty host is not running; `mux main` restarts it", paste.paste_buffer, 1, 0)
 
     def test_nonsense(self):
         """A host that tells what can't be."""
         with mock.patch.object(self.socket, "take_line", lambda peer, number, line: self.socket.send(peer, ["buffers [2J"])):
-            self.refuses("session main: the pty host tells what can't be: buffers ?[2J", scrollback.list_buffers)
+            self.refuses("session main: invalid answer from the pty host: buffers ?[2J", scrollback.list_buffers)

@@ -375,14 +375,14 @@ class Kept(Linked):
         self.place.served = False
         self.assertEqual(self.reconnector.connect()[1], "no server is in /folder")
         self.place.served, self.place.full = True, True
-        self.assertEqual(self.reconnector.connect()[1], "the server has had the 64 clients of its life, and hears no other")
+        self.assertEqual(self.reconnector.connect()[1], "the server has used its 64 clients and accepts no more")
         self.place.full = False
         for fault in (Fault("session main: no room"), OSError(28, "no room")):
             self.place.fault = fault
             self.assertEqual(self.reconnector.connect()[1], "no room")
         self.assertEqual((self.place.revived, self.reconnector.retry.faults), (0, 4))
-        with mock.patch.object(self.link, "connect", side_effect=PermissionError(1, "user 7 listens there, and not you")):
-            self.assertEqual(self.reconnector.connect(), (8, f"{self.path}: user 7 listens there, and not you"))
+        with mock.patch.object(self.link, "connect", side_effect=PermissionError(1, "user 7 listens there instead of you")):
+            self.assertEqual(self.reconnector.connect(), (8, f"{self.path}: user 7 listens there instead of you"))
 
 
 class Opened(Linked):

@@ -38,11 +38,11 @@ class Programs(Case):
         self.assertEqual(common_process.program(), str(files[3]))
         for named in (files[0], files[1], folder):
             self.environment(ROAM=str(named))
-            with self.assertRaisesRegex(Fault, f"^{named} isn't there; make builds it$"):
+            with self.assertRaisesRegex(Fault, f"^{named} does not exist; `make` builds it$"):
                 common_process.program()
         self.environment(ROAM=None)
         self.patch_of(common_process, "PLACES", tuple(files[:2]))
-        with self.assertRaisesRegex(Fault, f"^{files[0]} isn't there; make builds it$"):
+        with self.assertRaisesRegex(Fault, f"^{files[0]} does not exist; `make` builds it$"):
             common_process.program()
 
     def test_ids(self):
@@ -84,7 +84,7 @@ class Homes(Case):
         listener = self.listening(folder / "clients")
         self.assertTrue(home.is_served())
         with mock.patch("os.getuid", return_value=os.getuid() + 1):
-            self.assertEqual(home.why_unserved(), f": user {os.getuid() - 1} listens there, and not you")
+            self.assertEqual(home.why_unserved(), f": user {os.getuid() - 1} listens there instead of you")
         listener.close()
         self.assertEqual((home.is_served(), home.why_unserved()), (False, ""))
 
@@ -245,7 +245,7 @@ class Notes(Case):
         """Without a folder nothing is kept; a lock that can't be had is said, and one that can't be asked may be held."""
         with front_end_lock.FrontEndLock(None):
             pass
-        with self.assertRaisesRegex(Fault, "/none is no folder$"), front_end_lock.FrontEndLock(self.folder / "none"):
+        with self.assertRaisesRegex(Fault, "/none is not a directory$"), front_end_lock.FrontEndLock(self.folder / "none"):
             pass
         (self.folder / "front_ends").symlink_to("elsewhere")
         with front_end_lock.FrontEndLock(self.folder):

@@ -49,9 +49,9 @@ class Connections(unittest.TestCase):
             with mock.patch("os.getuid", return_value=own):
                 with self.assertRaises(PermissionError) as refused:
                     unix_socket.connected_now(self.path)
-                self.assertEqual(errors.reason(refused.exception), f"user {there} listens there, and not you")
+                self.assertEqual(errors.reason(refused.exception), f"user {there} listens there instead of you")
                 self.assertFalse(unix_socket.is_listened(self.path))
-                self.assertEqual(unix_socket.unheard(self.path), f"user {there} listens there, and not you")
+                self.assertEqual(unix_socket.unheard(self.path), f"user {there} listens there instead of you")
                 with self.assertRaisesRegex(errors.Fault, f"user {there} listens there"):
                     unix_socket.connected(self.path)
 
@@ -85,7 +85,7 @@ class Connections(unittest.TestCase):
     def test_listening(self):
         """A socket's file is taken from nobody who listens there."""
         self.listener.listen()
-        with self.assertRaisesRegex(errors.Fault, "somebody listens at .* already"):
+        with self.assertRaisesRegex(errors.Fault, "another process already listens at "):
             listening(str(self.path))
         self.assertTrue(unix_socket.is_listened(self.path))
         self.listener.close()
@@ -142,5 +142,5 @@ class Folders(unittest.TestCase):
                 said = io.StringIO()
                 with contextlib.redirect_stderr(said):
                     self.assertIsNone(front_end_lock.opened(made))
-                self.assertIn("is not a folder of yours: nothing is logged there", said.getvalue())
+                self.assertIn("is not a directory of yours: nothing is logged there", said.getvalue())
                 self.assertEqual(sorted(path.name for path in pathlib.Path(made).iterdir()), ["file", "link"])

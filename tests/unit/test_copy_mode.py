@@ -158,7 +158,7 @@ class Asked(unittest.TestCase):
         mode = mode_of(TEXT, True, SIZE)
         before = mode.view.position
         typed(mode, [b"/nowhere\r"])
-        self.assertEqual((mode.told, mode.view.position), ("'nowhere' isn't found", before))
+        self.assertEqual((mode.told, mode.view.position), ("'nowhere' not found", before))
         typed(mode, [b"/\r", b"n"])
         self.assertEqual(mode.view.position, before)
 

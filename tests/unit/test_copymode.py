@@ -165,7 +165,7 @@ class Opened(Copied):
         self.assertEqual(person.shown()[23], "(search up) The 5th")
         self.assertTrue(bytes(person.display.outer.waiting).endswith(b"\x1b[24;20H\x1b[?25h"))
         person.types(b"\r")
-        self.assertIn("'The 5th' isn't found", person.display.row.line())
+        self.assertIn("'The 5th' not found", person.display.row.line())
         person.types(b"\x02/the 5th\r")
         self.assertEqual(self.position(person), (1004, 15))
         person.types(b"\x02[k")
@@ -213,7 +213,7 @@ class Opened(Copied):
         person = self.person(opens=False)
         self.scrollback.lends = False
         self.assertEqual(person.types(b"\x02/ab"), ["char 61", "char 62"])
-        self.assertEqual(person.display.row.told, "no rows are kept that could be shown")
+        self.assertEqual(person.display.row.told, "this pane has no stored rows")
 
     def test_not_lent_late(self):
         """What was typed for a search that can't be is typed nowhere, and neither is what waited for a snapshot anew."""
@@ -331,7 +331,7 @@ class Opened(Copied):
         person = self.person(is_read_only=True)
         self.assertEqual(person.types(b"g ey"), [])
         self.assertEqual((self.scrollback.texts, person.display.outer.clips), ([], [base64.b64encode(b"row").decode()]))
-        self.assertEqual(person.display.row.told, "3 characters copied for the clipboard")
+        self.assertEqual(person.display.row.told, "3 characters copied to the clipboard")
 
     def test_refreshed(self):
         """r has a new snapshot."""
@@ -346,12 +346,12 @@ class Opened(Copied):
         """How many rows came since is told in the last row; of another pane nothing is."""
         person = self.person()
         self.scrollback.on_more(1, 1, 1)
-        self.assertEqual(person.shown()[23], "[0/77] copy mode; 1 row came since")
+        self.assertEqual(person.shown()[23], "[0/77] copy mode; 1 new row")
         self.scrollback.on_more(1, 1, 2000)
         self.scrollback.on_more(2, 1, 5)
-        self.assertEqual(person.shown()[23], "[0/77] copy mode; 2000 rows came since")
+        self.assertEqual(person.shown()[23], "[0/77] copy mode; 2000 new rows")
         person.types(b"12")
-        self.assertEqual(person.shown()[23], "[0/77] copy mode; 2000 rows came since; (repeat) 12")
+        self.assertEqual(person.shown()[23], "[0/77] copy mode; 2000 new rows; (repeat) 12")
 
 
 class Fed(Copied):
@@ -489,7 +489,7 @@ class Keeps(Copied):
         person = self.person()
         self.scrollback.keeps = False
         person.types(b"g e\r")
-        self.assertEqual(person.display.row.told, "3 characters copied for the clipboard alone: no buffer is kept")
+        self.assertEqual(person.display.row.told, "3 characters copied to the clipboard only: no buffer was stored")
         self.assertEqual(len(person.display.outer.clips), 1)
 
     def test_all(self):
@@ -500,7 +500,7 @@ class Keeps(Copied):
         self.patch_of(selection, "MOST_COPIED", 4 * 3000 - 1)
         person = self.person("\n".join(["yes"] * 3000))
         person.types(b"g G$\r")
-        self.assertEqual((self.scrollback.texts, person.display.row.told), ([], "nothing is copied: it has more than 1 MB"))
+        self.assertEqual((self.scrollback.texts, person.display.row.told), ([], "not copied: it exceeds 1 MB"))
 
     def test_appended(self):
         """A puts a text behind the newest buffer, which stays as it was; where there is none it is one."""
@@ -510,7 +510,7 @@ class Keeps(Copied):
         self.assertEqual(self.scrollback.texts, [b"row", b"row1 of"])
         self.scrollback.texts.append(b"z" * (MOST_COPIED - 1))
         person.types(b"\x02[g eA")
-        self.assertEqual((len(self.scrollback.texts), person.display.row.told), (3, "nothing is copied: it has more than 1 MB"))
+        self.assertEqual((len(self.scrollback.texts), person.display.row.told), (3, "not copied: it exceeds 1 MB"))
 
     def test_nothing(self):
         """Where nothing is selected nothing is copied."""
@@ -543,7 +543,7 @@ class Meanwhile(Copied):
         self.assertEqual(person.display.row.line(), "[21/77] copy mode")
         for keys in (b"\x02\x1b[1;5C", b"\x1b[1;5C"):
             person.types(keys)
-            self.assertEqual(person.display.row.told, "pane 1 has no border at its left or right")
+            self.assertEqual(person.display.row.told, "pane 1 has no border on its left or right")
             person.display.row.end_told()
         self.now += 1
         self.assertEqual(person.types(b"\x1b[1;5A"), [])
@@ -787,7 +787,7 @@ class Chosen(Copied):
         """C-b ] pastes the newest buffer, by a mark; where none is that is told."""
         person = self.person(opens=False)
         person.types(b"\x02]")
-        self.assertEqual((self.host.stored, person.display.row.told), ([], "no buffer is kept"))
+        self.assertEqual((self.host.stored, person.display.row.told), ([], "there are no buffers"))
         self.scrollback.texts = [b"one", b"two"]
         person.types(b"\x02]x")
         (name, number), = self.host.stored
@@ -818,13 +818,13 @@ class Chosen(Copied):
 
     def test_refused(self):
         """What is refused, or not taken, is told, and what waits behind it is dropped."""
-        for word, more, told in (("refused", "it isn't kept", "nothing is pasted: it isn't kept"),
-                                 ("untold", "", "nothing is pasted: the pty host takes nothing")):
+        for word, more, told in (("refused", "it isn't kept", "not pasted: it isn't kept"),
+                                 ("untold", "", "not pasted: the pty host accepts nothing")):
             person = self.person(opens=False)
             self.scrollback.texts = [b"one"]
             person.types(b"\x02]x")
             person.commands.acts.pastes.answered(self.host.stored[0][0], word, more)
-            self.assertEqual((person.display.row.told, person.link.acts), (f"{told}; what was typed behind it is dropped", []))
+            self.assertEqual((person.display.row.told, person.link.acts), (f"{told}; the input behind it was dropped", []))
 
     def test_ends_copy_mode(self):
         """A paste of a buffer ends copy mode."""

@@ -77,7 +77,7 @@ class Connected(Rows):
         self.opened()
         self.prints(b"rows 0 2 6\n d\n e\n")
         self.loop.turns(6)
-        self.assertEqual(self.line(), "[0/3] copy mode; 2 rows came since")
+        self.assertEqual(self.line(), "[0/3] copy mode; 2 new rows")
         self.types(b"r")
         self.prints(b"screen 0 %d %d\n" % (23, len(SCREEN)) + SCREEN)
         self.loop.turns(6)

@@ -444,7 +444,7 @@ class Sizes(unittest.TestCase):
         """A larger terminal leaves the size to another that is there, and is told the key."""
         person = Person(50, 132, told=places(24, 80), host=PlayedHost(True))
         self.assertEqual((person.sizes(), person.said()), ([], ["part 23 80"]))
-        self.assertEqual(person.display.row.told, "24 by 80, as another terminal has it; C-b r fits this one")
+        self.assertEqual(person.display.row.told, "24 by 80, the size of another terminal; C-b r fits this one")
         self.assertEqual(person.types(b"\x02r"), ["size 50 132"])
         # No resize of one that isn't alone makes the session smaller.
         other_one = Person(24, 80, told=places(24, 80), host=PlayedHost(True))
@@ -510,7 +510,7 @@ class Sizes(unittest.TestCase):
             self.assertEqual(Person(50, 132, told=places(24, 80), host=host).sizes(), sizes, (is_known, is_there))
         self.assertEqual(Person(50, 132, told=places(24, 80)).sizes(), ["size 50 132"])
         person = Person(50, 132, told=places(24, 80), host=PlayedHost(True))
-        self.assertEqual((person.sizes(), person.display.row.told), ([], "24 by 80, as another terminal has it; C-b r fits this one"))
+        self.assertEqual((person.sizes(), person.display.row.told), ([], "24 by 80, the size of another terminal; C-b r fits this one"))
         small = Person(12, 40, told=places(24, 80), host=PlayedHost(False))
         small.answers()
         small.resize(10, 30)
@@ -550,7 +550,7 @@ class Sizes(unittest.TestCase):
         self.assertEqual(Person(24, 3, told=places(24, 80)).said(), [])
         person = Person(3, 30, told=places(24, 80))
         self.assertEqual((person.types(b"\x02r"), person.said()), ([], ["part 2 30", "repaint"]))
-        self.assertEqual(person.display.row.told, "a session has 4 rows and 8 columns at least")
+        self.assertEqual(person.display.row.told, "a session has at least 4 rows and 8 columns")
         person.resize(24, 80)
         self.assertEqual((person.said(), person.sizes()), (["part 23 80"], []))
 
@@ -565,7 +565,7 @@ class Sizes(unittest.TestCase):
         self.assertEqual((person.display.row.told, person.commands.size.requested, "requested size" in person.loop.due), ("", (5, 8), True))
         person.link.has_taken = True
         person.commands.size.refused()
-        self.assertEqual((person.display.row.told, person.commands.size.requested), ("its panes have no room in 5 by 8", None))
+        self.assertEqual((person.display.row.told, person.commands.size.requested), ("5 by 8 is too small for its panes", None))
         person.display.row.end_told()
         self.assertTrue(person.display.part.shows_all() is False)
 
@@ -816,7 +816,7 @@ class UnderNotice(unittest.TestCase):
         person.resize(2, 80)
         self.assertEqual(person.types(b"b\x1b[201~"), [])
         self.assertEqual(person.types(b"\x1b[200~a\x1b[201~"), [])
-        self.assertEqual(person.display.row.told, "nothing is pasted where the session isn't shown")
+        self.assertEqual(person.display.row.told, "not pasted: the session is not shown")
 
     def test_help(self):
         person = Person(24, 80, told=places(24, 80))
@@ -884,11 +884,11 @@ class Words(unittest.TestCase):
         try:
             outer = outer_terminal.OuterTerminal()
             outer.enter()
-            outer.leave("[the relay has ended; \x1b[c/log tells why]")
+            outer.leave("[the relay has ended; see \x1b[c/log]")
         finally:
             os.dup2(ends[0], 0), os.dup2(ends[1], 1)
         written = os.read(master, 65536)
-        self.assertTrue(written.endswith(b"[the relay has ended; ?[c/log tells why]\r\n"), written)
+        self.assertTrue(written.endswith(b"[the relay has ended; see ?[c/log]\r\n"), written)
 
 
 class Lines(Case):

@@ -10,7 +10,7 @@ from roam_live.common.process import TOOLS
 
 PROGRAM = "#!/bin/sh\necho program \"$@\"\n[ $# != 0 ] || exit 2\n"
 MUX = "import sys\nprint('mux', *sys.argv[1:])\n"
-TELLS = "roam mux keeps sessions by name, and is what a person starts; `roam mux help` explains it\n"
+TELLS = "roam mux runs terminal sessions; `roam mux help` explains it\n"
 
 
 def write(path, text):
@@ -62,7 +62,7 @@ class FirstWord(Case):
 
     def test_attach(self):
         """What the program asks for behind attach is led by what a person meant."""
-        self.assertEqual(self.says("attach"), (0, "program attach\n", "roam mux attach attaches to a session by its name\n"))
+        self.assertEqual(self.says("attach"), (0, "program attach\n", "roam mux attach attaches to a session by its name; this command runs a client\n"))
 
     def test_version(self):
         """The tools say which build it is."""
@@ -73,8 +73,8 @@ class FirstWord(Case):
         """A word of mux is refused with what was meant, but for those that the program has with options."""
         for word in WORDS:
             if word not in ("attach", "help", "far"):
-                self.assertEqual(self.says(word, "work"), (2, "", f"roam: sessions by name are those of mux: `roam mux {word}`\n"))
-        self.assertEqual(self.says("attach", "work"), (2, "", "roam: sessions by name are those of mux: `roam mux attach work`\n"))
+                self.assertEqual(self.says(word, "work"), (2, "", f"roam: {word} is a command of mux: `roam mux {word}`\n"))
+        self.assertEqual(self.says("attach", "work"), (2, "", "roam: attach with a name is a command of mux: `roam mux attach work`\n"))
         for words in (("attach", "--dir", "d"), ("serve", "--dir", "d"), ("show",), ("--version", "x"), ("far",)):
             self.assertEqual(self.says(*words), (0, f"program {' '.join(words)}\n", ""))
 

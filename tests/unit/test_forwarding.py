@@ -236,18 +236,18 @@ class Pipes(Both, Carries):
         """What can't be is refused: a frame that is cut, one of another length, more than may be on its way, more taken than was sent."""
         for kind in (OPEN, BYTES, END, TAKEN):
             for length in range(1, NUMBER.size):
-                self.refused(self.far, NUMBER.pack(kind, 1)[:length], "is cut")
+                self.refused(self.far, NUMBER.pack(kind, 1)[:length], "is truncated")
         count = TAKEN_COUNT.pack(TAKEN, 1, 1)
         for text in (NUMBER.pack(BYTES, 1), NUMBER.pack(END, 1) + b"x", count[:-1], count + b"x"):
-            self.refused(self.far, text, "another length than any")
-        self.refused(self.near, NUMBER.pack(OPEN, 1) + b"panes", "the far end opens a connection")
+            self.refused(self.far, text, "an invalid length")
+        self.refused(self.near, NUMBER.pack(OPEN, 1) + b"panes", "the far end opened a connection")
         self.far.take(NUMBER.pack(OPEN, 1) + b"panes")
         for number, name in ((1, b"panes"), (0, b"panes"), (2, b""), (2, b"x" * 33)):
-            self.refused(self.far, NUMBER.pack(OPEN, number) + name, "that can't be")
+            self.refused(self.far, NUMBER.pack(OPEN, number) + name, "an invalid connection")
         for _ in range(16):
             self.far.take(NUMBER.pack(BYTES, 1) + bytes(4096))
-        self.refused(self.far, NUMBER.pack(BYTES, 1) + b"x", "more of a connection than may be on its way")
-        self.refused(self.far, TAKEN_COUNT.pack(TAKEN, 1, 1), "has taken 1 bytes of a connection, and was sent 0")
+        self.refused(self.far, NUMBER.pack(BYTES, 1) + b"x", "exceeded a connection's window")
+        self.refused(self.far, TAKEN_COUNT.pack(TAKEN, 1, 1), "acknowledged 1 bytes of a connection's 0")
 
     def test_65(self):
         """A far end ends the 65th at once, and what is said of ones that aren't there is nothing."""

@@ -94,7 +94,7 @@ class Typed(unittest.TestCase):
                 pane.wait_typed(b"x" * 65536)
             self.assertEqual(len(pane.to_terminal), 65536)
             self.assertEqual(said.getvalue().count("\n"), 1)
-            self.assertIn("pane 4: what is typed isn't read there; above 65536 bytes it is dropped", said.getvalue())
+            self.assertIn("pane 4: its program does not read input; above 65536 bytes it is dropped", said.getvalue())
             pane.to_terminal.clear()
             pane.is_dropping = False
             pane.wait_typed(b"y")

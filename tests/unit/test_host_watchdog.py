@@ -99,7 +99,7 @@ class Watches(unittest.TestCase):
         self.assertEqual(self.end(), "")
         wait, said = self.pass_time()
         self.assertEqual(wait, PAUSES[0])
-        self.assertTrue(said.startswith("the shells had ended: new ones are there"))
+        self.assertTrue(said.startswith("the pty host was restarted: the shells are new"))
         self.assertIsNone(self.loop.wait_time())
 
     def test_again(self):
@@ -111,7 +111,7 @@ class Watches(unittest.TestCase):
             waits.append(self.pass_time()[0])
         self.assertEqual(waits, [*PAUSES, PAUSES[-1], PAUSES[-1]])
         self.assertEqual(said[0], "")
-        wanted = [f"the pty host ended again; it is spawned anew in {wait} s" for wait in (*PAUSES[1:], PAUSES[-1], PAUSES[-1])]
+        wanted = [f"the pty host ended again; it is restarted in {wait} s" for wait in (*PAUSES[1:], PAUSES[-1], PAUSES[-1])]
         self.assertEqual(said[1:], wanted)
         self.now += SOUND + 1
         self.assertEqual(self.end(), "")
@@ -124,9 +124,9 @@ class Watches(unittest.TestCase):
         self.end()
         told = [self.pass_time() for _ in range(3)]
         self.assertEqual([wait for wait, _ in told], list(PAUSES[:3]))
-        self.assertEqual(told[0][1], f"the shells have ended: no room; tried again in {PAUSES[1]} s")
+        self.assertEqual(told[0][1], f"the shells have ended: no room; next try in {PAUSES[1]} s")
         self.place.fault = None
-        self.assertTrue(self.pass_time()[1].startswith("the shells had ended"))
+        self.assertTrue(self.pass_time()[1].startswith("the pty host was restarted"))
 
     def test_by_another(self):
         """Where another starts them, or the session ends, nothing is told."""

@@ -258,7 +258,7 @@ class Opened(Played):
             self.turns()
             self.alive.discard(1000 * number + 1)
 
-        for does, why in ((never, "its server or its client process doesn't come up"), (ends, "its server has ended"),
+        for does, why in ((never, "its server or its client process did not start"), (ends, "its server has ended"),
                           (client_ends, "its client process has ended")):
             told = []
             self.opened_by(told)
@@ -287,7 +287,7 @@ class Opened(Played):
     def test_no_first(self):
         """A session whose first window can't be opened is none."""
         with mock.patch.object(WindowProcesses, "make_folder", side_effect=OSError(28, "No space left on device")):
-            with self.assertRaisesRegex(Fault, "^no window can be opened: No space left on device$"):
+            with self.assertRaisesRegex(Fault, "^cannot open a window: No space left on device$"):
                 self.windows.run()
 
 
@@ -381,7 +381,7 @@ class Told(Played):
         watcher = self.asker(1, b"here a:/dev/pts/1 24 80 read-only\n")
         for line in (b"name 1 61\n", b"shut 1\n", b"leave 1\n"):
             self.assertEqual(self.said_by(watcher, line), b"bad line\n")
-        self.assertEqual(self.said_by(watcher, b"open 24 80\n"), b"opened none a terminal that only watches opens none\n")
+        self.assertEqual(self.said_by(watcher, b"open 24 80\n"), b"opened none a read-only terminal opens none\n")
 
     def test_opened(self):
         """Who asks is answered once a window is there, behind what is told of it, and may ask for four at once."""
@@ -390,7 +390,7 @@ class Told(Played):
         read_now(one)
         self.comes_up(2)
         self.assertEqual(read_now(one).replace(b"activity 2\n", b""), b"window 2 -\nopened 2\n")
-        self.assertEqual(self.said_by(one, b"open 30 90\n" * 5), b"opened none 4 are being opened\n")
+        self.assertEqual(self.said_by(one, b"open 30 90\n" * 5), b"opened none 4 windows are being opened\n")
         one.close()
         self.turns(2)
         self.comes_up(3)
@@ -419,7 +419,7 @@ class Told(Played):
         self.assertEqual([pane.state.command for pane in self.windows.windows[3].host.panes.values()], [["htop", "-d"]])
         read_now(one)
         self.assertEqual(self.said_by(one, f"open 30 90 {name}\n".encode()).replace(b"activity 2\n", b""),
-                         b"opened none its command isn't there\n")
+                         b"opened none its command is missing\n")
 
     def asks_again(self, size):
         """What a front end is told that asks for a window of a size as its connection before was cut, and how many servers were spawned."""

@@ -39,7 +39,7 @@ class Texts(unittest.TestCase):
                          {"r": "display-message 'my own'", "|": "split-window -h", "x": "nothing",
                           "M-Left": "next-window; send-keys ls Enter"})
         self.assertEqual(keys_under(text, "without it, by roam.conf:"), {"F5": "new-window"})
-        others = text.partition("as roam has it:\n")[2]
+        others = text.partition("by default:\n")[2]
         keys = [key for line in others.split("\n") for key in line.partition(": ")[0].split()]
         self.assertNotIn("x", keys)
         self.assertNotIn("r", keys)

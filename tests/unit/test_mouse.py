@@ -240,8 +240,8 @@ class Own(Pointed):
         """C-b m has the terminal asked for reports whatever programs ask for, and again for theirs alone; a line tells it."""
         person = self.person({2: "motion"})
         self.assertEqual(self.points(person, (0, 1, 50), (64, 1, 1), (0, 1, 40)), [])
-        for asked, line in (("drags", "the mouse focuses, scrolls and drags borders; C-b m ends that"),
-                            ("", "the mouse selects text, but where a program has it")):
+        for asked, line in (("drags", "roam has the mouse: click, wheel, drag; C-b m gives it back"),
+                            ("", "the mouse selects text, except in programs that use it")):
             person.types(b"\x02m")
             self.assertEqual((person.display.outer.reports, person.display.row.told), (asked, line))
         person.types(b"\x02m")

@@ -99,7 +99,7 @@ class Attaches(Mux):
         """A session isn't begun that is to keep what can't be; one that runs is attached to."""
         self.environment(ROAM_HISTORY="many")
         for words in ((), ("new", "-d", "work")):
-            self.refuses("ROAM_HISTORY is 'many', and may be 0 to 1000000", *words)
+            self.refuses("ROAM_HISTORY is 'many'; it may be 0 to 1000000", *words)
         self.assertNotIn("launch", [one[0] for one in self.done])
         self.runs.add("main")
         self.assertEqual(self.mux("attach", "main"), 7)
@@ -121,13 +121,13 @@ class Attaches(Mux):
 
     def test_none(self):
         for words in (("attach", "none"), ("watch", "none"), ("kill", "none"), ("send", "none", "Up"), ("capture", "none")):
-            self.refuses("no session none is running", *words)
+            self.refuses("no session none is running; `mux ls` lists sessions", *words)
 
     def test_terminal(self):
         """Without a terminal nothing is started."""
         self.is_terminal = False
         for words in ((), ("new", "x"), ("ssh", "there")):
-            self.refuses("standard input and output have to be a terminal", *words)
+            self.refuses("standard input and output must be a terminal", *words)
         self.assertEqual((self.done, list(self.base.iterdir())), ([], []))
 
     def test_dumb(self):
@@ -142,25 +142,25 @@ class Attaches(Mux):
         for ends, told in (({0}, True), ({1, 2}, True), ({0, 1}, False)):
             self.patch_of(mux.os, "isatty", lambda end, ends=ends: end in ends)
             if told:
-                self.refuses("standard input and output have to be a terminal")
+                self.refuses("standard input and output must be a terminal")
             else:
                 self.assertEqual(self.mux(), 7)
 
     def test_inside(self):
         """A session isn't shown in a pane of its own."""
         self.environment(ROAM_PANE=f"{self.base}/main:3")
-        self.refuses("this is a pane of session main; a session inside itself has no end")
+        self.refuses("this is a pane of session main; a session cannot show itself")
         self.assertEqual(self.mux("other"), 7)
 
     def test_environment(self):
         self.environment(ROAM_PREFIX="C-3")
-        self.refuses("ROAM_PREFIX is 'C-3', and may be C-a to C-z, C-], C-\\, C-^ or C-_")
+        self.refuses("ROAM_PREFIX is 'C-3'; it may be C-a to C-z, C-], C-\\, C-^ or C-_")
         self.environment(ROAM_PREFIX="C-a", ROAM_PREDICT="often")
-        self.refuses("ROAM_PREDICT is 'often', and may be adaptive, always or never")
+        self.refuses("ROAM_PREDICT is 'often'; it may be adaptive, always or never")
         self.environment(ROAM_PREDICT=None, ROAM_MOUSE="yes")
-        self.refuses("ROAM_MOUSE is 'yes', and may be off or on")
+        self.refuses("ROAM_MOUSE is 'yes'; it may be off or on")
         self.environment(ROAM_MOUSE=None, ROAM_CLIPBOARD="yes")
-        self.refuses("ROAM_CLIPBOARD is 'yes', and may be external, on or off")
+        self.refuses("ROAM_CLIPBOARD is 'yes'; it may be external, on or off")
         for word, sets in (("on", True), ("off", False), ("external", False), (None, False)):
             self.environment(ROAM_CLIPBOARD=word)
             self.assertEqual(config_environment.sets_clipboard(), sets)
@@ -171,7 +171,7 @@ class Attaches(Mux):
         self.mux()
         self.assertEqual(self.follows.call_args[0][2:4], ("C-a", "always"))
         self.assertEqual((config_environment.chosen_prediction("never"), config_environment.chosen_prediction()), ("never", "always"))
-        self.refuses("C-a d, typed in the front end, detaches it; the session goes on", "detach")
+        self.refuses("press C-a d in the front end to detach; the session keeps running", "detach")
 
 
     def test_alone(self):
@@ -184,16 +184,16 @@ class Attaches(Mux):
             with self.assertRaises(Fault):
                 self.mux("attach", "-d", "main")
         self.assertEqual((others.call_count, self.said.getvalue()),
-                         (2, "mux: session main: 2 of the terminals there don't leave, as where they are stopped\n"))
+                         (2, "mux: session main: 2 of its terminals did not detach; they may be stopped\n"))
 
     def test_settings(self):
         """It is told where the settings are looked for, and each line of them that isn't done, with status 1."""
         self.environment(XDG_CONFIG_HOME=str(self.base), HOME=str(self.base))
         self.addCleanup(config_environment.choose_by_file, {})
         self.patch_of(OWN, "found", None)
-        self.assertEqual((self.mux("settings"), self.text.getvalue()), (0, f"{settings_path()}, which isn't there\n"))
+        self.assertEqual((self.mux("settings"), self.text.getvalue()), (0, f"{settings_path()}, which does not exist\n"))
         pathlib.Path(settings_path()).parent.mkdir()
-        for text, status, lines in (("set -g mouse on\n", 0, ""), ("foo\x1b\n", 1, "roam.conf:1: foo? isn't there in roam\n")):
+        for text, status, lines in (("set -g mouse on\n", 0, ""), ("foo\x1b\n", 1, "roam.conf:1: roam does not support foo?\n")):
             pathlib.Path(settings_path()).write_text(text, encoding="utf-8")
             self.text.truncate(0), self.text.seek(0)
             self.assertEqual((self.mux("settings"), self.text.getvalue()), (status, f"{settings_path()}\n{lines}"))
@@ -212,8 +212,8 @@ class Starts(Mux):
         self.assertEqual((session.name, is_read_only, prefix, prediction, is_new(None)), ("work", False, "C-b", "always", True))
         self.runs.add("work")
         self.refuses("session work is running; `mux attach work` attaches to it", "new", "work")
-        self.refuses("'/no/such' is no command; the options of new stand before NAME", "new", "-d", "x", "/no/such")
-        self.refuses("'a b' is no name: letters, digits, - and _, 32 at most", "new", "-d", "a b")
+        self.refuses("'/no/such' is not a command; put the options of new before NAME", "new", "-d", "x", "/no/such")
+        self.refuses("'a b' is not a valid name: use at most 32 letters, digits, - and _", "new", "-d", "a b")
 
     def test_kill(self):
         """It asks where something else than a shell runs, but with -f."""
@@ -236,14 +236,14 @@ class Starts(Mux):
         self.runs.add("main")
         with mock.patch.object(windows, "shut", return_value=5) as shuts:
             self.is_terminal = False
-            self.refuses("window main runs vi in pane 1; `mux kill -f main` shuts it", "kill", "main:2")
+            self.refuses("window main runs vi in pane 1; `mux kill -f main` closes it", "kill", "main:2")
             self.is_terminal = True
             for answer, status in (("n\n", 1), ("y\n", 5)):
                 with mock.patch("sys.stdin") as asked:
                     asked.readline.return_value = answer
                     self.assertEqual(self.mux("kill", "main:2"), status)
             self.assertEqual((self.mux("kill", "-f", "main:2"), shuts.call_count, shuts.call_args[0][0].name), (5, 2, "main"))
-        self.assertEqual(self.said.getvalue(), "window main runs vi in pane 1; shut it? [y/N] " * 2)
+        self.assertEqual(self.said.getvalue(), "window main runs vi in pane 1; close it? [y/N] " * 2)
         self.assertEqual(self.done, [])
 
     def test_asked_of_windows(self):
@@ -257,12 +257,12 @@ class Starts(Mux):
                 self.assertEqual((self.mux(*words), done.call_args[0][0].name, done.call_args[0][1:]), (6, "main", behind), words)
         with mock.patch.object(cmd, "run", return_value=4) as runs:
             self.assertEqual((self.mux("cmd", "main.2", "split-window", "-h"), runs.call_args[0][1:]), (4, (2, ["split-window", "-h"])))
-        self.refuses("a command stands behind the session", "cmd", "main")
+        self.refuses("name a command after the session, as in `mux cmd work split-window`", "cmd", "main")
 
     def test_not_ended(self):
         self.runs.add("main")
         with mock.patch.object(LocalSession, "end_all"):
-            self.refuses("session main doesn't end", "kill", "-f", "main")
+            self.refuses("session main did not end", "kill", "-f", "main")
 
     def test_ready(self):
         """What types and what looks needs a client process alone."""
@@ -288,8 +288,8 @@ class Starts(Mux):
                 self.assertEqual((self.mux("capture", *words), takes.call_args[0][1:]), (4, told))
             self.assertEqual((self.mux("log", "main.2"), logs.call_args[0][1:]), (5, (2, False, False)))
             self.assertEqual((self.mux("log", "-e", "-J", "main"), logs.call_args[0][1:]), (5, (0, True, True)))
-        self.refuses("a picture is drawn of what is shown, and of no other rows", "capture", "--svg", "-S", "0", "main")
-        self.refuses("no session none is running", "log", "none")
+        self.refuses("--svg shows the screen; it excludes -S, -E, -e and -J", "capture", "--svg", "-S", "0", "main")
+        self.refuses("no session none is running; `mux ls` lists sessions", "log", "none")
         self.assertEqual(self.done, [])
 
     def test_buffers(self):
@@ -301,9 +301,9 @@ class Starts(Mux):
                                    (("set", "main"), 2, (None,)), (("set", "main", "a b"), 2, ("a b",)), (("paste", "main"), 3, (None, 0)),
                                    (("paste", "main.2", "7"), 3, ("7", 2))):
             self.assertEqual((self.mux("buffer", *words), does[place].call_args[0][1:]), (place, told))
-        self.refuses("buffers are of a session, and of no pane", "buffer", "show", "main.2")
-        self.refuses("all buffers are listed", "buffer", "list", "main", "3")
-        self.refuses("no session is named, and this is no pane of one; `mux ls` lists them", "buffer", "list")
+        self.refuses("buffers belong to a session; name no pane", "buffer", "show", "main.2")
+        self.refuses("buffer list takes no number and no text", "buffer", "list", "main", "3")
+        self.refuses("name a session, since this is not a pane of one; `mux ls` lists them", "buffer", "list")
         for words in (("drop", "main"), ()):
             with self.assertRaises(SystemExit):
                 self.mux("buffer", *words)
@@ -344,11 +344,11 @@ class Starts(Mux):
                 self.assertEqual(self.mux("send", *words), 0)
             self.assertEqual(types.call_args[0][1], text, words)
         for words, told in (
-            (("main",), "what is typed stands behind the session, as in `mux send work 'make test' Enter`"),
-            (("-l", "-a", "main", "a"), "characters are sent by -l, or acts by -a, and not both"),
-            (("-a", "main", "-l", "a"), "characters are sent by -l, or acts by -a, and not both"),
-            (("main", "a", "C-;"), "C-; names a key that sends nothing; -l types its characters. None was typed"),
-            (("main", ""), "there is nothing to be typed"), (("-l", "ls", "main"), "no session ls is running"),
+            (("main",), "name the keys after the session, as in `mux send work 'make test' Enter`"),
+            (("-l", "-a", "main", "a"), "-l types characters and -a types acts; use one of them"),
+            (("-a", "main", "-l", "a"), "-l types characters and -a types acts; use one of them"),
+            (("main", "a", "C-;"), "C-; names a key that sends nothing; -l types its characters; nothing was typed"),
+            (("main", ""), "there is nothing to type"), (("-l", "ls", "main"), "no session ls is running; `mux ls` lists sessions"),
         ):
             self.refuses(told, "send", *words)
 
@@ -369,7 +369,7 @@ class Starts(Mux):
             with mock.patch("sys.stdin") as asked, mock.patch.object(LocalSession, "busy", lambda session: None):
                 asked.readline.return_value = "n\n"
                 self.assertEqual(self.mux("kill", "main.2"), 1)
-            self.assertIn("session main runs a program that isn't known; close it? [y/N] ", self.said.getvalue())
+            self.assertIn("session main runs an unknown program; close it? [y/N] ", self.said.getvalue())
         self.assertFalse([one for one in self.done if one[0] == "end_all"])
 
     def test_started(self):
@@ -421,7 +421,7 @@ class Far(Mux):
         self.runs.add("main")
         self.assertEqual(self.mux("ssh", "there"), 7)
         self.assertEqual((clients.call_count, self.follows.call_args[0][4](None)), (2, False))
-        self.refuses("'a b' is no name: letters, digits, - and _, 32 at most", "ssh", "there", "a b")
+        self.refuses("'a b' is not a valid name: use at most 32 letters, digits, - and _", "ssh", "there", "a b")
 
     def test_host(self):
         """ssh tells where it would go, in a moment, and is told its own options; where it doesn't, its word has the host."""
@@ -487,7 +487,7 @@ class Far(Mux):
         """What `mux ssh` runs there starts the session where the other end knows none, and becomes a relay."""
         becomes, writes = self.patch_of(ssh.os, "execv"), self.patch_of(ssh.os, "write")
         greets = self.patch_of(ssh, "read_greeting", return_value="-")
-        self.refuses("standard input is a terminal; `mux ssh` on another machine spawns this end", "far", "main")
+        self.refuses("standard input is a terminal; `mux ssh` on another machine starts this end", "far", "main")
         self.is_terminal = False
         self.patch_of(SessionFolder, "process", return_value=17)
         self.mux("far", "main")
@@ -527,14 +527,14 @@ class Environment(Mux):
         out = io.TextIOWrapper(io.BytesIO(), encoding="ascii")
         self.patch_of(mux.sys, "stdout", out)
         lines = self.patch_of(session_environment, "shell_lines", return_value=["export DISPLAY=:0", "export SSH_AUTH_SOCK='/a\udcff b'"])
-        self.refuses("no session work is running", "env", "work")
+        self.refuses("no session work is running; `mux ls` lists sessions", "env", "work")
         self.runs.add("work")
         self.assertEqual(self.mux("env", "work"), 0)
         self.assertEqual(out.buffer.getvalue(), b"export DISPLAY=:0\nexport SSH_AUTH_SOCK='/a\xff b'\n")
         self.assertEqual(lines.call_args[0][0].name, "work")
         (self.base / "ssh:there:main").mkdir()
         self.runs.add("ssh:there:main")
-        told = "session ssh:there:main is of another machine: what its panes have is told there"
+        told = "session ssh:there:main is on another machine; run `mux env` there"
         self.refuses(told, "env", "ssh:there:main")
 
 
@@ -556,8 +556,8 @@ class Words(Mux):
 
     def test_refused(self):
         """Words that name no session: a slip is told of, the rest gets the usage; all with status 2."""
-        hint = "mux: 'atach' is no command of mux; did you mean attach?"
-        for words, told in ((("atach",), f"{hint} (`mux new atach` begins a session of that name)\n"), (("atach", "x"), f"{hint}\n")):
+        hint = "mux: 'atach' is not a command of mux; did you mean attach?"
+        for words, told in ((("atach",), f"{hint} (`mux new atach` starts a session of that name)\n"), (("atach", "x"), f"{hint}\n")):
             self.assertEqual(self.mux(*words), 2)
             self.assertTrue(self.said.getvalue().endswith(told))
         for words in (("-x",), ("zebra", "b"), ("--", "zebra", "b"), ("--x", "a")):
@@ -584,8 +584,8 @@ class Words(Mux):
                 before = len(self.said.getvalue())
                 self.assertEqual(self.mux(word, *more), 2, word)
                 named = f"`{here}`" if here.startswith("mux ") else here
-                told = f"{word} is a word of tmux; roam has {named}" if here else f"{word}: tmux has this, roam hasn't"
-                own = "" if more else f" (`mux new {word}` begins a session of that name)"
+                told = f"{word} is a tmux command; in roam, use {named}" if here else f"{word}: roam does not support this tmux command"
+                own = "" if more else f" (`mux new {word}` starts a session of that name)"
                 self.assertEqual(self.said.getvalue()[before:], f"mux: {told}{own}\n")
         self.assertNotIn("launch", [one[0] for one in self.done])
         self.assertEqual(self.mux("new", "swap-pane"), 7)
@@ -606,9 +606,10 @@ class Words(Mux):
             self.assertTrue(self.text.getvalue()[before:].startswith("mux [NAME] | COMMAND ..: terminal sessions"))
         self.assertEqual(self.mux("help", "ls"), 0)
         self.assertIn("usage: mux ls", self.text.getvalue())
-        self.refuses("'lst' is no command of mux; did you mean ls? `mux help` lists them", "help", "lst")
-        self.refuses("split-window is a word of tmux; roam has `mux cmd NAME split-window`; `mux help` lists them", "help", "split-window")
-        self.refuses("'zebra' is no command of mux; `mux help` lists them", "help", "zebra")
+        self.refuses("'lst' is not a command of mux; did you mean ls? `mux help` lists them", "help", "lst")
+        told = "split-window is a tmux command; in roam, use `mux cmd NAME split-window`; `mux help` lists them"
+        self.refuses(told, "help", "split-window")
+        self.refuses("'zebra' is not a command of mux; `mux help` lists them", "help", "zebra")
         with self.assertRaises(SystemExit):
             self.mux("kill", "--help")
         self.assertIn("End a session, a window or a pane, and the programs in it", self.text.getvalue())

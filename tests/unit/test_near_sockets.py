@@ -346,7 +346,7 @@ class Others(Sockets):
         self.sockets.close()
         self.listening(self.folder / "host")
         self.sockets.open()
-        self.assertIn("somebody listens at", said.getvalue())
+        self.assertIn("another process already listens at", said.getvalue())
         self.assertIsNone(self.sockets.host)
 
 

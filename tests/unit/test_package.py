@@ -93,7 +93,7 @@ class Packed(Case):
         for _ in range(2):
             said = printed("sh", str(top / "install.sh"), env=known)
             self.assertIn(f"roam is installed below {home}/.local", said)
-            self.assertIn(f"{home}/.local/bin isn't on your PATH", said)
+            self.assertIn(f"{home}/.local/bin is not on your PATH", said)
         self.assertRegex(printed(str(home / ".local/bin/roam-mux"), "--version", env=known), r"^roam \S+ \(commit ")
         self.assertTrue(list(home.rglob("*.pyc")))
         self.assertEqual([path for path in home.rglob("*.new")], [])
@@ -106,7 +106,7 @@ class Packed(Case):
         printed("sh", str(top / "install.sh"), env=known)
         self.assertFalse(gone.parent.exists())
         said = printed("sh", str(home / ".local/lib/roam/install.sh"), "--remove", env=known)
-        self.assertEqual(said, f"roam is removed below {home}/.local; sessions that run go on\n")
+        self.assertEqual(said, f"roam was removed from {home}/.local; running sessions continue\n")
         self.assertEqual(tree(home), before)
 
     def test_refused(self):
@@ -116,8 +116,8 @@ class Packed(Case):
             tar.extractall(made)
         top = next(made.iterdir())
         prefix = made / "prefix"
-        for words, told in (([top / "install.sh", prefix], "the program doesn't run here: it needs glibc"),
-                            ([top / "install.sh", "--remove", prefix], f"no roam is installed below {prefix}"),
+        for words, told in (([top / "install.sh", prefix], "the program does not run here; it needs glibc"),
+                            ([top / "install.sh", "--remove", prefix], f"roam is not installed below {prefix}"),
                             ([top / "install.sh", top], f"{top} is the unpacked tarball")):
             ran = subprocess.run(["sh", *map(str, words)], stdout=subprocess.PIPE, stderr=subprocess.STDOUT, check=False)
             self.assertEqual(ran.returncode, 1)

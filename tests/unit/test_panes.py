@@ -135,11 +135,11 @@ class Splits(Case):
     def test_room(self):
         for rows, cols, way, is_had in ((5, 8, "down", True), (4, 80, "down", False), (2, 9, "right", True), (23, 8, "right", False)):
             why = Places({1: Rect(1, 1, rows, cols)}, 1).unsplit(way)
-            self.assertEqual(why, "" if is_had else f"pane 1 is too small to be split: {rows} by {cols}")
+            self.assertEqual(why, "" if is_had else f"pane 1 is too small to split: {rows} by {cols}")
 
     def test_nine(self):
         nine = {pane: Rect(1, 1, 99, 99) for pane in range(1, 10)}
-        self.assertEqual(Places(nine, 1).unsplit("down"), "there are 9 panes, and no more")
+        self.assertEqual(Places(nine, 1).unsplit("down"), "a window has at most 9 panes")
         self.assertEqual(Places({pane: nine[pane] for pane in range(1, 9)}, 1).unsplit("down"), "")
         self.assertEqual(Places(THREE, 0).unsplit("right"), "")
 

@@ -88,11 +88,11 @@ class Follows(Played):
         self.now += QUIET
         for _ in range(3):
             self.assertEqual(self.turn(), [])
-        self.assertEqual(self.said.getvalue().count(f"the panes can't be followed: {TELLS_NOTHING}\n"), 1)
+        self.assertEqual(self.said.getvalue().count(f"the server's panes are not reported: {TELLS_NOTHING}\n"), 1)
         self.assertEqual(self.loop.due, {})
         self.server.send(b"focus 1\n")
         self.turn()
-        self.assertEqual((self.subscription.told, self.said.getvalue().count("the panes are followed again\n")), ("", 1))
+        self.assertEqual((self.subscription.told, self.said.getvalue().count("the server reports its panes again\n")), ("", 1))
 
     def test_let_go(self):
         """A server that ends each connection is tried after pauses that grow, and that is told once, and that it is over."""
@@ -110,10 +110,10 @@ class Follows(Played):
         self.assertEqual(self.losses, 9)
         self.assertEqual(tried, [*PAUSES, *[PAUSES[-1]] * 3])
         self.assertFalse(self.subscription.is_gone)
-        self.assertEqual(self.said.getvalue().count(f"the panes can't be followed: {LET_GO}\n"), 1)
+        self.assertEqual(self.said.getvalue().count(f"the server's panes are not reported: {LET_GO}\n"), 1)
         self.server.send(b"focus 1\n")
         self.assertEqual(self.turn(), ["focus 1"])
-        self.assertEqual(self.said.getvalue().count("the panes are followed again\n"), 1)
+        self.assertEqual(self.said.getvalue().count("the server reports its panes again\n"), 1)
         self.assertEqual(self.subscription.faults, 0)
 
     def test_once(self):

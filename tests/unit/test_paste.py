@@ -181,7 +181,7 @@ class Handed(Case):
         self.paste(LONG)
         self.tell(1, "refused", "it is lost")
         self.assertEqual(self.link.lines, ["size 24 80", "focus 1 ; focus 2 ; focus 1", "view 3 ; next ; char 62", "char 63"])
-        self.assertEqual((self.said, self.host.cancelled), ([BEHIND_IT.format("nothing is pasted: it is lost")],
+        self.assertEqual((self.said, self.host.cancelled), ([BEHIND_IT.format("not pasted: it is lost")],
                                                             [f"{1:016x}", f"{2:016x}"]))
         self.tell(3, "stored")
         self.assertEqual(self.link.lines[4:], [self.placeholder(3)])
@@ -191,7 +191,7 @@ class Handed(Case):
 
     def test_refused_just_now(self):
         """So are keys for a second after that was told; not C-c, nor what follows it, a paste, or an act that moves the focus."""
-        why = "nothing is pasted: it is lost"
+        why = "not pasted: it is lost"
         for acts, typed in ((["char 3"], ["char 3"]), (["next"], ["next"]), (["focus 1", "char 66"], ["focus 1 ; char 66"]),
                             (["view 3", "char 66"], ["view 3"])):
             self.paste(LONG)
@@ -236,13 +236,13 @@ class Handed(Case):
             self.pastes.type("char 61")
             self.wait(30)
             self.tell(number, LATER, "64 texts wait to be pasted")
-            self.assertEqual((self.link.lines, self.said), ([], ["what is pasted waits: 64 texts wait to be pasted"]))
+            self.assertEqual((self.link.lines, self.said), ([], ["the paste waits: 64 texts wait to be pasted"]))
             if is_stored:
                 self.tell(number, "stored")
                 self.assertEqual(self.link.lines, [self.placeholder(number), "char 61"])
                 continue
             self.wait(30)
-            self.assertEqual((self.link.lines, self.said[1:]), ([], [BEHIND_IT.format("nothing is pasted: 64 texts wait to be pasted")]))
+            self.assertEqual((self.link.lines, self.said[1:]), ([], [BEHIND_IT.format("not pasted: 64 texts wait to be pasted")]))
 
     def test_not_taken(self):
         """A host that takes nothing for 60 seconds is told of, and what was typed behind it is dropped."""
@@ -536,14 +536,14 @@ class Persons(unittest.TestCase):
         """At a terminal that watches nothing is pasted, and it says so."""
         person = self.person(is_read_only=True)
         acts = person.types(b"\x1b[200~ab\x1b[201~")
-        self.assertEqual((acts, person.display.row.told), ([], "nothing is pasted: this terminal only watches"))
+        self.assertEqual((acts, person.display.row.told), ([], "not pasted: this terminal is read-only"))
 
     def test_asked(self):
         """At a question a paste is a no, and nothing of it is typed, nor an answer."""
         person = self.person()
         person.commands.acts.ask("close it? y closes it", ClosePane(0))
         self.assertEqual(person.types(b"\x1b[200~y"), [])
-        self.assertEqual((person.types(b"y\x1b[201~z"), person.display.row.told), (["char 7a"], "nothing is pasted: a question was there"))
+        self.assertEqual((person.types(b"y\x1b[201~z"), person.display.row.told), (["char 7a"], "not pasted: a question was open"))
 
     def test_scrolls(self):
         """It ends the scroll mode."""
@@ -557,7 +557,7 @@ class Persons(unittest.TestCase):
         person = self.person()
         person.commands.acts.paused = True
         self.assertEqual(person.types(b"\x1b[200~q\x03\x1b[201~"), [])
-        self.assertEqual((person.left, person.display.row.told), (None, "nothing is pasted where the session isn't shown"))
+        self.assertEqual((person.left, person.display.row.told), (None, "not pasted: the session is not shown"))
 
 
 if __name__ == "__main__":

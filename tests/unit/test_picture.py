@@ -264,14 +264,14 @@ class Tool(Case):
         self.assertTrue(status == 0 and text.startswith("<svg ") and text.endswith("</svg>\n"))
 
     def test_nothing(self):
-        with self.assertRaisesRegex(Fault, "^what is told is no screen: "):
+        with self.assertRaisesRegex(Fault, "^the client process sent an invalid screen: "):
             self.run_with(text=b"\x1b[2J")
 
     def test_wrong(self):
         said = self.heard()
         with self.assertRaises(SystemExit) as way:
             self.run_with("a", "b", "c")
-        self.assertEqual((way.exception.code, "a server is named by its folder" in said.getvalue()), (2, True))
+        self.assertEqual((way.exception.code, "name a server by its directory" in said.getvalue()), (2, True))
 
     def test_told(self):
         """The client of the terminals in a folder is asked, where one is there; else one of its own, which has ten seconds and ends."""

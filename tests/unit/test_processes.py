@@ -133,10 +133,10 @@ class Read(Based):
                              (two, "main         23 by 80     2 panes  0 terminals, 33 of 64 clients"),
                              (one._replace(clients=47), "main         23 by 80     1 pane   0 terminals, 47 of 64 clients"),
                              (one._replace(clients=48),
-                              "main         23 by 80     1 pane   0 terminals, 48 of 64 clients, new ones of this "
-                                                       "machine alone are taken"),
-                             (one._replace(clients=64), "main         23 by 80     1 pane   0 terminals, 64 of 64 clients, no other is "
-                                                       "taken")):
+                              "main         23 by 80     1 pane   0 terminals, 48 of 64 clients, "
+                                                       "only this machine gets new ones"),
+                             (one._replace(clients=64), "main         23 by 80     1 pane   0 terminals, 64 of 64 clients, "
+                                                       "no more are accepted")):
             self.assertEqual(line_of(session, places), told)
         self.assertIn(" 1 terminal,", line_of(session, one._replace(clients=64), 1))
         self.assertTrue(line_of(session, one, None).endswith("1 pane   ? terminals, its pty host does not answer"))
@@ -168,7 +168,7 @@ class Read(Based):
             if is_one:
                 session_names.check_name(name)
             else:
-                with self.assertRaisesRegex(Fault, "is no name: letters, digits, - and _, 32 at most$"):
+                with self.assertRaisesRegex(Fault, "is not a valid name: use at most 32 letters, digits, - and _$"):
                     session_names.check_name(name)
         with self.assertRaisesRegex(Fault, "is too long for a socket's path$"):
             Window(self.base / ("x" * (108 - len(str(self.base)) - len("//terminals"))))
@@ -197,7 +197,7 @@ class Bases(Case):
         """One of another user is told of and not used."""
         self.environment(XDG_RUNTIME_DIR=str(self.folder / "none"))
         self.assertEqual(session_names.base().name, f"roam-{os.getuid()}")
-        self.assertIn("none, which is no folder of yours; /tmp has the sessions\n", self.said.getvalue())
+        self.assertIn("none, which is not a directory of yours; using /tmp instead\n", self.said.getvalue())
 
     def test_written(self):
         """One that others may write is refused."""
@@ -205,7 +205,7 @@ class Bases(Case):
         for mode in (0o777, 0o1777, 0o770, 0o702):
             self.folder.chmod(mode)
             session_names.bases.clear()
-            with self.assertRaisesRegex(Fault, "^XDG_RUNTIME_DIR is .*, which others may write"):
+            with self.assertRaisesRegex(Fault, "^other users may write to XDG_RUNTIME_DIR, /"):
                 session_names.base()
         self.folder.chmod(0o755)
         self.assertEqual(session_names.base(), str(self.folder / "roam"))
@@ -218,12 +218,12 @@ class Bases(Case):
                      lambda: os.mkfifo(there), lambda: self.listening(there), lambda: there.symlink_to(self.folder / "none")):
             session_names.bases.clear()
             made()
-            with self.assertRaisesRegex(Fault, "has to be a folder that you own and nobody else may enter$"):
+            with self.assertRaisesRegex(Fault, "must be a directory of yours that nobody else may enter$"):
                 session_names.base()
             there.rmdir() if there.is_dir() and not there.is_symlink() else there.unlink()
         with mock.patch("os.getuid", return_value=os.getuid() + 1):
             (self.folder / f"roam-{os.getuid()}").mkdir(mode=0o700)
-            with self.assertRaisesRegex(Fault, "has to be a folder that you own"):
+            with self.assertRaisesRegex(Fault, "must be a directory of yours"):
                 session_names.base()
 
 
@@ -246,7 +246,7 @@ class Starts(Based):
     def test_by_hand(self):
         """Neither a server nor a pty host is started for a window whose server was started by hand."""
         session = self.session()
-        with self.assertRaisesRegex(Fault, "^session main: what keeps its windows opens them$"):
+        with self.assertRaisesRegex(Fault, "^session main: only its pty host opens windows$"):
             session.launch(["vi"])
         session.demand_host()
         self.assertEqual((session.revive_host(), self.words), (False, []))
@@ -280,7 +280,7 @@ class Starts(Based):
     def test_full(self):
         """A server that has had its 64 clients hears no other, which is told."""
         self.patch_of(SessionFolder, "places", lambda _, seconds: Places({1: Rect(1, 1, 23, 80)}, 1, 64, 0))
-        told = ("session main has had the 64 clients of its life, and hears no other; what runs in it goes on, and `mux kill main` "
+        told = ("session main has used its 64 clients and accepts no more; its programs keep running, and `mux kill main` "
                 "ends it")
         with self.assertRaises(Fault) as fault:
             self.session().demand_client()
@@ -300,7 +300,7 @@ class Starts(Based):
     def test_near(self):
         """How ssh is called isn't known of what stands for another machine's session; its shells are left to that machine."""
         near = RemoteSession(self.base / "ssh:a:main", "main")
-        with self.assertRaisesRegex(Fault, "^no relay to main is running; `mux ssh` launches one$"):
+        with self.assertRaisesRegex(Fault, "^no relay to main is running; `mux ssh` starts one$"):
             near.launch()
         near.demand_host()
         near.close()
@@ -332,7 +332,7 @@ class Spawned(Based):
         process = self.session_here.spawned("server", ["sleep", "60"])
         self.stop_clock()
         self.session_here.wait_for("server", 0, lambda: True)
-        with self.assertRaisesRegex(Fault, "^session main: the server didn't come up: nothing is said; see .*/main/log$"):
+        with self.assertRaisesRegex(Fault, "^session main: the server did not start: no message; see .*/main/log$"):
             self.session_here.wait_for("server", 0, lambda: False)
         self.assertTrue(110.0 <= self.now < 110.1)
         self.assertEqual(process.returncode, -9)
@@ -395,7 +395,7 @@ class Spawned(Based):
         locks = self.patch_of(processes.fcntl, "flock", side_effect=self.lock_taken)
         lock = self.session_here.taken_lock(True)
         self.addCleanup(os.close, lock)
-        self.assertIn(f"waiting for another that launches what belongs to {self.folder}\n", self.said.getvalue())
+        self.assertIn(f"waiting for another process that starts parts of {self.folder}\n", self.said.getvalue())
         self.assertTrue(100.5 < self.now < 100.6)
         self.assertEqual(locks.call_args_list[0][0][1], processes.fcntl.LOCK_EX | processes.fcntl.LOCK_NB)
         self.assertEqual(locks.call_args[0], (lock, processes.fcntl.LOCK_EX))
@@ -553,7 +553,7 @@ class Sends(Based):
     def test_no_act(self):
         """What is no act is named, and none is typed."""
         self.runs.return_value = mock.Mock(returncode=1, stderr=b"roam: line 2: what is this\nmore\n")
-        with self.assertRaisesRegex(Fault, r"^'b\\\\nc' is no act, which the page roam\(1\) lists, and no key. None was typed$"):
+        with self.assertRaisesRegex(Fault, r"^'b\\\\nc' is neither an act of roam\(1\) nor a key; nothing was typed$"):
             send.send(self.session(), ["a", "b\nc"])
         self.runs.return_value.stderr = b"roam: no server\nx\n"
         with self.assertRaisesRegex(Fault, "^roam: no server$"):
@@ -564,7 +564,7 @@ class Sends(Based):
         """What can't be done is looked at again for a second, since what was asked for before may not be told yet."""
         told = [Places({1: Rect(1, 1, 23, 80)}, 1, 1)]
         self.patch_of(SessionFolder, "places", lambda _: told[0])
-        with self.assertRaisesRegex(Fault, "^'focus 2' can't be done: there is no pane 2. None was typed$"):
+        with self.assertRaisesRegex(Fault, "^cannot do 'focus 2': there is no pane 2; nothing was typed$"):
             send.send(self.session(), ["focus 2"])
         self.assertTrue(101.0 < self.now <= 101.1)
         self.opens.assert_not_called()
@@ -574,22 +574,22 @@ class Sends(Based):
 
     def test_refused(self):
         """Why not all is taken is told: a line is refused, the client ends, nothing more is taken; not where the session ended by it."""
-        refused, let_go = "the client process refused a line: out of memory", "this terminal was let go; what was typed last may be lost"
+        refused, let_go = "the client process refused a line: out of memory", "this terminal was disconnected; the last keys may be lost"
         for answers, runs, told in (([record("refused", 1, words="out of memory"), None], True, refused), ([None], True, let_go),
                                     ([], True, ""), ([None], False, None)):
             self.link.peer, self.client = self.pair()
             self.link.forget()
             self.link.has_come = self.link.records.begun = True
             self.answers, session = answers, self.session()
-            words = f"session main: {told}" if told else "session main takes no more acts; some may have been typed"
+            words = f"session main: {told}" if told else "session main accepts no more acts; some may have been typed"
             with mock.patch.object(SessionFolder, "runs", return_value=runs):
                 if told is None:
                     self.assertEqual(send.send(session, ["char 61"]), 0)
                     continue
                 with self.assertRaisesRegex(Fault, f"^{words}$"):
                     send.send(session, ["char 61"])
-        self.opens.side_effect = Fault("no more terminals are taken: 16 are there")
-        with self.assertRaisesRegex(Fault, "^no more terminals are taken: 16 are there$"):
+        self.opens.side_effect = Fault("16 terminals are attached; no more are accepted")
+        with self.assertRaisesRegex(Fault, "^16 terminals are attached; no more are accepted$"):
             send.send(self.session(), ["char 61"])
 
 
@@ -633,7 +633,7 @@ class Captures(Based):
         self.assertEqual(read_now(self.client), b"look sgr\n")
 
     def test_none(self):
-        with self.assertRaisesRegex(Fault, "^the client process tells no screen: "):
+        with self.assertRaisesRegex(Fault, "^the client process sent no valid screen: "):
             self.capture(record("screen", data=b"x"))
 
     def test_early(self):
@@ -667,7 +667,7 @@ class Captures(Based):
         self.link.peer, self.client = self.pair()
         self.link.forget()
         with mock.patch("roam_live.protocol.client_link.ready", lambda *_: self.pass_time(1) or 0):
-            with self.assertRaisesRegex(Fault, "^the client process tells nothing$"):
+            with self.assertRaisesRegex(Fault, "^the client process does not answer$"):
                 capture.capture(self.session(), False)
         self.assertEqual(self.now, 105.0)
         self.assertIsNone(self.link.peer)
@@ -747,7 +747,7 @@ class Carried(Case):
         reader, writer = self.pipe()
         os.write(writer, greeting("5e55") + b"more")
         self.assertEqual((read_greeting(reader), os.read(reader, 9)), ("5e55", b"more"))
-        for text, told in ((b"x" * 80, "the other end is no relay"), (b"roam-relay 1 -\n", "of an older roam"), (b"roam-r", "has left")):
+        for text, told in ((b"x" * 80, "the other end is not a relay"), (b"roam-relay 1 -\n", "of an older roam"), (b"roam-r", "has left")):
             reader, writer = self.pipe()
             os.write(writer, text)
             os.close(writer)

@@ -271,7 +271,7 @@ class Panes(Host):
         panes[1].send(b"goes on")
         self.turn()
         self.assertEqual(read_now(self.made[1]), b"goes on")
-        self.assertEqual(self.said.getvalue().count("pane 1: what is typed isn't read there; above 65536 bytes it is dropped\n"), 1)
+        self.assertEqual(self.said.getvalue().count("pane 1: its program does not read input; above 65536 bytes it is dropped\n"), 1)
         self.assertTrue(pane.is_dropping)
         while pane.to_terminal:
             read_now(self.made[0])
@@ -310,7 +310,7 @@ class Panes(Host):
         for _ in range(3):
             self.now += tmp_keepalive.LOOKS
             self.turn(1)
-        self.assertEqual(self.said.getvalue().count("the session's socket was removed and cannot be restored: somebody listens at "), 1)
+        self.assertEqual(self.said.getvalue().count("the session's socket was removed and cannot be restored: another process already listens at "), 1)
         other.close()
         self.now += tmp_keepalive.LOOKS
         self.turn(1)
@@ -342,9 +342,9 @@ class Panes(Host):
         self.now += 0.1
         with mock.patch.object(host_pane.fcntl, "ioctl", side_effect=[struct.pack("i", 5), struct.pack("i", 0)]):
             self.turn()
-        told = "pane 1 isn't shown: the server doesn't read it, as where no descriptor is left for it\n"
+        told = "pane 1 is not shown: the server does not read it; it may have no free descriptor\n"
         self.assertTrue(self.said.getvalue().endswith(told))
-        self.assertEqual(self.said.getvalue().count("isn't shown"), 1)
+        self.assertEqual(self.said.getvalue().count("is not shown"), 1)
         pane = self.host.panes[1]
         for written, unread in ((0, False), (1, True), (16384, True), (16385, False)):
             pane.written = written
@@ -577,8 +577,8 @@ class Ended(Host):
             self.turn(1)
             self.server = self.taken(self.listeners["panes"])
         self.assertEqual(says.call_count, 1)
-        self.assertTrue(says.call_args[0][1].startswith("[no shell: the panes can't be followed: the server lets this go"))
-        self.assertTrue(self.host.channel.standing.startswith("the panes can't be followed: "))
+        self.assertTrue(says.call_args[0][1].startswith("[no shell: the server's panes are not reported: the server closed the connection"))
+        self.assertTrue(self.host.channel.standing.startswith("the server's panes are not reported: "))
 
 
 class Again(Host):
@@ -752,7 +752,7 @@ class Words(Case):
         self.assertEqual(os.listdir(folder), [])
         self.assertEqual((made.call_args[0][0].dir, woken.call_args[0]), (str(folder), (signal.SIGCHLD, signal.SIGTERM, signal.SIGHUP)))
         self.words("pane_shells", str(folder / "none"))
-        with self.assertRaisesRegex(Fault, "/none is no folder$"):
+        with self.assertRaisesRegex(Fault, "/none is not a directory$"):
             tool.main()
 
     def test_has_ended(self):

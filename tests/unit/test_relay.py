@@ -242,11 +242,11 @@ class Nears(Ends):
             link, pause = self.near.link, min(2 << count, 60)
             link.say(text)
             if count == 9:
-                with self.assertRaisesRegex(Fault, "; the other end has said what can't be 10 times, and no other"):
+                with self.assertRaisesRegex(Fault, "; the other end has sent invalid data 10 times; giving up"):
                     self.turn()
                 break
             self.turn()
-            self.assertEqual(self.said.getvalue().count(f"; another is spawned in {pause} s\n"), max(1, count - 4), text)
+            self.assertEqual(self.said.getvalue().count(f"; next try in {pause} s\n"), max(1, count - 4), text)
             self.assertTrue(link.has_ended and self.near.link is None)
             self.now += pause - 0.1
             self.turn()
@@ -330,7 +330,7 @@ class Nears(Ends):
         self.links[0].say(b"x" * 65536)
         self.turn()
         self.links[0].say(b"x")
-        with self.assertRaisesRegex(BadWords, "the other end is no relay"):
+        with self.assertRaisesRegex(BadWords, "the other end is not a relay"):
             self.turn(2)
 
     def test_first_earlier(self):
@@ -453,7 +453,7 @@ class Nears(Ends):
             self.near = self.near_end(**more)
             self.turn()
             os.close(self.links[-1].said)
-            line = "ssh there ended with status 7, and hadn't answered"
+            line = "ssh there ended with status 7 before it answered"
             if ends:
                 with self.assertRaisesRegex(Fault, line):
                     self.turn()
@@ -469,7 +469,7 @@ class Nears(Ends):
         self.turn()
         self.links[-1].status = lambda: 127
         os.close(self.links[-1].said)
-        told = "hadn't answered: roam isn't installed there, or --far has to name its roam-mux$"
+        told = "before it answered: roam is not installed there, or --far must name its roam-mux$"
         with self.assertRaisesRegex(Fault, told):
             self.turn()
 
@@ -760,7 +760,7 @@ class Fars(Ends):
         self.far.stream.spoke = self.now
         self.far.turn()
         self.now += 0.1
-        with self.assertRaisesRegex(Fault, "^the other end has said nothing for 30 s$"):
+        with self.assertRaisesRegex(Fault, "^the other end has been silent for 30 s$"):
             self.far.turn()
 
     def test_left(self):
@@ -963,7 +963,7 @@ class Streams(Ends):
         self.sender._acknowledge(2000)
         self.sender.fill(waiting)
         self.assertEqual(self.sender.sent, 134_000)
-        with self.assertRaisesRegex(BadWords, "the other end has had 134001 bytes, and was sent 134000"):
+        with self.assertRaisesRegex(BadWords, "the other end acknowledged 134001 bytes of 134000"):
             self.sender._acknowledge(134_001)
         self.sender._acknowledge(134_000)
         self.assertEqual(self.sender.acknowledged, 134_000)
@@ -1031,7 +1031,7 @@ class Commands(Case):
         for _ in range(20):
             link.pass_errors()
         said = b"".join(call[0][1] for call in writes.call_args_list).decode()
-        self.assertTrue("".join(said.split("\n")).isprintable() and said.endswith("bytes were said; no more is shown]\n"))
+        self.assertTrue("".join(said.split("\n")).isprintable() and said.endswith("[output limited to 65536 bytes]\n"))
         self.assertLess(len(said), 70_000)
         self.assertEqual(sum(call[0][0] for call in rooms.call_args_list), len(said.encode()))
 
@@ -1053,13 +1053,13 @@ class Words(Ends):
 
     def test_wrong(self):
         folder = str(self.folder)
-        port = "a port is 1 to 65535, or - where the folder of --dir has the socket"
+        port = "a port is 1 to 65535, or - with --dir"
         for words, wrong in (
             (["--dir", folder, "-", "ssh"], ""), (["0", "ssh"], ""), (["65535", "ssh"], ""), (["65536", "ssh"], port), (["x", "ssh"], port),
             (["\u00b2", "ssh"], port), (["9" * 5000, "ssh"], port),
-            (["--far", "0"], port), (["--far", "1"], ""), (["-", "ssh"], "without a port the folder of --dir has the socket"),
-            (["--alone", "9", "0", "ssh"], "front ends are noted in the folder of --dir"), (["0"], "the command is missing"),
-            (["--far", "1", "ssh"], "no command follows the port of --far"), (["--far", "--session", "5e55", "1"], ""),
+            (["--far", "0"], port), (["--far", "1"], ""), (["-", "ssh"], "- instead of a port requires --dir"),
+            (["--alone", "9", "0", "ssh"], "--alone requires --dir"), (["0"], "the command is missing"),
+            (["--far", "1", "ssh"], "--far takes no command"), (["--far", "--session", "5e55", "1"], ""),
             (["--far", "--session", "xyz", "1"], "a session's id is 1 to 16 hexadecimal digits"),
         ):
             self.words("relay", *words)

@@ -245,7 +245,7 @@ class Ended(Keeping):
         self.ask()
         self.end()
         self.assertEqual(self.told, [None])
-        self.assertEqual(self.said, [scrollback.ENDED.format("it took nothing more")])
+        self.assertEqual(self.said, [scrollback.ENDED.format("it stopped reading")])
         self.scrollback.feed(1, b"lost")
         self.ask()
         self.assertEqual(self.told, [None, None])
@@ -262,7 +262,7 @@ class Ended(Keeping):
         self.assertIsNotNone(self.scrollback.process)
         self.end()
         self.pass_time(PAUSES[2])
-        self.assertEqual(self.said[-1], "no rows of history are kept: no process is left; tried again")
+        self.assertEqual(self.said[-1], "no scrollback is stored: no process is left; tried again")
         self.pass_time(PAUSES[3])
         self.assertIsNone(self.scrollback.process)
         self.assertTrue(self.scrollback.hears())
@@ -287,7 +287,7 @@ class Ended(Keeping):
         self.prints(b"rows 0 1 3\n a\n")
         self.prints(b"rows 0 2 3\n a\n")
         self.assertIsNone(self.scrollback.process)
-        self.assertEqual(self.said, [scrollback.ENDED.format("it printed another number of rows than it said")])
+        self.assertEqual(self.said, [scrollback.ENDED.format("it printed a wrong number of rows")])
         self.assertEqual(self.rows(), [b" a"])
 
     def test_sound(self):
@@ -329,7 +329,7 @@ class Chosen(Case):
             for pause in (*PAUSES, PAUSES[-1]):
                 self.now += pause
                 loop.turns()
-        self.assertEqual(said, ["no rows of history are kept: /no/such/roam isn't there; make builds it; tried again"] * 3)
+        self.assertEqual(said, ["no scrollback is stored: /no/such/roam does not exist; `make` builds it; tried again"] * 3)
         scrollback.close()
 
 

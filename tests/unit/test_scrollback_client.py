@@ -170,7 +170,7 @@ class Linked(Case):
         self.host.send(b"rows 1 2 none\n")
         self.loop.turns(2)
         self.assertIsNone(self.link.peer)
-        self.assertEqual(self.link.why, "rows isn't what was asked for")
+        self.assertEqual(self.link.why, "rows is not the answer to the request")
 
     def test_buffer_given(self):
         """A buffer is given by its number, again to a host that comes again."""

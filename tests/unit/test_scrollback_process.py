@@ -118,7 +118,7 @@ class Handed(Case):
         self.fake.prints(b"rows 1 1 2\n \nnonsense\nrows 1 1 2\n \n")
         self.loop.turns()
         self.assertEqual(self.records, [])
-        self.assertEqual(self.ends, [("it printed what is no record", None)])
+        self.assertEqual(self.ends, [("it printed an invalid record", None)])
         self.process.write = self.fail
         self.loop.turns(3)
 

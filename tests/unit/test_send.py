@@ -17,18 +17,18 @@ DONE = (
     (NINE, ["close", "split right"]), (TWO, ["next", "close", "focus 1"]), (TWO, ["next", "close", "focus 2", "split right", "focus 9"]),
 )
 NOT_DONE = (
-    (ONE, ["size 1 1"], "'size 1 1' can't be done: a session has 4 to 200 rows and 8 to 500 columns"),
-    (ONE, ["size 201 80"], "'size 201 80' can't be done: a session has 4 to 200 rows and 8 to 500 columns"),
-    (None, ["size 24 7"], "'size 24 7' can't be done: a session has 4 to 200 rows and 8 to 500 columns"),
-    (ONE, ["char 61", "focus 7"], "'focus 7' can't be done: there is no pane 7"),
-    (ONE, ["split right", "focus 3"], "'focus 3' can't be done: there is no pane 3"),
-    (ONE, ["close"], "'close' can't be done: the last pane goes with its shell"),
-    (TWO, ["close", "focus 2"], "'focus 2' can't be done: there is no pane 2"),
-    (TWO, ["close", "close"], "'close' can't be done: the last pane goes with its shell"),
-    (ONE, ["grow 1"], "'grow 1' can't be done: there is one pane, which has all room"),
-    (NINE, ["split down"], "'split down' can't be done: there are 9 panes, and no more"),
-    (SMALL, ["split down"], "'split down' can't be done: pane 1 is too small to be split: 4 by 8"),
-    (SMALL, ["split right"], "'split right' can't be done: pane 1 is too small to be split: 4 by 8"),
+    (ONE, ["size 1 1"], "cannot do 'size 1 1': a session has 4 to 200 rows and 8 to 500 columns"),
+    (ONE, ["size 201 80"], "cannot do 'size 201 80': a session has 4 to 200 rows and 8 to 500 columns"),
+    (None, ["size 24 7"], "cannot do 'size 24 7': a session has 4 to 200 rows and 8 to 500 columns"),
+    (ONE, ["char 61", "focus 7"], "cannot do 'focus 7': there is no pane 7"),
+    (ONE, ["split right", "focus 3"], "cannot do 'focus 3': there is no pane 3"),
+    (ONE, ["close"], "cannot do 'close': the last pane ends with its shell"),
+    (TWO, ["close", "focus 2"], "cannot do 'focus 2': there is no pane 2"),
+    (TWO, ["close", "close"], "cannot do 'close': the last pane ends with its shell"),
+    (ONE, ["grow 1"], "cannot do 'grow 1': there is only one pane"),
+    (NINE, ["split down"], "cannot do 'split down': a window has at most 9 panes"),
+    (SMALL, ["split down"], "cannot do 'split down': pane 1 is too small to split: 4 by 8"),
+    (SMALL, ["split right"], "cannot do 'split right': pane 1 is too small to split: 4 by 8"),
 )
 
 

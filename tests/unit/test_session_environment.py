@@ -234,10 +234,10 @@ class Brings(Case):
 
     def test_not_told(self):
         """Where no host is, or one that knows no such words, that is told."""
-        with self.assertRaisesRegex(Fault, "^session main: its pty host is not running: "):
+        with self.assertRaisesRegex(Fault, r"^session main: its pty host is not running \("):
             asked_values(self.session)
         for says in (["bad line"], ["environment DISPLAY none", "environment DISPLAY none", "environment PATH 3a"], []):
-            with self.assertRaisesRegex(Fault, "^session main: the pty host doesn't tell what new panes have$"):
+            with self.assertRaisesRegex(Fault, "^session main: the pty host did not report the environment$"):
                 self.told(*says)
 
     def test_host(self):

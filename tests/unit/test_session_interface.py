@@ -134,7 +134,7 @@ class Kill(Folder):
         """Programs are named; where none is known, they may be there all the same. Of another machine's session nothing ends but a
         relay."""
         session = self.by_hand()
-        for busy, told in (({}, ""), ({2: "vi", 1: "less"}, "less in pane 1 and vi in pane 2"), (None, "programs that aren't known")):
+        for busy, told in (({}, ""), ({2: "vi", 1: "less"}, "less in pane 1 and vi in pane 2"), (None, "unknown programs")):
             with mock.patch.object(session, "busy", lambda busy=busy: busy):
                 self.assertEqual(ending.lost_with(session), told)
         self.assertEqual(ending.lost_with(RemoteSession(self.folder, "main")), "")
@@ -198,7 +198,7 @@ class Close(Folder):
         for places, named in ((TWO, "pane 1"), (None, "this pane")):
             for key, acts in ((b"y", ["close"]), (b"n", [])):
                 keyboard, link, shown = self.person(self.by_hand(), places)
-                self.assertEqual((link.acts, shown.row.prompt), ([], f"close whatever runs in {named}? y closes it"))
+                self.assertEqual((link.acts, shown.row.prompt), ([], f"close the program in {named}? y closes it"))
                 keyboard.fed(key)
                 self.assertEqual((link.acts, shown.row.told), (acts, ""))
 

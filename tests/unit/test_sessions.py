@@ -197,7 +197,7 @@ class Found(Sessions):
             before = self.names()
             session = Window(self.base / "main")
             self.assertTrue(session.is_listed())
-            with self.assertRaisesRegex(Fault, "somebody answers at"):
+            with self.assertRaisesRegex(Fault, "a process answers at"):
                 session.clean()
             self.assertEqual(self.names(), before)
             self.assertTrue(session.has_client())
@@ -217,7 +217,7 @@ class Found(Sessions):
                 return Window(self.base / name)
 
             for does in (lambda: named("main").is_listed(), lambda: named("main").demand(), named("main").clean):
-                with self.assertRaisesRegex(Fault, "takes no connection|somebody answers at"):
+                with self.assertRaisesRegex(Fault, "accepts no connection|a process answers at"):
                     does()
             self.assertEqual(self.names(), before)
 
@@ -245,7 +245,7 @@ class Starts(Sessions):
         """What was started ends again where the rest can't be, and no folder stays where nothing was logged."""
         with self.session.locked():
             self.session.state = {"version": WINDOWS_VERSION}
-            with self.assertRaisesRegex(Fault, "^session new: the pty host can't be spawned: /no/such: No such file"):
+            with self.assertRaisesRegex(Fault, "^session new: the pty host cannot be started: /no/such: No such file"):
                 with self.session.whole():
                     server = self.session.spawned("server", ["sleep", "60"])
                     self.session.spawned("host", ["/no/such"])
@@ -256,7 +256,7 @@ class Starts(Sessions):
         """Where something was logged the folder stays with its log alone, and the fault has what was said in one line."""
         with self.session.locked():
             self.session.state = {"version": WINDOWS_VERSION}
-            with self.assertRaisesRegex(Fault, "^session new: the client process didn't come up: one; two$"):
+            with self.assertRaisesRegex(Fault, "^session new: the client process did not start: one; two$"):
                 with self.session.whole():
                     self.session.spawned("client", ["sh", "-c", "echo one >&2; echo; echo two >&2"])
                     self.session.wait_for("client", 0, lambda: False)
@@ -267,13 +267,13 @@ class Starts(Sessions):
         with self.session.locked():
             self.session.state = {"version": WINDOWS_VERSION}
             with mock.patch.object(self.session, "note_own", side_effect=OSError(28, "No space left on device")):
-                with self.assertRaisesRegex(Fault, "^session new: the server can't be spawned: it can't be noted in "):
+                with self.assertRaisesRegex(Fault, "^session new: the server cannot be started: it cannot be recorded in "):
                     self.session.spawned("server", ["sleep", "60"])
             with mock.patch("roam_live.session.processes.replace_text", side_effect=OSError(28, "No space left on device")):
-                with self.assertRaisesRegex(Fault, "^session new: the server can't be spawned: No space left on device"):
+                with self.assertRaisesRegex(Fault, "^session new: the server cannot be started: No space left on device"):
                     self.session.spawned("server", ["sleep", "60"])
             with mock.patch("subprocess.Popen", side_effect=BlockingIOError(11, "Resource temporarily unavailable")):
-                with self.assertRaisesRegex(Fault, "^session new: the relay can't be spawned: Resource temporarily unavailable"):
+                with self.assertRaisesRegex(Fault, "^session new: the relay cannot be started: Resource temporarily unavailable"):
                     self.session.spawned("relay", ["sleep", "60"])
 
     def test_relay(self):
@@ -300,7 +300,7 @@ class Starts(Sessions):
     def test_folder_of_another(self):
         """Nothing is made in a folder of another user."""
         with mock.patch("os.getuid", return_value=os.getuid() + 1):
-            with self.assertRaisesRegex(Fault, "is no folder of yours"), Window(self.base / "main").locked():
+            with self.assertRaisesRegex(Fault, "is not a directory of yours"), Window(self.base / "main").locked():
                 pass
             self.assertEqual(Window(self.base / "main").places(), None)
         self.assertNotIn("lock", self.names())
@@ -326,7 +326,7 @@ class Ends(Sessions):
         process.wait()
         said, status = session.ending()
         self.assertEqual(status, 1)
-        self.assertTrue(said.startswith("[the server was killed, or has failed, and its session is gone; "))
+        self.assertTrue(said.startswith("[the server was killed or failed, and its session is gone; "))
 
     def test_ended(self):
         """One that was ended on purpose is; what is noted of another process is nothing."""
@@ -354,8 +354,8 @@ class Ends(Sessions):
         self.assertEqual(session.ending()[1], 1)
         session.end_all()
         process.wait()
-        self.assertEqual(session.ending(), ("[the relay was ended; the session goes on at the other machine]", 0))
+        self.assertEqual(session.ending(), ("[the relay was ended; the session keeps running on the other machine]", 0))
         (self.folder / "ended").write_text("", encoding="utf-8")
         self.assertEqual(session.ending(), ("[the session has ended]", 0))
         (self.folder / "ended").write_text("killed", encoding="utf-8")
-        self.assertEqual(session.ending(), ("[the server was killed, or has failed, and its session is gone]", 1))
+        self.assertEqual(session.ending(), ("[the server was killed or failed, and its session is gone]", 1))

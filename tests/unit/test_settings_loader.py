@@ -15,46 +15,46 @@ COMMANDS = {"split-window", "kill-pane", "select-pane", "source-file", "display"
 LINES = (
     # Options.
     ("set -g prefix C-a", "prefix=C-a"), ("set-option -g prefix ^A", "prefix=C-a"), ("set -g prefix C-A", "prefix=C-a"),
-    ("set prefix C-]", "prefix=C-]"), ("set -g prefix M-a", "! 1: prefix is 'M-a', and may be C-a to C-z, C-], C-\\, C-^ or C-_"),
-    ("set -g prefix C-1", "! 1: prefix is 'C-1', and may be C-a to C-z, C-], C-\\, C-^ or C-_"), ("set -g prefix 'C-\\'", "prefix=C-\\"),
-    ("set -g prefix", "! 1: prefix has no value"), ("set -g prefix2 C-a", "! 1: prefix2 is no option of roam"),
+    ("set prefix C-]", "prefix=C-]"), ("set -g prefix M-a", "! 1: prefix is 'M-a'; it may be C-a to C-z, C-], C-\\, C-^ or C-_"),
+    ("set -g prefix C-1", "! 1: prefix is 'C-1'; it may be C-a to C-z, C-], C-\\, C-^ or C-_"), ("set -g prefix 'C-\\'", "prefix=C-\\"),
+    ("set -g prefix", "! 1: prefix needs a value"), ("set -g prefix2 C-a", "! 1: prefix2 is not an option of roam"),
     ("set -g mouse on", "mouse=on"), ("set -g mouse off", "mouse=off"), ("set -g mouse", "mouse=on"), ("set -g mouse ON", "mouse=on"),
-    ("set -g mouse yes", "mouse=on"), ("set -g mouse maybe", "! 1: mouse is 'maybe', and may be on or off"),
+    ("set -g mouse yes", "mouse=on"), ("set -g mouse maybe", "! 1: mouse is 'maybe'; it may be on or off"),
     ("set -g mouse on; set -g mouse", "mouse=off"), ("set -g history-limit 50000", "history-limit=50000"),
-    ("set -g history-limit -5", "! 1: history-limit is '-5', and may be 0 to 1000000"), ("set -g -- history-limit 5", "history-limit=5"),
-    ("set -g history-limit 10k", "! 1: history-limit is '10k', and may be 0 to 1000000"),
-    ("set -g history-limit 1000001", "! 1: history-limit is '1000001', and may be 0 to 1000000"),
-    ("set -g history-limit \u0665", "! 1: history-limit is '\u0665', and may be 0 to 1000000"), ("set -g status off", "status=off"),
-    ("set -g status 2", "! 1: status is '2', and may be on or off"), ("set -g status-left '#S '", "status-left=#S "),
+    ("set -g history-limit -5", "! 1: history-limit is '-5'; it may be 0 to 1000000"), ("set -g -- history-limit 5", "history-limit=5"),
+    ("set -g history-limit 10k", "! 1: history-limit is '10k'; it may be 0 to 1000000"),
+    ("set -g history-limit 1000001", "! 1: history-limit is '1000001'; it may be 0 to 1000000"),
+    ("set -g history-limit \u0665", "! 1: history-limit is '\u0665'; it may be 0 to 1000000"), ("set -g status off", "status=off"),
+    ("set -g status 2", "! 1: status is '2'; it may be on or off"), ("set -g status-left '#S '", "status-left=#S "),
     ('set -g status-left "#[fg=red]#S"', "status-left=#[fg=red]#S"), ("set -g status-right %H:%M", "status-right=%H:%M"),
     ('set -g status-right ""', "status-right="), ("set -ga status-right ' x'", "status-right= x"),
     ("set -g status-right a ; set -ga status-right b", "status-right=ab"), ("set -g status-left 'a\\033[31m'", "status-left=a\\033[31m"),
-    ('set -g status-left "a\\033[31m"', "! 1: status-left is 'a\\x1b[31m', and may have 1,000 printable characters"),
+    ('set -g status-left "a\\033[31m"', "! 1: status-left is 'a\\x1b[31m'; it may have at most 1,000 printable characters"),
     ("set -g status-interval 5", "status-interval=5"),
-    ("set -g status-interval 1.5", "! 1: status-interval is '1.5', and may be 0 to 86400"),
+    ("set -g status-interval 1.5", "! 1: status-interval is '1.5'; it may be 0 to 86400"),
     ("set -s set-clipboard external", "set-clipboard=external"),
-    ("set -g set-clipboard both", "! 1: set-clipboard is 'both', and may be external, on or off"),
+    ("set -g set-clipboard both", "! 1: set-clipboard is 'both'; it may be external, on or off"),
     ("set -g window-size latest", "window-size=latest"),
-    ("set -g window-size manual", "! 1: window-size is 'manual', and may be largest or latest"), ("setw -g mode-keys vi", "mode-keys=vi"),
+    ("set -g window-size manual", "! 1: window-size is 'manual'; it may be largest or latest"), ("setw -g mode-keys vi", "mode-keys=vi"),
     ("set-window-option -g mode-keys emacs", "mode-keys=emacs"),
-    ("set -gw mode-keys vim", "! 1: mode-keys is 'vim', and may be vi or emacs"),
+    ("set -gw mode-keys vim", "! 1: mode-keys is 'vim'; it may be vi or emacs"),
     ('set -g default-command "exec $SHELL -l"', "default-command=exec /bin/zsh -l"), ("set -sg escape-time 0", "escape-time=0"),
-    ("set -g escape-time 10001", "! 1: escape-time is '10001', and may be 0 to 10000"), ("set -g predict always", "predict=always"),
+    ("set -g escape-time 10001", "! 1: escape-time is '10001'; it may be 0 to 10000"), ("set -g predict always", "predict=always"),
     ("setw -g synchronize-panes on", "synchronize-panes=on"), ("setw -g synchronize-panes", "synchronize-panes=on"),
     ("set -s extended-keys on", "extended-keys=on"),
-    ("set -s extended-keys 1", "! 1: extended-keys is '1', and may be on, always or off"),
-    ("set -g predict sometimes", "! 1: predict is 'sometimes', and may be adaptive, always or never"), ("set -gq @plugin x", ""),
-    ("set -g @plugin 'tmux-plugins/tpm'", "! 1: @plugin is no option of roam"), ("set -gq base-index 1", ""),
-    ("set -g base-index 1", "! 1: base-index is no option of roam"), ("set -u mouse", ""), ("set -g mouse on; set -gu mouse", ""),
+    ("set -s extended-keys 1", "! 1: extended-keys is '1'; it may be on, always or off"),
+    ("set -g predict sometimes", "! 1: predict is 'sometimes'; it may be adaptive, always or never"), ("set -gq @plugin x", ""),
+    ("set -g @plugin 'tmux-plugins/tpm'", "! 1: @plugin is not an option of roam"), ("set -gq base-index 1", ""),
+    ("set -g base-index 1", "! 1: base-index is not an option of roam"), ("set -u mouse", ""), ("set -g mouse on; set -gu mouse", ""),
     ("set -g mouse on; set -go mouse off", "mouse=on"), ("set -go mouse off", "mouse=off"),
-    ("set -gF status-left '#{x}'", "! 1: status-left: roam has no formats in values"), ("set -t main mouse on", "mouse=on"),
-    ("set", "! 1: set has a name and a value"), ("set -g mouse on off", "! 1: set has a name and a value"),
-    ("set -g mouse { on }", "! 1: a block between braces isn't taken here"), ("SET -g mouse on", "! 1: SET isn't there in roam"),
+    ("set -gF status-left '#{x}'", "! 1: status-left: roam does not support formats in values"), ("set -t main mouse on", "mouse=on"),
+    ("set", "! 1: set needs a name and a value"), ("set -g mouse on off", "! 1: set needs a name and a value"),
+    ("set -g mouse { on }", "! 1: a block in braces is not supported here"), ("SET -g mouse on", "! 1: roam does not support SET"),
     # Lexing.
     ("", ""), ("   \t", ""), ("# a comment", ""), ("set -g mouse on # a comment", "mouse=on"),
     ("set -g status-left a#b", "status-left=a#b"), ("set -g status-left '# no comment'", "status-left=# no comment"),
     ("# a comment that goes on \\\nset -g mouse on", ""), ("set -g \\\n  mouse \\\n  on", "mouse=on"),
-    ("set -g mouse on\\\\\nset -g status off", "status=off ! 1: mouse is 'on\\\\', and may be on or off"),
+    ("set -g mouse on\\\\\nset -g status off", "status=off ! 1: mouse is 'on\\\\'; it may be on or off"),
     ("set -g mouse on ; set -g status off", "mouse=on status=off"), ("set -g mouse on;set -g status off", "mouse=on status=off"),
     ("set -g mouse on\r\nset -g status off\r\n", "mouse=on status=off"), (";;", ""), ("set -g status-left a\\ b", "status-left=a b"),
     ('set -g status-left a"b c"\'d e\'f', "status-left=ab cd ef"), ('set -g status-left "it\'s"', "status-left=it's"),
@@ -64,49 +64,49 @@ LINES = (
     ("set -g status-left \\101", "status-left=A"), ("set -g status-left $USER", "status-left=me"),
     ("set -g status-left ${USER}x", "status-left=mex"), ("set -g status-left '$USER'", "status-left=$USER"),
     ('set -g status-left "$NONE"', "status-left="), ("set -g status-left $", "status-left=$"),
-    ("set -g status-left ${USER", "! 1: a variable's name isn't closed"), ("set -g status-left 'open", "! 1: a quote isn't closed"),
-    ('set -g status-left "open\nset -g mouse on', "mouse=on ! 1: a quote isn't closed"),
+    ("set -g status-left ${USER", "! 1: a variable's name is not closed"), ("set -g status-left 'open", "! 1: a quote is not closed"),
+    ('set -g status-left "open\nset -g mouse on', "mouse=on ! 1: a quote is not closed"),
     ("NAME=x\nset -g status-left $NAME", "status-left=x"), ("%hidden NAME=y\nset -g status-left $NAME", "status-left=y"),
     ("set -g default-command ~/bin/x", "default-command=/home/me/bin/x"), ("set -g default-command a~b", "default-command=a~b"),
-    ('set -g status-left "a\nb"', "! 1: status-left is 'a\\nb', and may have 1,000 printable characters"),
+    ('set -g status-left "a\nb"', "! 1: status-left is 'a\\nb'; it may have at most 1,000 printable characters"),
     ("set -g status-left \\U00110000", "! 1: \\U00110000 is no character"), ("set -g status-left a\\\\\\\nb", "status-left=a\\b"),
     # Keys.
     ("bind -Troot F5 kill-pane", "[root f5: kill-pane]"),
     ("bind r source-file ~/.tmux.conf", "[prefix r: source-file /home/me/.tmux.conf]"),
     ("bind-key -r H resize-pane -L 5", "[prefix H: resize-pane -L 5 again]"),
     ("bind -n M-Left select-pane -L", "[root M-left: select-pane -L]"), ("bind -T root F5 kill-pane", "[root f5: kill-pane]"),
-    ("bind -T copy-mode-vi v send-keys -X begin-selection", "! 1: roam has no table of keys copy-mode-vi"),
+    ("bind -T copy-mode-vi v send-keys -X begin-selection", "! 1: roam has no key table copy-mode-vi"),
     ("bind | split-window -h", "[prefix |: split-window -h]"), ('bind \'"\' split-window', '[prefix ": split-window]'),
     ("bind \\; select-pane -l", "[prefix ;: select-pane -l]"), ("bind C-Space new-window", "[prefix C-space: new-window]"),
     ("bind r source-file x \\; display done", "[prefix r: source-file x ; display done]"),
     ("bind r source-file x\\; display done", "[prefix r: source-file x ; display done]"),
     ("bind r display 'a;b'", "[prefix r: display a;b]"), ("bind r { split-window ; kill-pane }", "[prefix r: split-window ; kill-pane]"),
     ("bind r {\n  split-window -h\n  # a comment\n  select-pane -L\n}\nset -g mouse on",
-     "mouse=on [prefix r: split-window -h ; select-pane -L]"), ("bind r { split-window", "! 1: a brace isn't closed"),
-    ("bind -N 'a note' r kill-pane", "[prefix r: kill-pane]"), ("bind r", "! 1: bind r has no command"),
-    ("bind", "! 1: bind has a key and a command"), ("bind Foo kill-pane", "! 1: Foo is no key that is known here"),
-    ("bind r choose-tree", "! 1: choose-tree is no command of roam, so r isn't bound"),
-    ("bind r kill-pane \\; choose-tree", "! 1: choose-tree is no command of roam, so r isn't bound"),
+     "mouse=on [prefix r: split-window -h ; select-pane -L]"), ("bind r { split-window", "! 1: a brace is not closed"),
+    ("bind -N 'a note' r kill-pane", "[prefix r: kill-pane]"), ("bind r", "! 1: bind r needs a command"),
+    ("bind", "! 1: bind needs a key and a command"), ("bind Foo kill-pane", "! 1: Foo is not a known key"),
+    ("bind r choose-tree", "! 1: choose-tree is not a command of roam, so r is not bound"),
+    ("bind r kill-pane \\; choose-tree", "! 1: choose-tree is not a command of roam, so r is not bound"),
     ("bind PPage kill-pane", "[prefix pageup: kill-pane]"), ("bind -n S-Up kill-pane", "[root S-up: kill-pane]"),
-    ("bind r if-shell { x } { y }", "! 1: a block between braces isn't taken here"), ("unbind C-b", "(prefix C-b)"),
+    ("bind r if-shell { x } { y }", "! 1: a block in braces is not supported here"), ("unbind C-b", "(prefix C-b)"),
     ("unbind -n F5", "(root f5)"), ('unbind-key \'"\'', '(prefix ")'), ("unbind -a", "(prefix all)"),
-    ("bind r kill-pane; unbind r", "(prefix r)"), ("bind r kill-pane; unbind -a", "(prefix all)"), ("unbind", "! 1: unbind has a key"),
-    ("unbind MouseDown1Pane", "! 1: MouseDown1Pane is no key that is known here"),
-    ("unbind -T copy-mode x", "! 1: roam has no table of keys copy-mode"),
+    ("bind r kill-pane; unbind r", "(prefix r)"), ("bind r kill-pane; unbind -a", "(prefix all)"), ("unbind", "! 1: unbind needs a key"),
+    ("unbind MouseDown1Pane", "! 1: MouseDown1Pane is not a known key"),
+    ("unbind -T copy-mode x", "! 1: roam has no key table copy-mode"),
     # What is run and told.
     ("run-shell 'echo x'", "<echo x>"), ("run -b ~/.tmux/plugins/tpm/tpm", "</home/me/.tmux/plugins/tpm/tpm>"),
-    ("run-shell", "! 1: run-shell has one command of the shell"), ("display-message 'hello\\nthere'", '"hello\\nthere"'),
+    ("run-shell", "! 1: run-shell takes one shell command"), ("display-message 'hello\\nthere'", '"hello\\nthere"'),
     ('display "a\x1b]0;x\x07"', '"a?]0;x?"'), ("display -p x", '"x"'), ("display", ""),
-    ("if-shell 'true' 'set -g mouse on'", "! 1: if-shell isn't there in roam"), ("\x1b[31mevil", "! 1: ?[31mevil isn't there in roam"),
-    ("\n\nset-hook -g x y", "! 3: set-hook isn't there in roam"), ("new-session", "! 1: new-session isn't there in roam"),
+    ("if-shell 'true' 'set -g mouse on'", "! 1: roam does not support if-shell"), ("\x1b[31mevil", "! 1: roam does not support ?[31mevil"),
+    ("\n\nset-hook -g x y", "! 3: roam does not support set-hook"), ("new-session", "! 1: roam does not support new-session"),
     # Conditions.
     ("%if 1\nset -g mouse on\n%else\nset -g status off\n%endif", "mouse=on"),
     ("%if 0\nset -g mouse on\n%else\nset -g status off\n%endif", "status=off"),
     ("%if ''\nfoo\n%elif 1\nset -g mouse on\n%elif 1\nbar\n%endif", "mouse=on"),
     ("%if 1\n%if 0\nfoo\n%endif\nset -g mouse on\n%endif", "mouse=on"),
     ("%if #{==:#{host},x}\nset -g mouse on\n%else\nfoo\n%endif\nset -g status off",
-     "status=off ! 1: roam has no formats in %if: all up to its %endif is passed over"), ("%if 0\n%if #{x}\nfoo\n%endif\n%endif", ""),
-    ("%endif", "! 1: %endif has no %if before it"), ("%if 1\nset -g mouse on", "mouse=on ! 2: %if has no %endif"),
+     "status=off ! 1: roam does not support formats in %if: skipped up to its %endif"), ("%if 0\n%if #{x}\nfoo\n%endif\n%endif", ""),
+    ("%endif", "! 1: %endif without %if"), ("%if 1\nset -g mouse on", "mouse=on ! 2: %if has no %endif"),
 )
 
 # Whole files of forms that are in use, and how many lines of each are told.
@@ -226,7 +226,7 @@ class Lines(unittest.TestCase):
         found = FileSettings(ENVIRONMENT)
         for _ in range(2):
             found.take_text("foo\n" * (MOST_TOLD + 50), "/home/me/conf")
-        self.assertEqual((found.told[0], len(found.told), found.untold), ("conf:1: foo isn't there in roam", MOST_TOLD, 100))
+        self.assertEqual((found.told[0], len(found.told), found.untold), ("conf:1: roam does not support foo", MOST_TOLD, 100))
         found = FileSettings(ENVIRONMENT)
         found.take_text(f"set -g {'x' * 5000} 1\nset -g mouse '{chr(27)}{'y' * 5000}'\n", f"{chr(27)}{'z' * 5000}")
         self.assertTrue(all(len(told) <= LONGEST_TOLD and told.isprintable() for told in found.told))
@@ -273,23 +273,23 @@ class Files(Case):
         text = b"set -g mouse on\nrun-shell 'touch /tmp/evil'\n"
         other = os.stat_result((0o100600, 5, 5, 1, os.getuid() + 77, 0, len(text), 0, 0, 0))
         for path, why in (
-                (self.made("a", text, 0o620), "isn't read: others may write it"),
-                (self.made("b", text, 0o602), "isn't read: others may write it"),
-                (self.made("d", b"\x7fELF\0" + text), "isn't read: it is no text"),
-                (self.made("e", b"\xff\xfe" + text), "isn't read: it is no text in UTF-8"),
-                (self.made("f", text + b"#" * MOST_BYTES), "isn't read: it is larger than 1 MB"),
-                (str(self.folder), "isn't read: it is no file of text"),
-                (str(self.folder / "none"), "can't be read: No such file or directory"), ("a\0b", "can't be read: no name of a file")):
+                (self.made("a", text, 0o620), "not read: other users may write to it"),
+                (self.made("b", text, 0o602), "not read: other users may write to it"),
+                (self.made("d", b"\x7fELF\0" + text), "not read: it is not text"),
+                (self.made("e", b"\xff\xfe" + text), "not read: it is not UTF-8 text"),
+                (self.made("f", text + b"#" * MOST_BYTES), "not read: it is larger than 1 MB"),
+                (str(self.folder), "not read: it is not a regular file"),
+                (str(self.folder / "none"), "cannot be read: No such file or directory"), ("a\0b", "cannot be read: not a file name")):
             found, name = self.read(path), os.path.basename(path).replace("\0", "?")
             self.assertEqual((found.told, found.values, found.runs, found.open), ([f"{name}: {why}"], {}, [], []))
         with mock.patch.object(loader.os, "fstat", return_value=other):
             found = self.read(self.made("c", text))
-        self.assertEqual((found.told, found.values), (["c: isn't read: it is another user's"], {}))
+        self.assertEqual((found.told, found.values), (["c: not read: it belongs to another user"], {}))
 
     def test_pipe(self):
         """What isn't a file doesn't keep anybody waiting."""
         os.mkfifo(self.folder / "pipe", 0o600)
-        self.assertEqual(self.read(str(self.folder / "pipe")).told, ["pipe: isn't read: it is no file of text"])
+        self.assertEqual(self.read(str(self.folder / "pipe")).told, ["pipe: not read: it is not a regular file"])
 
     def test_root(self):
         """Root's files are read, and links are followed to what is judged."""
@@ -297,7 +297,7 @@ class Files(Case):
         (self.folder / "link").symlink_to(path)
         self.assertEqual(self.read(str(self.folder / "link")).values, {"mouse": "on"})
         os.chmod(path, 0o666)
-        self.assertEqual(self.read(str(self.folder / "link")).told, ["link: isn't read: others may write it"])
+        self.assertEqual(self.read(str(self.folder / "link")).told, ["link: not read: other users may write to it"])
 
     def test_sources(self):
         """Other files are read in their place, from the folder of the one that names them; a pattern names several, in order."""
@@ -307,18 +307,18 @@ class Files(Case):
         path = self.made("conf", b"set -g status-left x\nsource-file more/*.conf\nsource -q none\nsource none\nset -g status off\n")
         found = self.read(path)
         self.assertEqual(found.values, {"status-left": "b", "mouse": "on", "status": "off"})
-        self.assertEqual(found.told, ["none: can't be read: No such file or directory"])
+        self.assertEqual(found.told, ["none: cannot be read: No such file or directory"])
 
     def test_loops(self):
         """Files that name one another in a ring, or too deep, or ever more of them: told, and it ends."""
         ring = self.made("ring", b"source-file other\nset -g mouse on\n")
         self.made("other", b"source-file ring\n" * 5)
         found = self.read(ring)
-        self.assertEqual((found.values, found.told), ({"mouse": "on"}, ["ring: isn't read: it is named within itself"]))
+        self.assertEqual((found.values, found.told), ({"mouse": "on"}, ["ring: not read: it includes itself"]))
         for number in range(DEEPEST + 3):
             self.made(f"deep{number}", b"source-file deep%d\nsource-file deep%d\n" % (number + 1, number + 1))
         found = self.read(str(self.folder / "deep0"))
-        self.assertTrue(all("isn't read: " in told for told in found.told) and found.told)
+        self.assertTrue(all("not read: " in told for told in found.told) and found.told)
         self.assertLessEqual(found.count, MOST_FILES)
         self.assertTrue(any(f"more than {DEEPEST} deep" in told for told in found.told))
 

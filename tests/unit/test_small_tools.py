@@ -64,7 +64,7 @@ class Shell(Case):
             self.server.send(b"0123456789")
             joined.hear_pane()
         self.assertEqual(joined.to_terminal, bytes(65530) + b"012345")
-        self.assertEqual(self.said.getvalue().count("what is typed isn't read; above 65536 bytes it is dropped\n"), 1)
+        self.assertEqual(self.said.getvalue().count("the program does not read input; above 65536 bytes it is dropped\n"), 1)
 
     def test_words(self):
         """Its size and command are as asked, and its status is the command's; 0 where the pane ended first."""
@@ -163,7 +163,7 @@ class Attach(Case):
             with self.assertRaises(SystemExit) as way:
                 self.attach(*words)
             self.assertEqual(way.exception.code, 2)
-        self.assertIn("a server is named by its folder, or by its port, 1 to 65535", self.said.getvalue())
+        self.assertIn("name a server by its directory, or by its port, 1 to 65535", self.said.getvalue())
         self.environment(ROAM_PREFIX="x")
         with self.assertRaisesRegex(Fault, "^ROAM_PREFIX is 'x'"):
             self.attach(str(self.folder))

@@ -288,7 +288,7 @@ class Bounds(Sockets):
         said = self.heard()
         other = HostSocket(StillLoop())
         other.listen(self.folder)
-        self.assertIn("nobody can connect to this pty host: somebody listens at ", said.getvalue())
+        self.assertIn("this pty host cannot accept connections: another process already listens at ", said.getvalue())
         other.loop.turns(2)
         other.close()
         self.assertTrue((self.folder / "host").exists())

@@ -57,7 +57,7 @@ class AtHost(Sockets):
         """The next pane beside the one that is named has it, once."""
         for rect in (RIGHT, BELOW):
             one, told = self.hand("1 7", Begins(["htop"], "src"))
-            self.assertEqual(told, f"run {NAME} refused the folder isn't there\n")
+            self.assertEqual(told, f"run {NAME} refused the directory does not exist\n")
             os.makedirs(self.folder / "src", exist_ok=True)
             self.assertEqual(self.hand("1 7", Begins(["htop"], "src"), one=one)[1], f"run {NAME} ready\n")
             self.assertIsNone(self.channel.handed.for_pane(ELSEWHERE))
@@ -95,15 +95,15 @@ class AtHost(Sockets):
 
     def test_refused(self):
         """A pane that isn't there, too many, too long ones, and those of who only watches; one who has left has none any more."""
-        self.assertEqual(self.hand("1 8", Begins(["htop"]))[1], f"run {NAME} refused the pane isn't there\n")
+        self.assertEqual(self.hand("1 8", Begins(["htop"]))[1], f"run {NAME} refused the pane does not exist\n")
         data = b"x" * 70000
         one = self.connect(f"run {NAME} 1 7 {len(data)}\n".encode() + data[:60000])
         self.say(one, data[60000:] + b"who\n")
         told = read_now(one).decode()
-        self.assertIn(f"run {NAME} refused a command has 65536 bytes at most\n", told)
+        self.assertIn(f"run {NAME} refused a command has at most 65536 bytes\n", told)
         self.assertIn("host", told)
         one = self.connect(f"run {NAME} 1 7 2\n\0\x1b".encode())
-        self.assertEqual(read_now(one).decode(), f"run {NAME} refused its words can't be read\n")
+        self.assertEqual(read_now(one).decode(), f"run {NAME} refused its words are invalid\n")
         one = self.connect(b"here test:/dev/pts/1 24 80 read-only\n")
         self.assertEqual(self.hand("1 7", Begins(["a"]), one=one)[1].split("\n")[0], "bad line")
         one, _ = self.hand("1 7", Begins(["htop"]))
@@ -168,7 +168,7 @@ class AtFrontEnd(Case):
         self.loop.turns(2)
         self.assertEqual(self.told(), [])
         self.acts.host.ran(f"{NAME} late")
-        self.assertEqual(self.told(), ["not run: no pane came in its place"])
+        self.assertEqual(self.told(), ["not run: no pane was created"])
 
     def test_scroll_paint(self):
         """It is split where the person asked for that, and with -d the focus is there again."""
@@ -200,7 +200,7 @@ class AtFrontEnd(Case):
         for _ in range(3):
             self.now += 0.9
             self.loop.turns(2)
-        self.assertEqual(self.told()[-1], "not run: the pty host isn't there just now")
+        self.assertEqual(self.told()[-1], "not run: the pty host is not connected")
 
     def test_refused(self):
         """Why nothing is run is told, and nothing is split then."""
@@ -214,9 +214,9 @@ class AtFrontEnd(Case):
         self.runner.typed("splitw htop")
         self.acts.link.is_read_only = True
         self.runner.typed("splitw htop")
-        self.assertEqual(self.told(), ["not run: the folder ? isn't there", "not run: the pty host is silent",
-                                       "not run: the pty host isn't there just now",
-                                       "a terminal that only watches runs nothing"])
+        self.assertEqual(self.told(), ["not run: the folder ? isn't there", "not run: the pty host does not answer",
+                                       "not run: the pty host is not connected",
+                                       "a read-only terminal runs no commands"])
         self.assertFalse(self.acts.act_together.called or self.commands.type_key.called)
 
 
@@ -247,7 +247,7 @@ class Outside(Case):
             sends.assert_called_with(window, acts, 2)
         for told, why in (((f"run {NAME} refused no \x1b",), "session main: not run: no ?"),
                           ((f"run {NAME} ready", f"run {NAME} late"),
-                           "session main: no pane came in its place, and the command wasn't run")):
+                           "session main: no pane was created, so the command did not run")):
             self.asked(*told)
             with self.assertRaises(Fault) as fault:
                 cmd.run(window, 2, ["splitw", "htop"])

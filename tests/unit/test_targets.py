@@ -46,7 +46,7 @@ class Names(unittest.TestCase):
         with self.assertRaisesRegex(Fault, "^session main has no pane 3$"):
             pane_places(session, 3)
         session.places = lambda: None
-        with self.assertRaisesRegex(Fault, "^session main: where its panes are isn't told$"):
+        with self.assertRaisesRegex(Fault, "^session main: its server does not report its panes$"):
             pane_places(session, 1)
 
 
@@ -106,7 +106,7 @@ class Captures(Case):
             self.assertEqual(capture.capture(session, True, 1), 5)
         self.assertEqual(cells_of(runs.call_args[1]["input"]).cells[1, 1][0], "a")
         session.places = lambda: Places({1: Rect(1, 1, 3, 8)}, 1)
-        with self.assertRaisesRegex(Fault, "^pane 1 has just got another place$"):
+        with self.assertRaisesRegex(Fault, "^pane 1 has just moved; try again$"):
             capture.capture(session, False, 1)
 
 
@@ -147,14 +147,14 @@ class Panes(Case):
         """One that isn't there, the last one, and one that isn't closed in time are told of."""
         panes = b"1 1 1 2 3 7\nfocus 1\nclients 1 of 64\nwatchers 0 of 16\n"
         for answers, pane, why in (([panes], 2, "session main has no pane 2"), ([], 1, "session main has no pane 1"),
-                                   ([panes, b"", b"last pane\n"], 1, "pane 1 is the last one, and goes with its session"),
-                                   ([panes, b"", b"bad line\n"], 1, "session main: pane 1 isn't closed"),
-                                   ([panes, b"", None], 1, "session main: pane 1 isn't closed")):
+                                   ([panes, b"", b"last pane\n"], 1, "pane 1 is the last one, and ends with its session"),
+                                   ([panes, b"", b"bad line\n"], 1, "session main: pane 1 was not closed"),
+                                   ([panes, b"", None], 1, "session main: pane 1 was not closed")):
             self.server, self.answers = None, answers
             with self.assertRaisesRegex(Fault, f"^{why}$"):
                 close_pane(self.session, pane)
         self.listener.close()
-        with self.assertRaisesRegex(Fault, "^session main: where its panes are isn't told$"):
+        with self.assertRaisesRegex(Fault, "^session main: its server does not report its panes$"):
             close_pane(self.session, 1)
         self.assertFalse(wants_brackets(self.session, 1))
 
@@ -164,12 +164,13 @@ class Panes(Case):
         for pane, making in ((1, (1, 7)), (2, (2, 9)), (0, (2, 9))):
             self.server, self.answers = None, [panes]
             self.assertEqual(targets.making_of(self.session, pane), making)
-        for answers, pane, why in (([panes], 3, "session main has no pane 3"), ([None], 0, "session main: where its panes are isn't told")):
+        for answers, pane, why in (([panes], 3, "session main has no pane 3"),
+                                    ([None], 0, "session main: its server does not report its panes")):
             self.server, self.answers = None, answers
             with self.assertRaisesRegex(Fault, f"^{why}$"):
                 targets.making_of(self.session, pane)
         self.listener.close()
-        with self.assertRaisesRegex(Fault, "^session main: where its panes are isn't told$"):
+        with self.assertRaisesRegex(Fault, "^session main: its server does not report its panes$"):
             targets.making_of(self.session, 0)
 
     def test_brackets(self):
@@ -240,8 +241,8 @@ class Given(Sockets):
 
     def test_refused(self):
         """What can't be is told, and nothing is typed: no text, too much of it, no room, no such pane, a host that takes nothing."""
-        for text, pane, why in (("", 0, "there is nothing to be typed"),
-                                ("x" * (MOST_BYTES + 1), 0, "a text has 16 MB at most; nothing was typed"),
+        for text, pane, why in (("", 0, "there is nothing to type"),
+                                ("x" * (MOST_BYTES + 1), 0, "a text has at most 16 MB; nothing was typed"),
                                 ("x", 3, "session main has no pane 3")):
             with self.assertRaisesRegex(Fault, f"^{why}$"):
                 paste.type_text(self.session, text, pane, False)
@@ -249,14 +250,14 @@ class Given(Sockets):
             with self.assertRaisesRegex(Fault, "^session main: 64 texts wait to be pasted. Nothing was typed$"):
                 paste.type_text(self.session, "x", 0, False)
         with mock.patch.object(paste, "ready", lambda end, events, seconds: self.pass_time(seconds) or 0):
-            with self.assertRaisesRegex(Fault, "^session main: the pty host doesn't take the text$"):
+            with self.assertRaisesRegex(Fault, "^session main: the pty host did not accept the text$"):
                 paste.type_text(self.session, "x", 0, False)
         self.assertEqual((self.typed, INSERTED), ([], "inserted"))
 
     def test_lost(self):
         """Where the host ends before the placeholder comes that is told."""
         self.is_inserted = None
-        with self.assertRaisesRegex(Fault, "^session main: the pty host ended, and nothing was typed$"):
+        with self.assertRaisesRegex(Fault, "^session main: the pty host ended; nothing was typed$"):
             paste.type_text(self.session, "x", 0, False)
 
     def test_read(self):
@@ -265,7 +266,7 @@ class Given(Sockets):
             with mock.patch("sys.stdin", mock.Mock(buffer=io.BytesIO(b"a\x1b[20\x1b[201~1~\r\nb\x00\x07\xff"))):
                 self.assertEqual(paste.read_text(is_raw), wanted)
         with mock.patch("sys.stdin", mock.Mock(buffer=io.BytesIO(bytes(MOST_BYTES + 1)))):
-            with self.assertRaisesRegex(Fault, "^a text has 16 MB at most; nothing was typed$"):
+            with self.assertRaisesRegex(Fault, "^a text has at most 16 MB; nothing was typed$"):
                 paste.read_text(False)
 
     def test_sent(self):

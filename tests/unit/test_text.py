@@ -50,14 +50,14 @@ class Sayings(unittest.TestCase):
         said, shown = Said(), ""
         for _ in range(1000):
             shown += said.fed(b"the far host says so\n" * 500)
-        self.assertTrue(shown.endswith(f"[{SAID_LIMIT} bytes were said; no more is shown]\n"))
+        self.assertTrue(shown.endswith(f"[output limited to {SAID_LIMIT} bytes]\n"))
         self.assertEqual(shown.count("["), 1)
         self.assertLess(len(shown), SAID_LIMIT + 100)
 
     def test_exactly_the_limit(self):
         said = Said()
         self.assertEqual(said.fed(b"x" * SAID_LIMIT), "x" * SAID_LIMIT)
-        self.assertIn("no more is shown", said.fed(b"y"))
+        self.assertIn("output limited", said.fed(b"y"))
 
 
 class Logs(unittest.TestCase):

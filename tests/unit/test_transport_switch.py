@@ -452,7 +452,7 @@ class Far(Both):
     def test_silent_command_alone(self):
         """The same without a call."""
         self.ask()
-        with self.assertRaisesRegex(Fault, "the other end has said nothing for 30 s"):
+        with self.assertRaisesRegex(Fault, "the other end has been silent for 30 s"):
             self.run_for(32)
 
     def test_rests(self):

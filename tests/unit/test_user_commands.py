@@ -31,22 +31,22 @@ ASKED = (
     ("display hello there", [], "tell", "hello there"), ("run -b ls", [], "run", "ls"), ("renamew", [], "window name", ""),
     ("rename-window my own", [], "window name", "my own"), ("send-prefix", [], "prefix", ""),
 )
-WRONG = (("kill-pane -t 3", "kill-pane: it has no -t here"), ("killw -a", "killw: it has no -a here"),
-         ("neww -c #{pane_id}", "neww: -c has a folder or #{pane_current_path} here"), ("nosuch", "nosuch is no command of roam"),
-         ("splitw -Q", "splitw: it has no -Q here"), ("selectw -t 100", "selectw: 100 is no number from 1 to 99"),
-         ("selectp -t 0", "selectp: 0 is no number from 1 to 9"), ("resizep", "resizep: it has -L, -R, -U, -D or -Z"),
-         ("killp x", "killp: it has no word x"), ("selectl tiled", "selectl: it has no word tiled"),
-         ("selectl even-vertical x", "selectl: it has no word x"), ("copy-mode x", "copy-mode: it has no word x"),
-         ("selectw -t 1 2", "selectw: it has no word 2"), ("selectw 1 2", "selectw: it has no word 2"),
-         ("selectp 2", "selectp: it has no word 2"),
-         ("resizep -Z 1", "resizep: it has no word 1"), ("resizep -L 1 2", "resizep: it has no word 2"),
-         ("splitw -l 5 htop", "splitw: it has no -l here"), ("splitw -n name", "splitw: it has no -n here"),
-         (f"neww -n {'n' * 65}", "neww: a name has 64 printable characters at most"),
-         ("send-keys", "send-keys: it has keys or a text behind it"),
+WRONG = (("kill-pane -t 3", "kill-pane: unknown flag -t"), ("killw -a", "killw: unknown flag -a"),
+         ("neww -c #{pane_id}", "neww: -c takes a directory or #{pane_current_path}"), ("nosuch", "nosuch is not a command of roam"),
+         ("splitw -Q", "splitw: unknown flag -Q"), ("selectw -t 100", "selectw: 100 is not a number from 1 to 99"),
+         ("selectp -t 0", "selectp: 0 is not a number from 1 to 9"), ("resizep", "resizep: -L, -R, -U, -D or -Z is missing"),
+         ("killp x", "killp: unexpected word x"), ("selectl tiled", "selectl: unexpected word tiled"),
+         ("selectl even-vertical x", "selectl: unexpected word x"), ("copy-mode x", "copy-mode: unexpected word x"),
+         ("selectw -t 1 2", "selectw: unexpected word 2"), ("selectw 1 2", "selectw: unexpected word 2"),
+         ("selectp 2", "selectp: unexpected word 2"),
+         ("resizep -Z 1", "resizep: unexpected word 1"), ("resizep -L 1 2", "resizep: unexpected word 2"),
+         ("splitw -l 5 htop", "splitw: unknown flag -l"), ("splitw -n name", "splitw: unknown flag -n"),
+         (f"neww -n {'n' * 65}", "neww: a name has at most 64 printable characters"),
+         ("send-keys", "send-keys: keys or a text are missing"),
          ("send-keys C-;", "send-keys: C-; names a key that sends nothing; -l types its characters"),
-         (f"display {'x' * 1001}", "display: it has 1000 characters at most"),
-         (f"send-keys {'x' * 1001}", "send-keys: it has 100 words of 1000 characters at most"),
-         ("display", "display: it has a text behind it"), ("\x1b[2J", "?[2J is no command of roam"))
+         (f"display {'x' * 1001}", "display: at most 1000 characters are allowed"),
+         (f"send-keys {'x' * 1001}", "send-keys: at most 100 words of 1000 characters are allowed"),
+         ("display", "display: a text is missing"), ("\x1b[2J", "?[2J is not a command of roam"))
 
 
 def keys_of(text):
@@ -169,14 +169,14 @@ class Line(Case):
             self.assertEqual([one.args[0] for one in self.runner.keyboard.grant.call_args_list], ["synchronize"] * is_switched, line)
             self.assertNotIn("synchronize-panes", environment.BY_FILE)
         self.runner.typed("setw synchronize-panes perhaps")
-        self.commands.display.row.tell.assert_called_with("synchronize-panes is 'perhaps', and may be on or off", 4.0)
+        self.commands.display.row.tell.assert_called_with("synchronize-panes is 'perhaps'; it may be on or off", 4.0)
 
     def test_done(self):
         """Commands are done in order, up to one that can't be."""
         self.runner.typed("splitw -h; send-keys 'a b' ; nosuch; killp")
         self.assertEqual([one.args[0] for one in self.runner.keyboard.grant.call_args_list], ["split right"])
         self.assertEqual([one.args for one in self.commands.type_key.call_args_list], [(["char 61", "char 20", "char 62"],)])
-        self.commands.display.row.tell.assert_called_with("nosuch is no command of roam", 4.0)
+        self.commands.display.row.tell.assert_called_with("nosuch is not a command of roam", 4.0)
         self.assertEqual(list(self.runner.lines), ["splitw -h; send-keys 'a b' ; nosuch; killp"])
         for wrong in ("splitw 'x", "bind { killp }"):
             self.runner.typed(wrong)
@@ -213,9 +213,9 @@ class Line(Case):
         self.runner.settings.filled.side_effect = lambda text: text.replace("#S", "main")
         self.runner.typed("display '#S is it'")
         self.commands.display.row.tell.assert_called_once_with("main is it", 4.0)
-        self.runner.settings.filled.side_effect = ValueError("#{pid} isn't there in roam")
+        self.runner.settings.filled.side_effect = ValueError("roam does not support #{pid}")
         self.runner.typed("display '#{pid}'")
-        self.commands.display.row.tell.assert_called_with("#{pid} isn't there in roam", 4.0)
+        self.commands.display.row.tell.assert_called_with("roam does not support #{pid}", 4.0)
 
     def test_bound(self):
         """Keys are bound and unbound at this terminal, beside those of the file; what can't be is told, and changes nothing."""
@@ -227,11 +227,11 @@ class Line(Case):
                  ("root", "f5"): Binding([["next-window"]], False)}
         self.assertEqual((OWN.found.bindings, OWN.is_typed), (found, True))
         self.assertEqual(self.runner.settings.go_by.call_count, 3)
-        for line, why in (("bind v nosuch", "nosuch is no command of roam, so v isn't bound"),
-                          ("bind w swapp", "swapp is no command of roam, so w isn't bound"),
-                          ("bind v split-window -Q", "v isn't bound: split-window: it has no -Q here"),
-                          ("bind", "bind: it has a key"), ("unbind nokey", "nokey is no key that is known here"),
-                          ("bind v", "bind v has no command")):
+        for line, why in (("bind v nosuch", "nosuch is not a command of roam, so v is not bound"),
+                          ("bind w swapp", "swapp is not a command of roam, so w is not bound"),
+                          ("bind v split-window -Q", "v is not bound: split-window: unknown flag -Q"),
+                          ("bind", "bind: a key is missing"), ("unbind nokey", "nokey is not a known key"),
+                          ("bind v", "bind v needs a command")):
             self.runner.typed(line)
             self.assertEqual(self.commands.display.row.tell.call_args.args[0], why)
             self.assertEqual(OWN.found.bindings, found)
@@ -241,7 +241,7 @@ class Line(Case):
     def test_set(self):
         """An option is set at this terminal; one that can't be is told."""
         self.runner.typed("set -g nosuch 1")
-        self.commands.display.row.tell.assert_called_with("nosuch is no option of roam", 4.0)
+        self.commands.display.row.tell.assert_called_with("nosuch is not an option of roam", 4.0)
         self.runner.settings.go_by.assert_not_called()
 
 

@@ -74,10 +74,10 @@ class Own(Case):
     def test_told(self):
         """One line that isn't done is told as it is, of several how many there are."""
         self.read("set -g prefix C-a\nfoo bar\n")
-        self.assertEqual((OWN.line(), config_environment.chosen_prefix()), ("roam.conf:2: foo isn't there in roam", "C-a"))
+        self.assertEqual((OWN.line(), config_environment.chosen_prefix()), ("roam.conf:2: roam does not support foo", "C-a"))
         self.read("foo\nbind x nosuch\nbind y split-window -Q\nbind C-v split-window -h\n")
         self.assertEqual(OWN.line(), "3 lines of roam.conf have no effect in roam; `mux settings` prints them")
-        self.assertEqual(undone(OWN.found)[2], "roam.conf: y isn't bound: split-window: it has no -Q here")
+        self.assertEqual(undone(OWN.found)[2], "roam.conf: y is not bound: split-window: unknown flag -Q")
         self.assertEqual(list(OWN.found.bindings), [("prefix", "C-v")])
         self.read("display 'good morning'\n")
         self.assertEqual(OWN.line(), "good morning")
@@ -89,17 +89,17 @@ class Own(Case):
         other.write_text("set -g mouse off\nbind y next-window\nfoo\n")
         OWN.add(str(other))
         self.assertEqual((config_environment.chosen_prefix(), config_environment.wants_mouse(), OWN.line()),
-                         ("C-a", False, "other.conf:3: foo isn't there in roam"))
+                         ("C-a", False, "other.conf:3: roam does not support foo"))
         self.assertEqual(sorted(OWN.found.bindings), [("prefix", "x"), ("prefix", "y")])
         OWN.add(str(self.folder / "none"))
-        self.assertEqual(OWN.line(), "none: can't be read: No such file or directory")
+        self.assertEqual(OWN.line(), "none: cannot be read: No such file or directory")
 
     def test_refused(self):
         """A file that another may write is told of, and nothing of it done; nor is a value that can't be."""
         self.file.write_text("set -g prefix C-a\n")
         self.file.chmod(0o666)
         self.read(None)
-        self.assertEqual((OWN.line(), config_environment.chosen_prefix()), ("roam.conf: isn't read: others may write it", "C-b"))
+        self.assertEqual((OWN.line(), config_environment.chosen_prefix()), ("roam.conf: not read: other users may write to it", "C-b"))
         with mock.patch.dict(os.environ, {"ROAM_PREFIX": "F1"}), self.assertRaisesRegex(Fault, "ROAM_PREFIX is 'F1'"):
             config_environment.chosen_prefix()
 
@@ -154,7 +154,7 @@ class Row(Case):
 
     def test_wrong(self):
         """What isn't there in a format is told; a row without formats is as it always was."""
-        self.assertEqual(self.choose("#(date)", ""), ["status-left: #(date) isn't there in roam"])
+        self.assertEqual(self.choose("#(date)", ""), ["status-left: roam does not support #(date)"])
         self.choose("", "")
         self.assertEqual((self.display.row.status, self.display.row.line()), (None, "[1]" + " " * 37))
         self.assertEqual(self.display.row.parts[0] + [Styled("", "")], [Styled("", "")])
@@ -164,7 +164,7 @@ class Row(Case):
         self.assertEqual(self.row.filled("#[fg=red]#S #I, #{window_name} 50% \x1b"), "main 2, vim 50% ?")
         with self.assertRaises(ValueError) as raised:
             self.row.filled("#S #{pane_pid}")
-        self.assertEqual(str(raised.exception), "#{pane_pid} isn't there in roam")
+        self.assertEqual(str(raised.exception), "roam does not support #{pane_pid}")
 
     def test_clock(self):
         """A clock of minutes is looked at once a minute, and none where there is none."""

@@ -174,7 +174,7 @@ class Ends(Zoomed):
         """What puts the focus where it is ends nothing, and neither does a key that is typed, or one that no pane takes."""
         self.attach(self.grid())
         self.types(b"\x02z\x02q2x\r\x02;")
-        self.assertEqual((self.person.commands.zooming.is_on(), self.person.display.row.told), (True, "no other pane was in focus"))
+        self.assertEqual((self.person.commands.zooming.is_on(), self.person.display.row.told), (True, "no other pane was active before"))
 
     def test_last(self):
         """C-b ; goes to the pane that was in focus, as the focus was told."""
@@ -214,7 +214,7 @@ class Ends(Zoomed):
         self.take()
         self.now += REFUSES
         self.person.loop.do_due()
-        self.assertIn("have no room in 24 by 80", self.person.display.row.told)
+        self.assertIn("24 by 80 is too small for its panes", self.person.display.row.told)
         self.assertEqual((self.person.host.zoom, self.person.display.part.is_held), (None, False))
 
     def test_leaving(self):
@@ -272,7 +272,7 @@ class Ends(Zoomed):
     def test_refused(self):
         """What can't be zoomed is told."""
         for session, why in ((Lived(), "pane 1 is the only one, and fills the session"),
-                             (self.grid((60, 200)), "pane 2 has 29 by 100, more than this terminal shows: nothing is zoomed")):
+                             (self.grid((60, 200)), "cannot zoom: pane 2 has 29 by 100, more than this terminal")):
             self.attach(session, host=PlayedHost(True))
             self.types(b"\x02z")
             self.assertEqual((self.person.display.row.told, self.heard), (why, []))
@@ -314,7 +314,7 @@ class Resized(Zoomed):
         self.person.resize(10, 30)
         self.take(6)
         self.assertEqual((self.session.places().size(), self.person.commands.zooming.is_on()), ((24, 80), False))
-        self.assertIn("more than this terminal shows", self.person.display.row.told)
+        self.assertIn("more than this terminal", self.person.display.row.told)
 
     def test_grown(self):
         """A session that wasn't all shown grows to a terminal that is larger by now, where nobody else types."""

@@ -35,7 +35,7 @@ def print_settings(asked: Asked) -> int:
     from roam_live.config.user_file import OWN, settings_path, undone
 
     OWN.read()
-    print(printable(settings_path()) + ("" if OWN.found else ", which isn't there"))
+    print(printable(settings_path()) + ("" if OWN.found else ", which does not exist"))
     lines = undone(OWN.found) if OWN.found else []
     print("".join(f"{line}\n" for line in lines), end="")
     return 1 if lines else 0

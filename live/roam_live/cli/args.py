@@ -144,9 +144,9 @@ def told_of_tmux(name: str, called: str) -> str:
         return ""
     here = TMUX_WORDS[name]
     if not here:
-        return f"{name}: tmux has this, roam hasn't"
+        return f"{name}: roam does not support this tmux command"
     told = f"`{called}{here.removeprefix('mux')}`" if here.startswith("mux ") else here
-    return f"{name} is a word of tmux; roam has {told}"
+    return f"{name} is a tmux command; in roam, use {told}"
 
 
 def meant(name: str, words: list[str]) -> str:

@@ -38,7 +38,7 @@ def command(asked: Asked) -> int:
     from roam_live.cli import cmd
 
     if not asked.words:
-        raise Fault("a command stands behind the session")
+        raise Fault("name a command after the session, as in `mux cmd work split-window`")
     window, pane = window_named(asked.name)
     return cmd.run(ready(window), pane, asked.words)
 
@@ -59,9 +59,9 @@ def send(asked: Asked) -> int:
         flags[words.pop(0)] = True
     words = words[1:] if words[:1] == ["--"] else words
     if all(flags.values()):
-        raise Fault("characters are sent by -l, or acts by -a, and not both")
+        raise Fault("-l types characters and -a types acts; use one of them")
     if not words:
-        raise Fault("what is typed stands behind the session, as in `mux send work 'make test' Enter`")
+        raise Fault("name the keys after the session, as in `mux send work 'make test' Enter`")
     window, pane = window_named(asked.name)
     ready(window)
     if flags["-l"]:
@@ -88,7 +88,7 @@ def capture(asked: Asked) -> int:
     window, pane = window_named(asked.name)
     has_rows = asked.begin is not None or asked.end is not None or asked.has_styles or asked.is_joined
     if has_rows and asked.is_drawn:
-        raise Fault("a picture is drawn of what is shown, and of no other rows")
+        raise Fault("--svg shows the screen; it excludes -S, -E, -e and -J")
     if has_rows:
         from roam_live.cli import scrollback
 
@@ -112,11 +112,11 @@ def keep_texts(asked: Asked) -> int:
 
     session, pane = window_named(asked.name)
     if pane and asked.does != "paste":
-        raise Fault("buffers are of a session, and of no pane")
+        raise Fault("buffers belong to a session; name no pane")
     if asked.does == "paste":
         return scrollback.put_buffer(ready(session), asked.what, pane)
     if asked.does == "list" and asked.what is not None:
-        raise Fault("all buffers are listed")
+        raise Fault("buffer list takes no number and no text")
     if asked.does == "list":
         return scrollback.list_buffers(session)
     return scrollback.show_buffer(session, asked.what) if asked.does == "show" else scrollback.set_buffer(session, asked.what)
@@ -128,6 +128,6 @@ def print_environment(asked: Asked) -> int:
 
     session, _ = window_named(asked.name)
     if session.served != "server":
-        raise Fault(f"session {session.name} is of another machine: what its panes have is told there")
+        raise Fault(f"session {session.name} is on another machine; run `mux env` there")
     sys.stdout.buffer.write(os.fsencode("".join(f"{line}\n" for line in environment.shell_lines(session))))
     return 0

@@ -54,7 +54,7 @@ def demand_terminal() -> None:
     wants_mouse()
     sets_clipboard()
     if not (os.isatty(0) and os.isatty(1)):
-        raise Fault("standard input and output have to be a terminal")
+        raise Fault("standard input and output must be a terminal")
 
     demand_able()
 
@@ -63,7 +63,7 @@ def demand_outside(session: SessionFolder) -> None:
     """Refuses to show a session in a pane of its own, of whichever window."""
     folder = own_pane()[0]
     if folder and is_in(folder, session):
-        raise Fault(f"this is a pane of session {session.name}; a session inside itself has no end")
+        raise Fault(f"this is a pane of session {session.name}; a session cannot show itself")
 
 
 def enter(name: str, is_read_only: bool = False, prediction: str | None = None) -> int:
@@ -102,7 +102,7 @@ def attach(asked: Asked) -> int:
         demand_outside(session)
         stay = windows.detach_others(session.window(target_of(asked.name).window))
         if stay:
-            say(f"session {session.name}: {stay} of the terminals there don't leave, as where they are stopped")
+            say(f"session {session.name}: {stay} of its terminals did not detach; they may be stopped")
     return enter(asked.name, prediction=asked.predict)
 
 
@@ -112,7 +112,7 @@ def new(asked: Asked) -> int:
 
     check_name(asked.name)
     if asked.command and not shutil.which(asked.command[0]):
-        raise Fault(f"{asked.command[0]!r} is no command; the options of new stand before NAME")
+        raise Fault(f"{asked.command[0]!r} is not a command; put the options of new before NAME")
     if not asked.is_detached:
         demand_terminal()
     session = session_named(asked.name)
@@ -131,7 +131,7 @@ def new(asked: Asked) -> int:
 
 def refuse_detach(asked: Asked) -> int:
     """Tells what leaves a session."""
-    raise Fault(f"{chosen_prefix()} d, typed in the front end, detaches it; the session goes on")
+    raise Fault(f"press {chosen_prefix()} d in the front end to detach; the session keeps running")
 
 
 def watch(asked: Asked) -> int:
@@ -168,5 +168,5 @@ def carry(asked: Asked) -> int:
     from roam_live.cli import ssh
 
     if os.isatty(0):
-        raise Fault("standard input is a terminal; `mux ssh` on another machine spawns this end")
+        raise Fault("standard input is a terminal; `mux ssh` on another machine starts this end")
     return ssh.carry(asked.name, launched)

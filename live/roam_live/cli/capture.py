@@ -54,7 +54,7 @@ def asked_screen(link: ClientLink, asks: str) -> bytes:
                 return data
             time.sleep(AGAIN)
     except NoRecord as fault:
-        raise Fault(f"the client process tells no screen: {fault}") from fault
+        raise Fault(f"the client process sent no valid screen: {fault}") from fault
     finally:
         link.close()
 
@@ -77,5 +77,5 @@ def pane_of(data: bytes, rect: Rect, pane: int) -> bytes:
 
     screen = screen_of(data)
     if rect.row + rect.rows > screen.rows or rect.col + rect.cols - 1 > screen.cols:
-        raise Fault(f"pane {pane} has just got another place")
+        raise Fault(f"pane {pane} has just moved; try again")
     return part_of(data, rect)

@@ -15,7 +15,7 @@ if TYPE_CHECKING:
 # The acts of wishes that are done by acts alone.
 ACTS = {"split right": "split right", "split down": "split down", "close": "close"}
 
-OWN = "it is a terminal's own, and done there by a key or behind C-b :"
+OWN = "it concerns one terminal; use a key or C-b : there"
 
 
 def run(window: SessionFolder, pane: int, words: list[str]) -> int:
@@ -53,7 +53,7 @@ def split(window: SessionFolder, pane: int, act: str, begins: Begins) -> int:
     asked.hand(f"{number} {generation}", begins)
     status = send.send(window, [act, *back], number)
     if asked.until(RAN, seconds=2 * WAITS)[2:] != [DONE]:
-        raise Fault(f"session {window.name}: no pane came in its place, and the command wasn't run")
+        raise Fault(f"session {window.name}: no pane was created, so the command did not run")
     return status
 
 

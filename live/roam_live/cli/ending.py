@@ -32,7 +32,7 @@ def kill(asked: Asked) -> int:
     # The lock is had once it has ended: who spawns what belongs to it has the lock, and sees that end.
     session.end_all()
     if session.runs():
-        raise Fault(f"session {session.name} doesn't end")
+        raise Fault(f"session {session.name} did not end")
     with session.locked():
         session.tidy()
     sweep()
@@ -45,10 +45,10 @@ def shut(window: SessionFolder, is_forced: bool) -> int:
     from roam_live.session.foreground import told
 
     busy = {} if is_forced else window.busy()
-    lost = "a program that isn't known" if busy is None else told(busy)
+    lost = "an unknown program" if busy is None else told(busy)
     if lost and not os.isatty(0):
-        raise Fault(f"window {window.name} runs {lost}; `mux kill -f {window.name}` shuts it")
-    if lost and not confirmed(f"window {window.name} runs {lost}; shut it? [y/N] "):
+        raise Fault(f"window {window.name} runs {lost}; `mux kill -f {window.name}` closes it")
+    if lost and not confirmed(f"window {window.name} runs {lost}; close it? [y/N] "):
         return 1
     return windows.shut(window)
 
@@ -60,7 +60,7 @@ def close(session: SessionFolder, pane: int, is_forced: bool) -> int:
 
     pane_places(session, pane)
     busy = {} if is_forced else session.busy()
-    lost = "a program that isn't known" if busy is None else told({pane: busy[pane]}) if pane in busy else ""
+    lost = "an unknown program" if busy is None else told({pane: busy[pane]}) if pane in busy else ""
     if lost and not os.isatty(0):
         raise Fault(f"session {session.name} runs {lost}; `mux kill -f {session.name}.{pane}` closes it")
     if lost and not confirmed(f"session {session.name} runs {lost}; close it? [y/N] "):
@@ -75,7 +75,7 @@ def lost_with(session: SessionFolder) -> str:
 
     busy = session.busy_programs()
     if busy is None:
-        return "" if session.served == "relay" else "programs that aren't known"
+        return "" if session.served == "relay" else "unknown programs"
     return told_in_windows(busy) if len(session.windows()) > 1 else told({pane: name for (_, pane), name in busy.items()})
 
 

@@ -49,7 +49,7 @@ def parser_of(word: str) -> argparse.ArgumentParser:
     from roam_live.cli.args import WordParser
 
     if word not in WORDS:
-        hint = hint_of(word) or f"{word!r} is no command of mux"
+        hint = hint_of(word) or f"{word!r} is not a command of mux"
         raise Fault(f"{hint}{' ' if hint.endswith('?') else '; '}`{called()} help` lists them")
     parser = WordParser(prog=f"{called()} {word}", description=sentence(WORDS[word].tells), allow_abbrev=False)
     for names, more in WORDS[word].arguments:
@@ -104,7 +104,7 @@ def hint_of(name: str) -> str:
     from roam_live.cli.args import meant, told_of_tmux
 
     near = meant(name, [word for word in WORDS if word != "far"])
-    return told_of_tmux(name, called()) or near and f"{name!r} is no command of mux; did you mean {near}?"
+    return told_of_tmux(name, called()) or near and f"{name!r} is not a command of mux; did you mean {near}?"
 
 
 def refused(names: list[str]) -> str:
@@ -120,7 +120,7 @@ def refused(names: list[str]) -> str:
     hint = hint_of(names[0])
     may_name = len(names) == 1 and is_name(names[0])
     if hint and not (may_name and session_named(names[0]).find()):
-        return f"mux: {hint}" + (f" (`{called()} new {names[0]}` begins a session of that name)" if may_name else "")
+        return f"mux: {hint}" + (f" (`{called()} new {names[0]}` starts a session of that name)" if may_name else "")
     return usage if len(names) > 1 else ""
 
 

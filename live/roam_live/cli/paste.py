@@ -61,7 +61,7 @@ class PasteClient:
                     raise Fault(f"session {self.session.name}: {printable(more)}. Nothing was typed")
                 if name == self.name:
                     return told == word
-        raise Fault(f"session {self.session.name}: the pty host doesn't take the text")
+        raise Fault(f"session {self.session.name}: the pty host did not accept the text")
 
     def is_buffer_stored(self, number: int) -> bool:
         """Gives a buffer of the host's, and tells whether it holds that as a text."""
@@ -93,9 +93,9 @@ def type_text(session: SessionFolder, text: str, pane: int, is_plain: bool) -> i
     focus = pane_places(session, pane).focus if pane else 0
     data = text.encode("utf-8", "replace")
     if not data:
-        raise Fault("there is nothing to be typed")
+        raise Fault("there is nothing to type")
     if len(data) > MOST_BYTES:
-        raise Fault(f"a text has {MOST_BYTES >> 20} MB at most; nothing was typed")
+        raise Fault(f"a text has at most {MOST_BYTES >> 20} MB; nothing was typed")
     client = store_text(session, data, is_plain)
     if client:
         return insert_text(session, client, pane, focus)
@@ -108,7 +108,7 @@ def insert_text(session: SessionFolder, client: PasteClient, pane: int, focus: i
     """Has the placeholder typed of a text that the host holds, and returns once the text is put there."""
     type_lines(session, opened(session, False), lines_in_pane(placeholder_acts(client.name), pane, focus, "paste ; "))
     if not client.answer(INSERTED):
-        raise Fault(f"session {session.name}: the pty host ended, and nothing was typed")
+        raise Fault(f"session {session.name}: the pty host ended; nothing was typed")
     return 0
 
 
@@ -118,9 +118,9 @@ def paste_buffer(session: SessionFolder, number: int, pane: int) -> int:
     try:
         client = PasteClient(session)
     except OSError as fault:
-        raise Fault(f"session {session.name}: its pty host is not running") from fault
+        raise Fault(f"session {session.name}: its pty host is not running; `mux {session.name}` restarts it") from fault
     if not client.is_buffer_stored(number):
-        raise Fault(f"session {session.name}: the pty host ended, or takes no buffer, and nothing was typed")
+        raise Fault(f"session {session.name}: the pty host ended or refused the buffer; nothing was typed")
     return insert_text(session, client, pane, focus)
 
 
@@ -128,6 +128,6 @@ def read_text(is_raw: bool) -> str:
     """What of standard input is pasted: of control characters TAB and CR alone, and ESC where it is raw; then no bracket is left in it."""
     data = sys.stdin.buffer.read(MOST_BYTES + 1)
     if len(data) > MOST_BYTES:
-        raise Fault(f"a text has {MOST_BYTES >> 20} MB at most; nothing was typed")
+        raise Fault(f"a text has at most {MOST_BYTES >> 20} MB; nothing was typed")
     text = cleaned(data.decode("utf-8", "replace"), is_raw)
     return without_brackets(text.encode("utf-8", "replace")).decode("utf-8", "replace") if is_raw else text

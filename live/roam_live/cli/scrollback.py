@@ -32,8 +32,8 @@ ANSWERS = 10.0
 # What names the first of all rows, or the last.
 OUTERMOST = "-"
 
-NOT_KEPT = "session {}: no rows are kept of pane {}, as where ROAM_HISTORY is 0"
-NO_BUFFERS = "session {}: the pty host tells of no buffers"
+NOT_KEPT = "session {}: pane {} has no stored rows; ROAM_HISTORY may be 0"
+NO_BUFFERS = "session {}: the pty host did not list its buffers"
 
 # What begins a style, and what may stand in one.
 BEGIN = "\x1b["
@@ -48,7 +48,7 @@ class RowsAsked:
         try:
             self.peer = connected_in(session.common / "host", CONNECTS)
         except OSError as fault:
-            raise Fault(f"session {session.name}: its pty host is not running") from fault
+            raise Fault(f"session {session.name}: its pty host is not running; `mux {session.name}` restarts it") from fault
         self.reader, self.link = AnswerReader(), ScrollbackClient(self.take)
         self.waiting = bytearray()
 
@@ -73,7 +73,7 @@ class RowsAsked:
         try:
             return [answer for answer in self.reader.fed(chunk or b"") if not self.link.take(answer)]
         except BadAnswer as fault:
-            raise Fault(f"session {self.session.name}: the pty host tells what can't be: {printable(str(fault))}") from fault
+            raise Fault(f"session {self.session.name}: invalid answer from the pty host: {printable(str(fault))}") from fault
 
     def answer(self, ask: Callable[[Callable[[Any], object]], object]) -> Any:
         """The answer to a question, which a call asks."""
@@ -87,7 +87,7 @@ class RowsAsked:
             if len(self.reader.came.kept) != before or self.waiting:
                 end = max(end, time.monotonic() + ANSWERS)
             elif not told and time.monotonic() >= end:
-                raise Fault(f"session {self.session.name}: the pty host doesn't answer")
+                raise Fault(f"session {self.session.name}: the pty host does not answer")
         return told[0]
 
     def snapshot(self, pane: int) -> Snapshot:
@@ -115,7 +115,7 @@ def row_number(word: str | None, snapshot: Snapshot, default: int, outermost: in
         return default if word is None else outermost
     digits = word.removeprefix("-")
     if not (digits.isascii() and digits.isdigit() and len(digits) <= 9):
-        raise Fault(f"{word!r} is no row: 0 is the first of the screen, -1 the last above it, and - the outermost")
+        raise Fault(f"{word!r} is not a row: 0 is the first of the screen, -1 the last above it, - the first or last")
     return min(max(snapshot.end + int(word), snapshot.first), snapshot.end + len(snapshot.screen) - 1)
 
 
@@ -130,7 +130,7 @@ def capture_rows(session: SessionFolder, pane: int, begin: str | None, end: str 
     while row <= last:
         rows = asked.rows(snapshot, row, last + 1)
         if not rows:
-            raise Fault(f"session {session.name}: the rows aren't kept any more")
+            raise Fault(f"session {session.name}: the rows are no longer stored")
         writer.put(rows)
         row += len(rows)
     writer.end()
@@ -180,7 +180,7 @@ def buffer_number(asked: RowsAsked, word: str | None) -> int:
     """The number of the buffer that a word names, or of the newest."""
     if word is not None:
         if not (word.isascii() and word.isdigit() and len(word) <= 9):
-            raise Fault(f"{word!r} is no number of a buffer; `mux buffer list {asked.session.name}` tells them")
+            raise Fault(f"{word!r} is not a buffer's number; `mux buffer list {asked.session.name}` lists them")
         return int(word)
     notes = buffer_notes(asked)
     if not notes:
@@ -217,7 +217,7 @@ def set_buffer(session: SessionFolder, text: str | None) -> int:
     asked = RowsAsked(session)
     number: int | None = asked.answer(lambda told: asked.link.add_buffer(data, told))
     if number is None:
-        raise Fault(f"session {session.name}: the buffer isn't kept")
+        raise Fault(f"session {session.name}: the buffer was not stored")
     return 0
 
 

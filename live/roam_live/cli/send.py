@@ -66,7 +66,7 @@ class KnownPanes:
     def split(self, way: str) -> str:
         """Goes on with a pane more, which has the smallest free number and the focus, or tells why there can't be one."""
         if self.count >= MOST_PANES:
-            return f"there are {MOST_PANES} panes, and no more"
+            return f"a window has at most {MOST_PANES} panes"
         why = self.places.unsplit(way) if self.is_told else ""
         if why:
             return why
@@ -80,7 +80,7 @@ class KnownPanes:
     def closed(self) -> str:
         """Goes on without the pane in focus, or tells that the last one stays. Which one has the focus then isn't known."""
         if self.count == 1:
-            return "the last pane goes with its shell"
+            return "the last pane ends with its shell"
         if self.panes is not None:
             self.panes = self.panes - {self.places.focus} if self.places.focus in self.panes else None
         self.count, self.is_told = self.count - 1, False
@@ -89,7 +89,7 @@ class KnownPanes:
     def grown(self, _: str) -> str:
         """Goes on with other places, or tells that the only pane has none but its own."""
         self.is_told = False
-        return "there is one pane, which has all room" if self.count == 1 else ""
+        return "there is only one pane" if self.count == 1 else ""
 
 
 def wrong_size(rows: int, cols: int) -> str:
@@ -103,7 +103,7 @@ def wrong_in(acts: list[str], places: Places | None) -> str:
     """Which of the acts can't be done where panes are at these places, and why; nothing where all can, as far as is known."""
     layout = KnownPanes(places)
     found = ((act, layout.wrong(act)) for act in acts)
-    return next((f"{act!r} can't be done: {why}" for act, why in found if why), "")
+    return next((f"cannot do {act!r}: {why}" for act, why in found if why), "")
 
 
 def demand_acts(session: SessionFolder, acts: list[str]) -> None:
@@ -114,7 +114,7 @@ def demand_acts(session: SessionFolder, acts: list[str]) -> None:
     if ran.returncode:
         said = ran.stderr.decode("utf-8", "replace").strip().partition("\n")[0]
         line = re.fullmatch(r"roam: line (\d+): .*", said)
-        raise Fault(f"{acts[int(line[1]) - 1]!r} is no act, which the page roam(1) lists, and no key. None was typed" if line else said)
+        raise Fault(f"{acts[int(line[1]) - 1]!r} is neither an act of roam(1) nor a key; nothing was typed" if line else said)
 
 
 def demand_doable(session: SessionFolder, acts: list[str]) -> None:
@@ -125,7 +125,7 @@ def demand_doable(session: SessionFolder, acts: list[str]) -> None:
         if not wrong:
             return
         if time.monotonic() > end:
-            raise Fault(f"{wrong}. None was typed")
+            raise Fault(f"{wrong}; nothing was typed")
         time.sleep(TOLD_STEP)
 
 
@@ -164,7 +164,7 @@ def type_lines(session: SessionFolder, link: ClientLink, lines: list[str]) -> No
         return
     if has_ended:
         raise Fault(f"session {session.name}: {why}")
-    raise Fault(f"session {session.name} takes no more acts; some may have been typed")
+    raise Fault(f"session {session.name} accepts no more acts; some may have been typed")
 
 
 def send_words(session: SessionFolder, words: list[str], pane: int = 0) -> int:
@@ -172,7 +172,7 @@ def send_words(session: SessionFolder, words: list[str], pane: int = 0) -> int:
     try:
         acts = [act for word in words for act in acts_of_word(os.fsencode(word).decode("utf-8", "replace"))]
     except ValueError as fault:
-        raise Fault(f"{fault}. None was typed") from None
+        raise Fault(f"{fault}; nothing was typed") from None
     return send(session, acts, pane)
 
 
@@ -180,7 +180,7 @@ def send(session: SessionFolder, words: list[str], pane: int = 0) -> int:
     """Types acts, and keys by tmux's names, into a session, in a pane where one is named, and ends once it has taken all of them."""
     acts = [act for word in words for act in acts_named(word) or [word.replace("\n", "\\n")]]
     if not acts:
-        raise Fault("there is nothing to be typed")
+        raise Fault("there is nothing to type")
     focus = pane_places(session, pane).focus if pane else 0
     demand_acts(session, acts)
     demand_doable(session, [f"focus {pane}", *acts] if pane else acts)

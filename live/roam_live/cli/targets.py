@@ -22,7 +22,7 @@ WORD = LazyPattern(r"(?a)(?P<name>ssh:[^:]+:[^:.]+(?::[0-9a-f]{8})?|[^:.]*)(?::(
 # So many seconds a server has for closing a pane.
 CLOSES = 5.0
 
-NOWHERE = "no session is named, and this is no pane of one; `mux ls` lists them"
+NOWHERE = "name a session, since this is not a pane of one; `mux ls` lists them"
 
 
 class Target(NamedFields):
@@ -76,7 +76,7 @@ def pane_places(session: SessionFolder, pane: int) -> Places:
     """Where the panes of a session are, of which one is named; Fault where that isn't told, or it isn't there."""
     places = session.places()
     if places is None:
-        raise Fault(f"session {session.name}: where its panes are isn't told")
+        raise Fault(f"session {session.name}: its server does not report its panes")
     if pane not in places.rects:
         raise Fault(f"session {session.name} has no pane {pane}")
     return places
@@ -89,12 +89,13 @@ def making_of(session: SessionFolder, pane: int) -> tuple[int, int]:
             asked = AskedPanes(peer)
             asked.hear_all()
     except OSError as fault:
-        raise Fault(f"session {session.name}: where its panes are isn't told") from fault
+        raise Fault(f"session {session.name}: its server does not report its panes") from fault
     places = asked.told.places()
     number = pane or (places.focus if places else 0)
     generation = asked.told.generations.get(number, "")
     if not places or number not in places.rects or not generation.isdigit():
-        raise Fault(f"session {session.name} has no pane {number}" if places else f"session {session.name}: where its panes are isn't told")
+        why = f" has no pane {number}" if places else ": its server does not report its panes"
+        raise Fault(f"session {session.name}{why}")
     return number, int(generation)
 
 
@@ -122,9 +123,9 @@ def close_pane(session: SessionFolder, pane: int) -> None:
                 raise Fault(f"session {session.name} has no pane {pane}")
             peer.send(f"close {pane} {generation}\n".encode())
             if not is_closed(asked, pane, generation):
-                raise Fault(f"session {session.name}: pane {pane} isn't closed")
+                raise Fault(f"session {session.name}: pane {pane} was not closed")
     except OSError as fault:
-        raise Fault(f"session {session.name}: where its panes are isn't told") from fault
+        raise Fault(f"session {session.name}: its server does not report its panes") from fault
 
 
 def is_closed(asked: AskedPanes, pane: int, generation: str) -> bool:
@@ -135,7 +136,7 @@ def is_closed(asked: AskedPanes, pane: int, generation: str) -> bool:
         if lines is None:
             return False
         if "last pane" in lines:
-            raise Fault(f"pane {pane} is the last one, and goes with its session")
+            raise Fault(f"pane {pane} is the last one, and ends with its session")
         if pane not in asked.told.rects or asked.told.generations.get(pane) != generation:
             return True
     return False

@@ -12,9 +12,9 @@ if TYPE_CHECKING:
 
 SAME = "all sessions run this build"
 ADVICE = """\
-A session runs the build with which it began until it ends, also after roam was upgraded or removed.
-To move one to this build, end its programs and its session, and begin it again:"""
-FRONT_END = "A terminal that was attached before the upgrade has the new front end once it detaches and attaches."
+A session runs the build that started it until it ends, even after roam is upgraded or removed.
+To move a session to this build, end its programs, end it and start it again:"""
+FRONT_END = "A terminal that was attached before the upgrade gets the new front end when it detaches and attaches."
 
 
 def again(session: SessionFolder) -> str:

@@ -36,7 +36,7 @@ LEAVES = 5.0
 # A number of what is told has so many digits at most: it may come from another machine.
 MOST_DIGITS = 20
 
-ONE_WINDOW = "session {}: it was begun by hand, and has one window"
+ONE_WINDOW = "session {}: it was started by hand and has one window"
 
 
 class WindowsAsked:
@@ -48,7 +48,8 @@ class WindowsAsked:
         try:
             self.peer: socket.socket = connected_in(session.common / "host", CONNECTS)
         except OSError as fault:
-            raise Fault(f"session {session.name}: its pty host is not running: {reason(fault)}") from fault
+            why = f"its pty host is not running ({reason(fault)}); `mux {session.name}` restarts it"
+            raise Fault(f"session {session.name}: {why}") from fault
 
     def say(self, line: str, data: bytes = b"") -> None:
         """Says a line, and bytes behind it."""
@@ -69,7 +70,7 @@ class WindowsAsked:
                 if line.split(" ")[0] in begins:
                     return line.split(" ")
             if not comes(self.peer, max(0.0, end - time.monotonic())):
-                raise Fault(f"session {self.session.name}: the pty host doesn't answer")
+                raise Fault(f"session {self.session.name}: the pty host does not answer")
             heard = self.lines.read(self.peer.fileno())
             if heard is None:
                 raise Fault(f"session {self.session.name}: the pty host has ended")
@@ -173,7 +174,7 @@ def new_window(session: SessionFolder, name: str, begins: Begins | None = None) 
     words = asked.until(OPENED)
     number = number_in(words[1], MOST_WINDOWS) if len(words) == 2 else 0
     if not number:
-        raise Fault(f"session {session.whole_session().name}: no window is opened: {printable(' '.join(words[2:]))}")
+        raise Fault(f"session {session.whole_session().name}: cannot open a window: {printable(' '.join(words[2:]))}")
     if name:
         asked.say(WINDOWS)
         asked.until(WINDOWS)
@@ -185,7 +186,7 @@ def new_window(session: SessionFolder, name: str, begins: Begins | None = None) 
 def check_title(name: str) -> None:
     """Refuses what can't name a window."""
     if not name.isprintable() or len(name) > LONGEST_NAME or len(name.encode("utf-8", "replace")) > LONGEST_BYTES:
-        raise Fault(f"a window's name has {LONGEST_NAME} printable characters at most, and {LONGEST_BYTES} bytes")
+        raise Fault(f"a window's name has at most {LONGEST_NAME} printable characters and {LONGEST_BYTES} bytes")
 
 
 def rename(window: SessionFolder, name: str) -> int:
@@ -214,7 +215,7 @@ def shut(window: SessionFolder) -> int:
     end = time.monotonic() + ANSWERS
     while is_there(window, server):
         if time.monotonic() > end:
-            raise Fault(f"window {window.name} doesn't end")
+            raise Fault(f"window {window.name} did not end")
         time.sleep(0.01)
     return 0
 

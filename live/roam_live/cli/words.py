@@ -65,8 +65,7 @@ WORDS = {
         PREDICT,
         ONE_OR_MAIN,
     )),
-    "new": Word("attaching.new", "launches a session that isn't running, main where none is named, and attaches to it; options stand "
-                "before NAME", (
+    "new": Word("attaching.new", "start a session that is not running, main if none is named, and attach to it", (
         argument("-d", dest="is_detached", action="store_true", help="start no front end; options precede NAME"),
         PREDICT,
         ONE_OR_MAIN,

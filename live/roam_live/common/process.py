@@ -21,7 +21,7 @@ def program() -> str:
     for path in [FilePath(named)] if named else PLACES:
         if path.is_file() and os.access(path, os.X_OK):
             return str(path)
-    raise Fault(f"{named or PLACES[0]} isn't there; make builds it")
+    raise Fault(f"{named or PLACES[0]} does not exist; `make` builds it")
 
 
 def read_stat(process: int) -> list[str]:
@@ -125,7 +125,7 @@ def holder_of(folder: str | os.PathLike[str]) -> int | None:
             words = [line.split() for line in locks]
     except OSError as fault:
         if not is_absent(fault):
-            raise Fault(f"who holds {folder} can't be asked: {reason(fault)}") from fault
+            raise Fault(f"cannot find the process that locked {folder}: {reason(fault)}") from fault
         return None
     # A line has its number, the kind, two words more, the process, and the file's system and number.
     ours = [line[4] for line in words if len(line) > 5 and line[1] == "FLOCK" and line[5].endswith(f":{found.st_ino}")]

@@ -38,4 +38,4 @@ class Said:
         shown = self.decoder.decode(chunk[: self.left]).replace("\r", "").replace("\t", " ")
         self.left -= len(chunk)
         lines = "\n".join(map(printable, shown.split("\n")))
-        return lines if self.left >= 0 else f"{lines}\n[{self.limit} bytes were said; no more is shown]\n"
+        return lines if self.left >= 0 else f"{lines}\n[output limited to {self.limit} bytes]\n"

@@ -82,7 +82,7 @@ def connected_now(path: str | os.PathLike[str]) -> UnixSocket:
         peer.setblocking(False)
         peer.connect(str(path))
         if not is_own_peer(peer):
-            raise PermissionError(errno.EPERM, f"user {SocketPeer.of(peer).user} listens there, and not you", str(path))
+            raise PermissionError(errno.EPERM, f"user {SocketPeer.of(peer).user} listens there instead of you", str(path))
     except OSError:
         peer.close()
         raise
@@ -140,7 +140,7 @@ DEAF = 1.0
 def listening(path: str | os.PathLike[str]) -> UnixSocket:
     """A socket at which those who come are waited for; one that is left there is removed, but where somebody listens."""
     if is_listened(path):
-        raise Fault(f"somebody listens at {path} already")
+        raise Fault(f"another process already listens at {path}")
     try:
         os.unlink(path)
     except FileNotFoundError:

@@ -47,7 +47,7 @@ class Flags:
             word = rest.pop(0)
             for place, flag in enumerate(word[1:], 2):
                 if flag not in known or flag == ":":
-                    raise BadCommand(f"it has no -{printable(flag)} here")
+                    raise BadCommand(f"unknown flag -{printable(flag)}")
                 self.found[flag] = word[place:] or (rest.pop(0) if rest else "") if flag in valued else ""
                 if flag in valued:
                     break
@@ -56,7 +56,7 @@ class Flags:
     def demand_words(self, most: int = 0) -> None:
         """Refuses more words than so many: none that isn't done is passed over."""
         if len(self.words) > most:
-            raise BadCommand(f"it has no word {printable(self.words[most])[:40]}")
+            raise BadCommand(f"unexpected word {printable(self.words[most])[:40]}")
 
     def has(self, flag: str) -> bool:
         """Whether a flag stands there."""
@@ -67,7 +67,7 @@ class Flags:
         if not text:
             return default
         if not (text.isascii() and text.isdigit() and 0 < int(text[:9]) <= most):
-            raise BadCommand(f"{printable(text)[:40]} is no number from 1 to {most}")
+            raise BadCommand(f"{printable(text)[:40]} is not a number from 1 to {most}")
         return int(text)
 
 
@@ -104,10 +104,10 @@ def begun(wishes: dict[str, str], default: str) -> Callable[[Flags], CommandWish
         if len(begins.packed()) > MOST_BYTES:
             raise BadCommand(TOO_LONG)
         if any("\0" in part for part in (*begins.words, begins.folder)) or begins.words[:1] == [""]:
-            raise BadCommand("it has no such command")
+            raise BadCommand("the command is empty or contains a null character")
         title = begins.title
         if not title.isprintable() or len(title) > LONGEST_NAME or len(title.encode("utf-8", "replace")) > LONGEST_BYTES:
-            raise BadCommand(f"a name has {LONGEST_NAME} printable characters at most")
+            raise BadCommand(f"a name has at most {LONGEST_NAME} printable characters")
         return CommandWish([], word, "", begins=begins if begins != NOTHING else None)
     return read
 
@@ -115,7 +115,7 @@ def begun(wishes: dict[str, str], default: str) -> Callable[[Flags], CommandWish
 def folder_of(text: str) -> str:
     """The folder that -c names; nothing where that is the one in which it begins anyway."""
     if text != HERE and "#{" in text:
-        raise BadCommand(f"-c has a folder or {HERE} here")
+        raise BadCommand(f"-c takes a directory or {HERE}")
     return "" if text == HERE else text
 
 
@@ -147,7 +147,7 @@ def sized(flags: Flags) -> CommandWish:
         return CommandWish([], "zoom", "")
     side = next((side for flag, side in (("L", "left"), ("R", "right"), ("U", "up"), ("D", "down")) if flags.has(flag)), "")
     if not side:
-        raise BadCommand("it has -L, -R, -U, -D or -Z")
+        raise BadCommand("-L, -R, -U, -D or -Z is missing")
     return CommandWish([], f"border {side}", str(flags.number(flags.words[0] if flags.words else "", 1, 99)))
 
 
@@ -160,20 +160,20 @@ def split_sizes_of(flags: Flags) -> CommandWish:
 def keys_sent(flags: Flags) -> CommandWish:
     """Reads keys by their names, or texts, which are typed."""
     if len(flags.words) > MOST_WORDS or any(len(word) > LONGEST_TEXT for word in flags.words):
-        raise BadCommand(f"it has {MOST_WORDS} words of {LONGEST_TEXT} characters at most")
+        raise BadCommand(f"at most {MOST_WORDS} words of {LONGEST_TEXT} characters are allowed")
     try:
         acts = [acts_of(Key("text", word)) if flags.has("l") else acts_of_word(word) for word in flags.words]
     except ValueError as fault:
         raise BadCommand(str(fault)) from None
     if not any(acts):
-        raise BadCommand("it has keys or a text behind it")
+        raise BadCommand("keys or a text are missing")
     return CommandWish([act for some in acts for act in some], "", "")
 
 
 def bound(flags: Flags) -> CommandWish:
     """Reads what binds a key or unbinds one: the settings have the rest of that."""
     if not flags.words and not flags.has("a"):
-        raise BadCommand("it has a key")
+        raise BadCommand("a key is missing")
     return CommandWish([], "bind", "")
 
 
@@ -182,9 +182,9 @@ def texted(word: str, is_needed: bool = True) -> Callable[[Flags], CommandWish]:
     def read(flags: Flags) -> CommandWish:
         text = " ".join(flags.words)
         if len(text) > LONGEST_TEXT:
-            raise BadCommand(f"it has {LONGEST_TEXT} characters at most")
+            raise BadCommand(f"at most {LONGEST_TEXT} characters are allowed")
         if is_needed and not text:
-            raise BadCommand("it has a text behind it")
+            raise BadCommand("a text is missing")
         return CommandWish([], word, text)
     return read
 
@@ -249,7 +249,7 @@ def asked_by(words: list[str]) -> CommandWish:
     name, *rest = words
     command = BY_NAME.get(name)
     if not command:
-        raise BadCommand(f"{printable(name)[:40]} is no command of roam")
+        raise BadCommand(f"{printable(name)[:40]} is not a command of roam")
     try:
         return command.reads(Flags(rest, command.flags))._replace(words=words)
     except BadCommand as fault:

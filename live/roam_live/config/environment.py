@@ -72,7 +72,7 @@ def chosen_prefix() -> str:
     """The name of the prefix: that of the environment's ROAM_PREFIX, or of the option `prefix`, where one is there."""
     name = word_of("ROAM_PREFIX", "prefix", PREFIX)
     if name not in PREFIXES:
-        raise Fault(f"ROAM_PREFIX is {name!r}, and may be C-a to C-z, C-], C-\\, C-^ or C-_")
+        raise Fault(f"ROAM_PREFIX is {name!r}; it may be C-a to C-z, C-], C-\\, C-^ or C-_")
     return name
 
 
@@ -85,7 +85,7 @@ def chosen(variable: str, option: str, choices: tuple[str, ...], asked: str | No
     """What is asked for, else what a variable of the environment chooses, or an option, of these; the first of them where none is there."""
     name = asked or word_of(variable, option, choices[0])
     if name not in choices:
-        raise Fault(f"{variable} is {name!r}, and may be {', '.join(choices[:-1])} or {choices[-1]}")
+        raise Fault(f"{variable} is {name!r}; it may be {', '.join(choices[:-1])} or {choices[-1]}")
     return name
 
 
@@ -126,7 +126,7 @@ def chosen_history() -> int:
     where one is there."""
     word = word_of("ROAM_HISTORY", "history-limit", str(DEFAULT_ROWS))
     if not (word.isascii() and word.isdigit() and len(word) <= len(str(MOST_ROWS)) and int(word) <= MOST_ROWS):
-        raise Fault(f"ROAM_HISTORY is {word[:40]!r}, and may be 0 to {MOST_ROWS}")
+        raise Fault(f"ROAM_HISTORY is {word[:40]!r}; it may be 0 to {MOST_ROWS}")
     return int(word)
 
 

@@ -97,13 +97,13 @@ def read_format(text: str) -> Format:
         else:
             wrong.append(chunk[0])
     if len(text) > MOST_FORMAT:
-        wrong.append(f"what is behind {MOST_FORMAT} characters")
+        wrong.append(f"the text behind {MOST_FORMAT} characters")
     return Format(tuple(chunks), tuple(wrong), step)
 
 
 def unread(option: str, text: str) -> list[str]:
     """What of the format that an option has isn't there in roam, a line each."""
-    return [f"{option}: {printable(word)[:40]} isn't there in roam" for word in read_format(text).wrong]
+    return [f"{option}: roam does not support {printable(word)[:40]}" for word in read_format(text).wrong]
 
 
 def filled(read: Format, values: dict[str, str], now: float) -> list[Styled]:

@@ -85,26 +85,26 @@ class FileSettings:
     def text_of(self, path: str) -> str:
         """The text of a file that is the user's or root's and that nobody else may write; it is one of those that are open from now on."""
         if len(self.open) >= DEEPEST:
-            raise BadWord(f"isn't read: files name one another more than {DEEPEST} deep")
+            raise BadWord(f"not read: files include one another more than {DEEPEST} deep")
         if self.count >= MOST_FILES:
-            raise BadWord(f"isn't read: more than {MOST_FILES} files are named")
+            raise BadWord(f"not read: more than {MOST_FILES} files are included")
         try:
             end = os.open(path, os.O_RDONLY | os.O_NONBLOCK | os.O_CLOEXEC)
             try:
                 status = os.fstat(end)
-                why = refusal(status) or ("it is named within itself" if (status.st_dev, status.st_ino) in self.open else "")
+                why = refusal(status) or ("it includes itself" if (status.st_dev, status.st_ino) in self.open else "")
                 data = b"" if why else read_most(end)
             finally:
                 os.close(end)
         except (OSError, ValueError) as fault:
-            raise BadWord(f"can't be read: {reason(fault) if isinstance(fault, OSError) else 'no name of a file'}") from None
+            raise BadWord(f"cannot be read: {reason(fault) if isinstance(fault, OSError) else 'not a file name'}") from None
         try:
             found = data.decode("utf-8")
         except UnicodeDecodeError:
-            found, why = "", "it is no text in UTF-8"
-        why = why or ("it is larger than 1 MB" if len(data) > MOST_BYTES else "it is no text" if "\0" in found else "")
+            found, why = "", "it is not UTF-8 text"
+        why = why or ("it is larger than 1 MB" if len(data) > MOST_BYTES else "it is not text" if "\0" in found else "")
         if why:
-            raise BadWord(f"isn't read: {why}")
+            raise BadWord(f"not read: {why}")
         self.count += 1
         self.open.append((status.st_dev, status.st_ino))
         return found
@@ -138,14 +138,14 @@ class FileSettings:
         if word == "%if":
             stack.append(Branches(is_passed, holds))
         elif not stack:
-            self.tell(name, command.line, f"{word} has no %if before it")
+            self.tell(name, command.line, f"{word} without %if")
         elif word == "%endif":
             stack.pop()
         else:
             is_passed = True
             stack[-1].go_on(True if word == "%else" else holds)
         if word == "%if" and holds is None and not is_passed:
-            self.tell(name, command.line, "roam has no formats in %if: all up to its %endif is passed over")
+            self.tell(name, command.line, "roam does not support formats in %if: skipped up to its %endif")
 
     def tell(self, name: str, line: int, words: str) -> None:
         """Keeps what is told of a line, where it isn't kept yet and there is room."""
@@ -173,21 +173,21 @@ class FileSettings:
             variable, _, value = assigned.partition("=")
             self.environment[variable] = value
         else:
-            raise BadWord(f"{word[:40]} isn't there in roam")
+            raise BadWord(f"roam does not support {word[:40]}")
 
     def set_option(self, words: list[Word]) -> None:
         """Sets an option, for all: of one that is added to, unset, or set where it isn't."""
         flags, texts = flags_of(words, "t")
         if not texts or len(texts) > 2:
-            raise BadWord("set has a name and a value")
+            raise BadWord("set needs a name and a value")
         option, value = texts[0], texts[1] if len(texts) == 2 else None
         check = OPTIONS.get(option)
         if not check:
             if "q" in flags:
                 return
-            raise BadWord(f"{option[:40]} is no option of roam")
+            raise BadWord(f"{option[:40]} is not an option of roam")
         if "F" in flags:
-            raise BadWord(f"{option}: roam has no formats in values")
+            raise BadWord(f"{option}: roam does not support formats in values")
         if "u" in flags:
             self.values.pop(option, None)
         elif not ("o" in flags and option in self.values):
@@ -198,25 +198,25 @@ class FileSettings:
         if value is None and option in SWITCHES:
             value = "off" if self.values.get(option) == "on" else "on"
         if value is None:
-            raise BadWord(f"{option} has no value")
+            raise BadWord(f"{option} needs a value")
         if is_added and option in TEXTS:
             value = f"{self.values.get(option, '')}{value}"
         try:
             return OPTIONS[option](value)
         except BadWord as fault:
-            raise BadWord(f"{option} is {value[:40]!r}, and {fault}" if "may" in str(fault)[:4] else f"{option}: {fault}") from None
+            raise BadWord(f"{option} is {value[:40]!r}; it {fault}" if "may" in str(fault)[:4] else f"{option}: {fault}") from None
 
     def bind(self, words: list[Word]) -> None:
         """Binds a key."""
         flags, rest = flags_before(words, "TN")
         if not rest or not isinstance(rest[0], str):
-            raise BadWord("bind has a key and a command")
+            raise BadWord("bind needs a key and a command")
         key, commands = key_named(rest[0]), commands_of(rest[1:])
         if not commands:
-            raise BadWord(f"bind {rest[0][:40]} has no command")
+            raise BadWord(f"bind {rest[0][:40]} needs a command")
         unknown = next((words[0] for words in commands if self.known is not None and words[0] not in self.known), "")
         if unknown:
-            raise BadWord(f"{unknown[:40]} is no command of roam, so {rest[0][:40]} isn't bound")
+            raise BadWord(f"{unknown[:40]} is not a command of roam, so {rest[0][:40]} is not bound")
         self.bindings[table_of(flags), key] = Binding(commands, "r" in flags)
 
     def unbind(self, words: list[Word]) -> None:
@@ -227,7 +227,7 @@ class FileSettings:
             self.bindings = {place: binding for place, binding in self.bindings.items() if place[0] != table}
             self.bindings[table, "all"] = None
         elif len(texts) != 1:
-            raise BadWord("unbind has a key")
+            raise BadWord("unbind needs a key")
         else:
             self.bindings[table, key_named(texts[0])] = None
 
@@ -235,7 +235,7 @@ class FileSettings:
         """Has a command of the shell be run."""
         flags, texts = flags_of(words, "dtc")
         if len(texts) != 1 or "C" in flags:
-            raise BadWord("run-shell has one command of the shell")
+            raise BadWord("run-shell takes one shell command")
         self.runs.append(texts[0])
 
     def display(self, words: list[Word]) -> None:
@@ -247,7 +247,7 @@ class FileSettings:
         """Reads other files, which are named from the folder of this one, where they aren't named from the top."""
         flags, paths = flags_of(words, "t")
         if not paths:
-            raise BadWord("source has the name of a file")
+            raise BadWord("source needs a file")
         for path in paths:
             whole = os.path.join(os.path.dirname(name), path)
             found = sorted(glob.glob(whole))[: MOST_FILES + 1] if glob.has_magic(path) else [whole]
@@ -268,11 +268,11 @@ def read_most(end: int) -> bytes:
 def refusal(status: os.stat_result) -> str:
     """Why a file isn't read; nothing where it is."""
     if not stat.S_ISREG(status.st_mode):
-        return "it is no file of text"
+        return "it is not a regular file"
     if status.st_uid not in (0, os.getuid()):
-        return "it is another user's"
+        return "it belongs to another user"
     if status.st_mode & 0o022:
-        return "others may write it"
+        return "other users may write to it"
     return "it is larger than 1 MB" if status.st_size > MOST_BYTES else ""
 
 
@@ -297,7 +297,7 @@ def flags_of(words: list[Word], valued: str) -> tuple[dict[str, str], list[str]]
     """The flags before words that are texts, and these."""
     flags, rest = flags_before(words, valued)
     if any(isinstance(word, Block) for word in rest):
-        raise BadWord("a block between braces isn't taken here")
+        raise BadWord("a block in braces is not supported here")
     return flags, [str(word) for word in rest]
 
 
@@ -305,7 +305,7 @@ def table_of(flags: dict[str, str]) -> str:
     """The table of keys that flags name."""
     table = flags.get("T", ROOT if "n" in flags else PREFIXED)
     if table not in TABLES:
-        raise BadWord(f"roam has no table of keys {table[:40]}")
+        raise BadWord(f"roam has no key table {table[:40]}")
     return table
 
 
@@ -316,7 +316,7 @@ def commands_of(words: list[Word]) -> list[list[str]]:
     commands: list[list[str]] = [[]]
     for word in words:
         if isinstance(word, Block):
-            raise BadWord("a block between braces isn't taken here")
+            raise BadWord("a block in braces is not supported here")
         is_end = word.endswith(";") and not word.endswith("\\;")
         text = word[:-1] if is_end else word[:-2] + ";" if word.endswith("\\;") else word
         commands[-1] += [text] if text or not is_end else []
@@ -327,5 +327,5 @@ def commands_of(words: list[Word]) -> list[list[str]]:
 def is_nested(command: FileCommand) -> bool:
     """Whether a command has a block among its words, as those of conditions have."""
     if any(isinstance(word, Block) for word in command.words):
-        raise BadWord("a block within a block isn't taken here")
+        raise BadWord("a block within a block is not supported here")
     return False

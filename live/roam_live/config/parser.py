@@ -135,12 +135,12 @@ class SettingsReader:
     def block(self, depth: int) -> Block:
         """The block that begins here."""
         if depth > DEEPEST:
-            raise BadWord("braces stand too deep in one another")
+            raise BadWord("braces are nested too deep")
         line = self.line()
         self.at += 1
         commands = list(self.commands(depth))
         if self.next() != "}":
-            raise bad_word("a brace isn't closed", line)
+            raise bad_word("a brace is not closed", line)
         self.at += 1
         return Block(commands)
 
@@ -150,7 +150,7 @@ class SettingsReader:
         if letter == "'":
             end = self.text.find("'", self.at + 1)
             if end < 0:
-                raise BadWord("a quote isn't closed")
+                raise BadWord("a quote is not closed")
             begin, self.at = self.at + 1, end + 1
             return self.text[begin:end]
         if letter == '"':
@@ -172,7 +172,7 @@ class SettingsReader:
         while self.next() != '"':
             if not self.next():
                 self.at = begin
-                raise BadWord("a quote isn't closed")
+                raise BadWord("a quote is not closed")
             parts.append(self.plain())
         self.at += 1
         return "".join(parts)
@@ -205,7 +205,7 @@ class SettingsReader:
             self.at += 1
         name = self.text[begin : self.at]
         if is_braced and self.next() != "}" or not name and is_braced:
-            raise BadWord("a variable's name isn't closed")
+            raise BadWord("a variable's name is not closed")
         self.at += is_braced
         return self.environment.get(name, "") if name else "$"
 
@@ -237,7 +237,7 @@ def key_named(name: str) -> str:
     """A key by tmux's name for it, as it is known here."""
     key = named_key(name)
     if not key:
-        raise BadWord(f"{printable(name)[:40]} is no key that is known here")
+        raise BadWord(f"{printable(name)[:40]} is not a known key")
     return named(key)
 
 
@@ -273,7 +273,7 @@ def switch(value: str) -> Value:
 def text(value: str) -> Value:
     """The check of an option that is any printable text."""
     if len(value) > 1000 or printable(value) != value:
-        raise BadWord("may have 1,000 printable characters")
+        raise BadWord("may have at most 1,000 printable characters")
     return value
 
 

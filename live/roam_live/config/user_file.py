@@ -46,7 +46,7 @@ def take(found: FileSettings, path: str) -> None:
     for (table, key), binding in list(found.bindings.items()):
         why = next(filter(None, map(refused, binding.commands)), "") if binding else ""
         if why:
-            found.tell(path, 0, f"{key} isn't bound: {why}")
+            found.tell(path, 0, f"{key} is not bound: {why}")
             del found.bindings[table, key]
     choose_by_file(found.values)
 
@@ -94,7 +94,7 @@ class OwnSettings:
         for place, binding in found.bindings.items():
             why = next(filter(None, map(refused, binding.commands)), "") if binding and before.get(place) != binding else ""
             if why:
-                raise BadWord(f"{place[1]} isn't bound: {why}")
+                raise BadWord(f"{place[1]} is not bound: {why}")
         if self.found:
             self.found.bindings = found.bindings
         else:
@@ -120,7 +120,7 @@ def undone(found: FileSettings) -> list[str]:
     from roam_live.config.formats import SIDES, unread
 
     wrong = [line for side in SIDES for line in unread(f"status-{side}", str(found.values.get(f"status-{side}", "")))]
-    return [*found.told, *([f"{found.untold} more lines aren't told"] if found.untold else []), *wrong]
+    return [*found.told, *([f"{found.untold} more lines are not shown"] if found.untold else []), *wrong]
 
 
 def summary(found: FileSettings | None) -> str:

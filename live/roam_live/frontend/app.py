@@ -34,10 +34,10 @@ if TYPE_CHECKING:
 LEAST_WAIT = 0.1
 
 # What is said by one that another has detached.
-DETACHED = "[detached from elsewhere]"
+DETACHED = "[detached by another terminal]"
 
 # What is said besides of a paste that could not be handed over any more.
-UNPASTED = " what was pasted last isn't typed"
+UNPASTED = " the last paste was not typed"
 
 
 class FrontEnd:

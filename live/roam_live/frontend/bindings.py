@@ -165,7 +165,7 @@ def help_of(prefix: str, own: Own, is_typed: bool = False) -> str:
     by = f"roam.conf or {prefix} :bind" if is_typed else "roam.conf"
     lines = section(f"{prefix} and then, by {by}:", own, "prefix") + section(f"without it, by {by}:", own, "root")
     if ("prefix", ALL) not in own:
-        lines += [f"{prefix} and then, as roam has it:", *default_lines(own), f"  {prefix:{COLUMNS}} type {prefix} itself"]
+        lines += [f"{prefix} and then, by default:", *default_lines(own), f"  {prefix:{COLUMNS}} type {prefix} itself"]
     return "\n".join(lines)
 
 

@@ -28,7 +28,7 @@ if TYPE_CHECKING:
 SAID = 4.0
 MOST_LINES, LONGEST_LINE = 100, 1000
 MOST_RUNS, MOST_HEARD = 8, 1 << 16
-ELSEWHERE = "this session has no windows"
+ELSEWHERE = "this session has one window"
 
 
 class CommandLine(AskedLine):
@@ -177,7 +177,7 @@ class CommandRunner:
         reader = SettingsReader(text, dict(os.environ), lambda line, words: wrong.append(words))
         commands = list(reader.commands())
         if wrong or any(isinstance(word, Block) for command in commands for word in command.words):
-            self.tell(wrong[0] if wrong else "a block between braces isn't taken here")
+            self.tell(wrong[0] if wrong else "a block in braces is not supported here")
             return
         self.run_all([[str(word) for word in command.words] for command in commands])
 
@@ -244,8 +244,8 @@ class CommandRunner:
         """Runs a command of the shell beside, or in the background."""
         self.runs = [run for run in self.runs if not run.has_ended()]
         if len(self.runs) >= MOST_RUNS:
-            raise BadCommand(f"{MOST_RUNS} commands of the shell run, and no more")
+            raise BadCommand(f"{MOST_RUNS} shell commands are running already")
         try:
             self.runs.append(ShellRun(self.loop, text, lambda lines: self.show(lines, is_behind)))
         except (OSError, ValueError) as fault:
-            raise BadCommand(f"no shell can be run: {reason(fault) if isinstance(fault, OSError) else fault}") from None
+            raise BadCommand(f"cannot run a shell: {reason(fault) if isinstance(fault, OSError) else fault}") from None

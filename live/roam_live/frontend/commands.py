@@ -32,7 +32,7 @@ if TYPE_CHECKING:
     from roam_live.protocol.session_interface import AnySession
 
 # What is told of a paste that is begun in a window that is gone before its end.
-WINDOW_GONE = "nothing is pasted: its window is gone"
+WINDOW_GONE = "not pasted: its window is gone"
 
 # What waits in the loop for a window, and is nothing in another.
 OF_WINDOW = ("fit", "others", "size", "requested size", "motion", "border", "untold", "even", "zoom", "zoom left", "zoom comes",
@@ -236,7 +236,7 @@ class Commands:
         """Scroll the view that all share, and return True if that is possible."""
         if wish != "copy search" and self.acts.begin_scroll(wish == "copy page"):
             return True
-        self.display.row.tell("no rows are kept that could be shown")
+        self.display.row.tell("this pane has no stored rows")
         return False
 
     # ---- from window to window

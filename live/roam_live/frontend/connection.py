@@ -26,8 +26,8 @@ LOOKS = 1.0
 UNTAKEN = 2.0
 UNTAKEN_SILENTLY = 12.0
 
-NO_KEYS = "the server takes no keys; it may be out of memory"
-NOT_TAKEN = "no keys are taken: the server may be out of memory, or the client process be stopped"
+NO_KEYS = "the server accepts no keys; it may be out of memory"
+NOT_TAKEN = "no keys are accepted: the server may be out of memory, or the client process stopped"
 
 
 class UntakenLines:
@@ -166,7 +166,7 @@ class Connecting:
     def pause(self, said: str, wait: float) -> None:
         """Say what is in the way for so long."""
         self.views.acts.paused = wait >= 1
-        self.display.show(f"{said}; tried anew in {wait} s" + ("; C-c or q leaves" if wait >= 1 else ""))
+        self.display.show(f"{said}; next try in {wait} s" + ("; C-c or q leaves" if wait >= 1 else ""))
 
     def lost(self) -> None:
         """Go on without the connection, which is had again: at once for the first time, else after a pause that grows."""

@@ -34,10 +34,10 @@ REPORTED = (COLOUR, ANSWERED, MOUSE)
 
 # So many seconds others have for leaving, and a line stands that tells how many did.
 LEAVES_IN = 2.0
-OTHERS_STAY = "the others can't be detached: the pty host doesn't answer"
+OTHERS_STAY = "cannot detach the others: the pty host does not answer"
 
 # What is told of a key that is not bound.
-UNBOUND = "{0} {1} is not bound; {0} ? shows the keys"
+UNBOUND = "{0} {1} is not bound; {0} ? lists the keys"
 
 # What is done by a wish, by its first word, whoever wishes it; and what somebody who only watches may not wish.
 ANYBODY: dict[str, Callable[[Interpreter, Commands, str], object]] = {
@@ -199,7 +199,7 @@ class Interpreter:
 
     def pick_pane(self) -> None:
         """Have a digit be a pane's."""
-        self.display.row.tell(f"{self.display.row.labels}: a digit goes to the pane of this number", PICKS)
+        self.display.row.tell(f"{self.display.row.labels}: press a pane's number", PICKS)
         self.modes.push(PickingMode(time.monotonic()))
 
     def tell_unbound(self, asked: effects.TellUnbound) -> None:

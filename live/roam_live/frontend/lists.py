@@ -18,8 +18,8 @@ if TYPE_CHECKING:
 
 # So many seconds a line stands.
 TOLD = 2.0
-NONE_KEPT = "no buffer is kept"
-UNTOLD = "nothing is pasted: what keeps the buffers isn't connected"
+NONE_KEPT = "there are no buffers"
+UNTOLD = "not pasted: the pty host is not connected"
 
 # Where the connection to what keeps them is cut, as by a relay that goes another way, they are asked for again after so many seconds, while
 # it may be there soon.

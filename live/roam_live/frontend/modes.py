@@ -28,7 +28,7 @@ LIST_LEAVES = ("q", *LEAVES)
 WITH_META = {"\x1b[1;3A": "M-up", "\x1b[1;3B": "M-down", "\x1b[1;9A": "M-up", "\x1b[1;9B": "M-down"}
 
 # Why a paste is not typed that answers a question.
-NO_ANSWER = "nothing is pasted: a question was there"
+NO_ANSWER = "not pasted: a question was open"
 
 
 class Mode:

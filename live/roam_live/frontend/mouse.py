@@ -28,8 +28,8 @@ OTHER = "other"
 
 # So many seconds a line stands that tells who has the mouse.
 TOLD = 3.0
-ON = "the mouse focuses, scrolls and drags borders; {} m ends that"
-OFF = "the mouse selects text, but where a program has it"
+ON = "roam has the mouse: click, wheel, drag; {} m gives it back"
+OFF = "the mouse selects text, except in programs that use it"
 
 
 def inside(rect: Rect, place: Place) -> Place:

@@ -137,7 +137,7 @@ class OuterTerminal:
 
     def __init__(self) -> None:
         if not (os.isatty(0) and os.isatty(1)):
-            raise Fault("standard input and output have to be a terminal")
+            raise Fault("standard input and output must be a terminal")
         tty.demand_able()
         self.waiting = bytearray()
         # Whether its keypad sends the codes of applications.
@@ -159,7 +159,7 @@ class OuterTerminal:
         """Takes the terminal."""
         self.modes = tty.make_raw(0)
         if self.modes is None:
-            raise Fault("the terminal can't be made raw")
+            raise Fault("cannot switch the terminal to raw mode")
         self.is_taken = True
         self.write(self.outer_modes.keys_asked(is_first=True) + tty.ENTERED)
 

@@ -13,7 +13,7 @@ if TYPE_CHECKING:
     from roam_live.frontend.interfaces import OtherWindows
 
 # What is told where no pane is known that was in focus before.
-NO_LAST = "no other pane was in focus"
+NO_LAST = "no other pane was active before"
 
 
 class PaneActions:
@@ -55,11 +55,11 @@ class PaneActions:
         if places and pane and len(places.rects) == 1 and not self.windows().why_one():
             self.windows().grant("window shut")
         elif places and pane and len(places.rects) == 1:
-            self.acts.display.row.tell("the last pane goes with its shell, and the session with it")
+            self.acts.display.row.tell("the last pane ends with its shell, and the session with it")
         elif busy == {} or busy and pane and pane not in busy:
             self.acts.act("close")
         else:
-            runs = told({pane: busy[pane]}) if busy and pane else f"whatever runs in {f'pane {pane}' if pane else 'this pane'}"
+            runs = told({pane: busy[pane]}) if busy and pane else f"the program in {f'pane {pane}' if pane else 'this pane'}"
             self.acts.ask(f"close {runs}? y closes it", ClosePane(self.acts.session.number))
 
     def go(self, way: str) -> None:

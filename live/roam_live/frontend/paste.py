@@ -31,21 +31,21 @@ MOST_BEHIND = 1 << 16
 DROPS = 1.0
 
 # Why what is pasted isn't typed in each of several panes.
-ALONE = "pasted in the pane in focus alone: {}"
-NO_TEXTS = "the pty host takes no texts"
-NO_ROOM = f"for all panes it has more than {MOST_BYTES >> 20} MB"
+ALONE = "pasted into the active pane only: {}"
+NO_TEXTS = "the pty host accepts no texts"
+NO_ROOM = f"for all panes it exceeds {MOST_BYTES >> 20} MB"
 
 # The act of C-c, by which a person drops what waits.
 INTERRUPT = "char 3"
 
-NOT_TAKEN = "nothing is pasted: the pty host takes nothing"
-NOTHING = "nothing is pasted: {}"
-WAITS = "what is pasted waits: {}"
-DROPPED = "what was pasted and still waited is dropped"
-BEHIND_IT = "{}; what was typed behind it is dropped"
-FULL_BEHIND = "keys are dropped: too many wait behind what is pasted; C-c drops all that waits"
-LOST_WORDS = "what was pasted last is lost: the pty host ended, or had it for too long"
-TOO_LONG = f"nothing is pasted: it has more than {MOST_BYTES >> 20} MB, or waits behind others that have"
+NOT_TAKEN = "not pasted: the pty host accepts nothing"
+NOTHING = "not pasted: {}"
+WAITS = "the paste waits: {}"
+DROPPED = "the waiting pastes were dropped"
+BEHIND_IT = "{}; the input behind it was dropped"
+FULL_BEHIND = "keys were dropped: too many wait behind a paste; C-c drops all of them"
+LOST_WORDS = "the last paste was lost: the pty host ended, or it waited too long"
+TOO_LONG = f"not pasted: it exceeds {MOST_BYTES >> 20} MB, alone or with the pastes before it"
 
 
 class Behind:

@@ -20,19 +20,19 @@ MOST_LINES = 10
 
 # So many seconds after a growth was taken, of which nothing is told, it was refused.
 SETTLES = 0.25
-NO_PANE = "this border can't be moved: the panes at both sides are split themselves"
+NO_PANE = "this border cannot be moved: the panes on both sides are split"
 
 # The side opposite to each.
 OPPOSITE = {"left": "right", "right": "left", "up": "down", "down": "up"}
 
 # So many seconds a line stands that tells why shares aren't even.
 TOLD = 3.0
-NO_BORDER = {"right": "pane {} has no border at its left or right", "down": "pane {} has no border above or below it"}
-NO_ROOM = "this border is as far as it can be"
-STUCK = "shares are even, but at borders with panes on both sides that are split themselves"
-EVEN = "shares are even"
-UNTOLD = "the panes aren't told here"
-NO_FOCUS = "it isn't told yet which pane is in focus"
+NO_BORDER = {"right": "pane {} has no border on its left or right", "down": "pane {} has no border above or below it"}
+NO_ROOM = "this border cannot move further"
+STUCK = "space is divided evenly, except at borders between split panes"
+EVEN = "space is divided evenly"
+UNTOLD = "the server does not report its panes"
+NO_FOCUS = "the active pane is not known yet"
 
 
 def axis_of(side: str) -> str:

@@ -41,7 +41,7 @@ class SessionSize:
         if self.acts.link.is_read_only:
             return
         if not tty.is_large_enough(size):
-            self.acts.display.row.tell("a session has {} rows and {} columns at least".format(*tty.LEAST))
+            self.acts.display.row.tell("a session has at least {} rows and {} columns".format(*tty.LEAST))
             return
         self.request(tty.largest(size))
 
@@ -71,7 +71,7 @@ class SessionSize:
         self.forget()
         self.told(False)
         if requested and size not in (requested, NO_SIZE):
-            self.acts.display.row.tell("its panes have no room in {} by {}".format(*requested), FITS_TOLD)
+            self.acts.display.row.tell("{} by {} is too small for its panes".format(*requested), FITS_TOLD)
 
     def panes_changed(self) -> None:
         """Go by what is reported of the panes."""

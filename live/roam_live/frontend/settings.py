@@ -97,7 +97,7 @@ class StatusRow:
 
         read = read_format(text)
         if read.wrong:
-            raise ValueError(f"{read.wrong[0][:40]} isn't there in roam")
+            raise ValueError(f"roam does not support {read.wrong[0][:40]}")
         return "".join(one.text for one in filled(read, self.values(), time.time()))
 
 

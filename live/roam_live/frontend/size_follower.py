@@ -20,7 +20,7 @@ if TYPE_CHECKING:
 FITS_AGAIN = 0.3
 
 # What is told where the session gets this terminal's size since somebody types here.
-LATEST_TOLD = "sized to this terminal (window-size latest): what is wider was cut"
+LATEST_TOLD = "resized to this terminal (window-size latest): longer lines were cut"
 SIZED_TOLD = 2.0
 
 # For so many seconds a session is new, and goes by its terminal's size, whatever that is: a window may get its size once it is there.
@@ -98,7 +98,7 @@ class SizeFollower:
             self.size.ask()
         elif not sizes.is_smaller(own, size):
             key = f"{self.acts.modes.keymap.name} r"
-            self.acts.display.row.tell(f"{size[0]} by {size[1]}, as another terminal has it; {key} fits this one", FITS_TOLD)
+            self.acts.display.row.tell(f"{size[0]} by {size[1]}, the size of another terminal; {key} fits this one", FITS_TOLD)
         self.showed_all, self.left_size = False, NO_SIZE
 
     def follow_latest(self) -> None:

@@ -120,9 +120,9 @@ def place_at(at: Place, place: Place, extent: tty.Size, is_near: bool = False) -
 # ---- a zoom
 
 # Why a pane is not zoomed.
-UNTOLD = "nothing is zoomed where the panes aren't told"
+UNTOLD = "cannot zoom: the server does not report its panes"
 ONE = "pane {} is the only one, and fills the session"
-LARGER = "pane {} has {} by {}, more than this terminal shows: nothing is zoomed"
+LARGER = "cannot zoom: pane {} has {} by {}, more than this terminal"
 
 # What becomes of a zoom once the panes were reported: it ends and the session gets its size back, it is lost since somebody gave the
 # session another size, the front end asks for another size or shows the pane, or nothing changes.

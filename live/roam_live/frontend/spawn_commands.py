@@ -15,11 +15,11 @@ if TYPE_CHECKING:
 
     from roam_live.frontend.interfaces import OtherWindows
 
-NOBODY = "not run: the pty host isn't there just now"
-SILENT = "not run: the pty host is silent"
-NO_PANE = "not run: no pane came in its place"
-READ_ONLY = "a terminal that only watches runs nothing"
-NO_FOCUS = "which pane is in focus isn't known yet"
+NOBODY = "not run: the pty host is not connected"
+SILENT = "not run: the pty host does not answer"
+NO_PANE = "not run: no pane was created"
+READ_ONLY = "a read-only terminal runs no commands"
+NO_FOCUS = "the active pane is not known yet"
 
 # Where a person has just come it may not be known yet where the focus is, or no connection be there: it is looked again so soon.
 AGAIN = 0.02

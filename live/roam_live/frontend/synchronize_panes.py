@@ -38,9 +38,9 @@ HIDES = 1.0
 
 # So many seconds a line stands that tells what is so from now on.
 TOLD = 2.0
-OFF = "keys go to the pane in focus"
-ALONE = "pasted in the pane in focus alone: {}"
-UNTOLD = "keys go to the pane in focus: where the panes are isn't told"
+OFF = "keys go to the active pane"
+ALONE = "pasted into the active pane only: {}"
+UNTOLD = "keys go to the active pane: the server does not report its panes"
 
 
 def part(acts: list[str], pane: int) -> list[str]:
@@ -139,7 +139,7 @@ class Synchronizing:
             return []
         panes = self.panes()
         if not panes:
-            self.acts.display.row.tell(ALONE.format("where the panes are isn't told"), TOLD)
+            self.acts.display.row.tell(ALONE.format("the server does not report its panes"), TOLD)
         return panes if len(panes) > 1 else []
 
     def is_full(self) -> bool:

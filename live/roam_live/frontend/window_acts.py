@@ -81,8 +81,8 @@ class WindowActs:
     def unpasted(self) -> str:
         """Return why nothing is pasted now, "" if something is."""
         if self.link.is_read_only:
-            return "nothing is pasted: this terminal only watches"
-        return "nothing is pasted where the session isn't shown" if self.paused or self.display.notice else ""
+            return "not pasted: this terminal is read-only"
+        return "not pasted: the session is not shown" if self.paused or self.display.notice else ""
 
     def is_cut(self) -> bool:
         """Return True during an outage: the server is silent, or there is no connection to the pty host."""

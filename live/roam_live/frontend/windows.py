@@ -32,16 +32,16 @@ MOST_TEXT = 1 << 20
 
 # So many seconds a list of windows waits until it is told where the panes are, over one of which it stands.
 LISTS = 1.0
-NO_ROOM = "the list of windows has no room here"
+NO_ROOM = "there is no room for the list of windows"
 
 # So many seconds a line stands.
 SAID = 2.0
-LATE = "no window is opened yet: what keeps them is silent"
-DROPPED = "; keys for it are dropped"
-OPENING = "a window is opened; C-c doesn't wait for it"
-NOT_AWAITED = "a window may still come, and isn't waited for"
-SMALL = "a window has {} rows and {} columns at least".format(*LEAST)
-MANY = f"there are {MOST_WINDOWS} windows, and no more"
+LATE = "no window is open yet: the pty host does not answer"
+DROPPED = "; keys for it were dropped"
+OPENING = "opening a window; C-c stops waiting"
+NOT_AWAITED = "a window may still open; roam no longer waits for it"
+SMALL = "a window has at least {} rows and {} columns".format(*LEAST)
+MANY = f"a session has at most {MOST_WINDOWS} windows"
 
 
 class WindowOpening:
@@ -128,10 +128,10 @@ class WindowOpening:
         """Goes to a window that was opened, with what was typed for it; 0 where none was."""
         if not self.is_opening:
             # Nobody waits for it any more.
-            self.display.row.tell(f"window {number} is there now" if number else f"no window is opened: {why}", SAID)
+            self.display.row.tell(f"window {number} is open now" if number else f"cannot open a window: {why}", SAID)
             return
         if not number:
-            self.end_opening(f"no window is opened: {why}")
+            self.end_opening(f"cannot open a window: {why}")
             return
         # It isn't asked for again.
         self.opens = ""
@@ -142,13 +142,13 @@ class WindowOpening:
         held = self.held_keys()
         self.end_opening("")
         if self.stays:
-            self.display.row.tell(f"window {number} is there now", SAID)
+            self.display.row.tell(f"window {number} is open now", SAID)
         else:
             self.go_to(number)
         if self.stays or self.views.number == number:
             self.types(held)
         elif held:
-            self.display.row.tell(f"window {number} can't be shown{DROPPED}", SAID)
+            self.display.row.tell(f"cannot show window {number}{DROPPED}", SAID)
 
     def end_opening(self, why: str) -> None:
         """Waits for no window, and drops what was typed for it: in another window it would mean something else."""
@@ -203,10 +203,10 @@ def opened_by(line: str) -> tuple[int, str] | None:
     return (number, "") if number else None
 
 
-ONE = "no other window can be had here"
-FAR = f"{ONE}: the session there was begun by hand"
-BY_HAND = f"{ONE}: the session was begun by hand"
-NOBODY = "what keeps the windows isn't there just now"
+ONE = "there is only one window"
+FAR = f"{ONE}: the session there was started by hand"
+BY_HAND = f"{ONE}: the session was started by hand"
+NOBODY = "the pty host is not connected"
 
 
 class AskedName(AskedLine):
@@ -407,9 +407,9 @@ class WindowWishes:
         """Shuts the window where the person is: once that is confirmed, where something runs there, or it is the last."""
         number, busy = self.here(), self.views.acts.session.busy()
         is_last = self.numbers() in ([], [number])
-        runs = "" if busy == {} else f", with {told(busy)}" if busy else ", with whatever runs there"
+        runs = "" if busy == {} else f", with {told(busy)}" if busy else ", with its programs"
         if not runs and not is_last:
             self.say(f"shut {number}")
             return
-        end = " and end the session, whose last it is" if is_last else ""
-        self.views.acts.ask(f"shut window {number}{runs}{end}? y shuts it", SendRequest(f"shut {number}"))
+        end = " and the session, whose last it is" if is_last else ""
+        self.views.acts.ask(f"close window {number}{runs}{end}? y closes it", SendRequest(f"shut {number}"))

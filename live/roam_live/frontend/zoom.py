@@ -22,8 +22,8 @@ FOCUS_WAIT = 1.0
 
 # So many seconds a line stands that tells why nothing is zoomed.
 TOLD = 3.0
-REFUSED = "the session isn't as large as it would have to be: nothing is zoomed"
-OTHERS = "the session has another size now: nothing is zoomed any more"
+REFUSED = "cannot zoom: the session did not take the new size"
+OTHERS = "the zoom ended: the session has another size now"
 
 # Acts after which nothing is zoomed, beside those that put another pane in focus.
 ENDS = ("split", "close", "next", "grow", "size")

@@ -216,7 +216,7 @@ class WindowProcesses:
             environment = {name: value for name, value in os.environ.items() if name not in (PANE, SPARE_VARIABLE)}
             os.execve(words[0], words, {**environment, **({SPARE_VARIABLE: "1"} if self.is_spare() else {})})
         except OSError as fault:
-            say(f"window {self.number}: {words[0]} can't be run: {reason(fault)}")
+            say(f"window {self.number}: cannot run {words[0]}: {reason(fault)}")
         finally:
             os._exit(127)
 

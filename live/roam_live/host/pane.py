@@ -332,7 +332,7 @@ class PaneCommand:
         read all."""
         if not self.to_terminal.take(typed) and not self.is_dropping:
             self.is_dropping = True
-            say(f"{self.named}: what is typed isn't read there; above {UNREAD_LIMIT} bytes it is dropped")
+            say(f"{self.named}: its program does not read input; above {UNREAD_LIMIT} bytes it is dropped")
         if self.to_terminal.parts:
             self.write_terminal()
 

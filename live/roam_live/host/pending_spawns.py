@@ -18,8 +18,8 @@ if TYPE_CHECKING:
 MOST_WAITING = 8
 
 TOO_MANY = f"{MOST_WAITING} commands wait for their panes"
-NO_PANE = "the pane isn't there"
-BAD = "its words can't be read"
+NO_PANE = "the pane does not exist"
+BAD = "its words are invalid"
 
 
 class Handed(NamedFields):
@@ -68,7 +68,7 @@ class HandedCommands:
         if begins and not refusal:
             # Where it is relative it is so to the folder where that pane's program works.
             folder = begins.folder and os.path.join(self.folder_beside(beside[0]), os.path.expanduser(begins.folder))
-            refusal = "" if not folder or os.path.isdir(folder) else "the folder isn't there"
+            refusal = "" if not folder or os.path.isdir(folder) else "the directory does not exist"
             begins = begins._replace(folder=folder)
         if refusal or not begins:
             self.tells(peer, f"{RAN} {name} {REFUSED} {refusal}")

@@ -46,10 +46,10 @@ LAST_WAIT = 10.0
 # What shows the other screen (xterm, 1049).
 SHOWS_OTHER = b"\x1b[?1049h"
 
-BEHIND = "rows of history are lost: the scrollback process doesn't keep up"
-ENDED = "rows of history are lost: the scrollback process ended: {}; it is spawned again"
-SHORT = "rows of history are dropped: memory is short"
-NOT_RUN = "no rows of history are kept: {}; tried again"
+BEHIND = "scrollback rows were lost: the scrollback process is too slow"
+ENDED = "scrollback rows were lost: the scrollback process ended: {}; it is restarted"
+SHORT = "scrollback rows were dropped: memory is low"
+NOT_RUN = "no scrollback is stored: {}; tried again"
 
 
 # A session has nine panes a window at most, so that this many numbers are each one's.
@@ -71,7 +71,7 @@ def chosen_rows() -> tuple[int, str]:
     try:
         return chosen_history(), ""
     except Fault as fault:
-        return DEFAULT_ROWS, f"{fault}; {DEFAULT_ROWS} rows are kept of a pane"
+        return DEFAULT_ROWS, f"{fault}; {DEFAULT_ROWS} rows are stored for each pane"
 
 
 class PaneScrollback:

@@ -60,10 +60,10 @@ def head_of(line: bytes) -> tuple[str, int, int, int]:
     """What the line that begins a record says: its word, the terminal, how many rows, and how many bytes follow."""
     word, *rest = line.decode("ascii", "replace").split(" ")
     if len(rest) + 1 != WORDS.get(word) or not all(one.isascii() and one.isdigit() and len(one) <= 15 for one in rest):
-        raise BadRecord("it printed what is no record")
+        raise BadRecord("it printed an invalid record")
     numbers = [int(one) for one in rest] + [0, 0]
     if numbers[0] >= MOST_TERMINALS or word in (ROWS, SCREEN) and numbers[2] > MOST_RECORD:
-        raise BadRecord("it printed a record that can't be")
+        raise BadRecord("it printed an impossible record")
     return word, numbers[0], numbers[1], numbers[2] if word in (ROWS, SCREEN) else 0
 
 
@@ -114,14 +114,14 @@ class ScrollbackRecords:
             else:
                 found.append(self.made(data))
         if len(self.rest) >= LONGEST_LINE:
-            raise BadRecord("it printed a line that is longer than any")
+            raise BadRecord("it printed a line that is too long")
         return found
 
     def made(self, data: bytes) -> ScrollbackRecord:
         """A record with its bytes, which have as many rows as it says."""
         record = ScrollbackRecord(*self.head, data)
         if record.word in (ROWS, SCREEN) and (data.count(b"\n") != record.count or data[-1:] not in (b"", b"\n")):
-            raise BadRecord("it printed another number of rows than it said")
+            raise BadRecord("it printed a wrong number of rows")
         return record
 
 
@@ -227,7 +227,7 @@ class ScrollbackProcess:
         """Writes what it takes; where it takes nothing more its end is soon told."""
         self.join()
         if not write(self.input, self.waiting):
-            self.end("it took nothing more")
+            self.end("it stopped reading")
         self.is_due = self.is_due and bool(self.waiting)
         self.wrote()
 
@@ -275,7 +275,7 @@ class ScrollbackProcess:
 
     def fail(self, fault: Exception) -> None:
         """End the scrollback process after an exception: part of its input or output is lost."""
-        self.kill("memory is short" if isinstance(fault, MemoryError) else "there is a fault in what is done with it")
+        self.kill("memory is low" if isinstance(fault, MemoryError) else "an internal error")
 
     def kill(self, why: str) -> None:
         """Ends it, since it can't be gone on with."""

@@ -22,8 +22,8 @@ BESIDE = 256
 JOINED = 8192
 
 # What stands in the place of rows that are lost.
-LOST_ROWS = " [{} rows of history are lost here]\n"
-LOST_SOME = " [rows of history are lost here]\n"
+LOST_ROWS = " [{} rows were lost here]\n"
+LOST_SOME = " [rows were lost here]\n"
 
 
 # The header of a chunk as bytes: magic and version; the pane and its generation; the number of the first row; how many rows and bytes

@@ -90,7 +90,7 @@ class HostSocket:
         try:
             self.listener = Listener(self.loop, os.path.join(folder, "host"), self.take, self.has_room, lambda fault: None, True)
         except (Fault, OSError) as fault:
-            say(f"nobody can connect to this pty host: {reason(fault)}")
+            say(f"this pty host cannot accept connections: {reason(fault)}")
 
     def is_found(self) -> bool:
         """Return True if the socket is where it was bound."""

@@ -42,10 +42,10 @@ ROUSED, ROUSED_EACH = 2, 1.0
 # Messages after the host's socket was removed.
 MENDED = "the session's socket was removed, as by a cleaner of old files, and has been restored"
 UNMENDED = "the session's socket was removed and cannot be restored: {}"
-UNREAD = "{} isn't shown: the server doesn't read it, as where no descriptor is left for it"
+UNREAD = "{} is not shown: the server does not read it; it may have no free descriptor"
 ENDED = b"\r\n[ended]"
 NOT_CONNECTED = "[not run: {}; tried again]\r\n"
-NOT_FOLLOWED = "[no shell: the panes can't be followed: {}; tried again]\r\n"
+NOT_FOLLOWED = "[no shell: the server's panes are not reported: {}; tried again]\r\n"
 
 # What a program reads that asked for reports of the focus (xterm, 1004), where it comes and where it goes.
 FOCUS_IN, FOCUS_OUT = b"\x1b[I", b"\x1b[O"

@@ -19,9 +19,9 @@ MOST_OPENING = 4
 # For so many seconds a window is his who asks again for what he asked for when his connection was cut, as where a relay goes another way.
 ASKED_AGAIN = 5.0
 
-READ_ONLY = "a terminal that only watches opens none"
-TOO_MANY = f"{MOST_OPENING} are being opened"
-NOT_HANDED = "its command isn't there"
+READ_ONLY = "a read-only terminal opens none"
+TOO_MANY = f"{MOST_OPENING} windows are being opened"
+NOT_HANDED = "its command is missing"
 
 
 class AskedWindow:

@@ -45,7 +45,7 @@ APART = 1.0
 
 # What tells of a socket at which somebody may listen soon.
 SOON_THERE = (FileNotFoundError, ConnectionRefusedError, BlockingIOError)
-FULL = f"a session has {MOST_WINDOWS} windows at most"
+FULL = f"a session has at most {MOST_WINDOWS} windows"
 OVER = "the session ends"
 
 
@@ -167,7 +167,7 @@ class Windows:
         try:
             window.processes.note_name()
         except OSError as fault:
-            say(f"window {number}: its name isn't noted: {reason(fault)}")
+            say(f"window {number}: its name cannot be stored: {reason(fault)}")
         self.lines.tell_window(number)
         return True
 
@@ -223,7 +223,7 @@ class Windows:
     def taken(self, number: int, why: str) -> None:
         """Takes note of a window that was taken over, or couldn't be."""
         if not number:
-            say(f"a window of the host before can't be gone on with: {why}")
+            say(f"cannot take over a window of the previous pty host: {why}")
 
     def begin(self, window: HostedWindow) -> None:
         """Begins a window with its server."""
@@ -264,7 +264,7 @@ class Windows:
             # Its server may have been stopped.
             self.loop.later(f"window {window.number} begins", AGAIN, lambda: self.step(window))
         else:
-            self.fail(window, "its server or its client process doesn't come up")
+            self.fail(window, "its server or its client process did not start")
 
     def follow(self, window: HostedWindow) -> bool:
         """Follows a window's panes, and has its client spawned, once its server is there; whether that is so."""
@@ -327,7 +327,7 @@ class Windows:
 
     def fail(self, window: HostedWindow, why: str) -> None:
         """Leaves nothing of a window that can't be there, and tells why."""
-        say(f"window {window.number} can't be opened: {why}")
+        say(f"cannot open window {window.number}: {why}")
         told, window.told = window.told, lambda number, why: None
         self.end(window, is_meant=True)
         told(0, why)
@@ -423,7 +423,7 @@ class Windows:
         finally:
             self.common.close()
         if self.refusal:
-            raise Fault(f"no window can be opened: {self.refusal}")
+            raise Fault(f"cannot open a window: {self.refusal}")
         return 0
 
     def first(self, number: int, why: str) -> None:

@@ -46,12 +46,12 @@ TYPED_LIMIT = 1 << 24
 PASTED = "paste ; "
 
 # Why a link was lost.
-LOST = "the client process has ended; what was typed last may be lost"
-NO_MORE = "no more terminals are taken: 16 are there"
-LET_GO = "this terminal was let go; what was typed last may be lost"
-NO_RECORDS = "no client process sends display records there"
+LOST = "the client process ended; the last keys may be lost"
+NO_MORE = "16 terminals are attached; no more are accepted"
+LET_GO = "this terminal was disconnected; the last keys may be lost"
+NO_RECORDS = "the client process there sends no display records"
 REFUSED = "the client process refused a line"
-SILENT = "the client process tells nothing"
+SILENT = "the client process does not answer"
 
 # What an act begins with that goes to the program in the pane in focus.
 TYPES = ("char ", "key ")
@@ -317,7 +317,7 @@ class Reconnector:
         if not self.session.is_served():
             return self.failed(f"no server is {self.session}")
         if self.is_full():
-            return self.failed("the server has had the 64 clients of its life, and hears no other")
+            return self.failed("the server has used its 64 clients and accepts no more")
         return self.begin(now)
 
     def begin(self, now: float) -> tuple[float, str]:

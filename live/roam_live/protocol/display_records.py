@@ -49,7 +49,7 @@ def line_of(line: bytes) -> DisplayRecord:
     try:
         word, *rest = line.decode("utf-8").split(" ")
     except UnicodeDecodeError:
-        raise NoRecord("a line that isn't UTF-8") from None
+        raise NoRecord("a line that is not UTF-8") from None
     count = NUMBERS.get(word)
     if count is None:
         raise NoRecord(f"{word[:20]!r} begins no record")
@@ -108,7 +108,7 @@ class Records:
         try:
             line = self.kept.line()
         except LongLine:
-            raise NoRecord("a line that doesn't end") from None
+            raise NoRecord("a line without an end") from None
         return None if line is None else line_of(line)
 
 
@@ -131,7 +131,7 @@ def screen_of(data: bytes) -> Screen:
     try:
         head, *lines = data.decode("utf-8").split("\n")
     except UnicodeDecodeError:
-        raise NoRecord("a screen that isn't UTF-8") from None
+        raise NoRecord("a screen that is not UTF-8") from None
     words = head.split(" ")
     if len(words) != 5 or words[4] not in ("visible", "hidden"):
         raise NoRecord("a screen without its size")

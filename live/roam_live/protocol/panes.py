@@ -123,9 +123,9 @@ class Places(NamedFields):
         """Why the pane in focus can't be split that way; nothing where it can, or that isn't known."""
         here = self.rects.get(self.focus)
         if len(self.rects) >= MOST_PANES:
-            return f"there are {MOST_PANES} panes, and no more"
+            return f"a window has at most {MOST_PANES} panes"
         if here and (here.rows < ROOM[way][0] or here.cols < ROOM[way][1]):
-            return f"pane {self.focus} is too small to be split: {here.rows} by {here.cols}"
+            return f"pane {self.focus} is too small to split: {here.rows} by {here.cols}"
         return ""
 
 

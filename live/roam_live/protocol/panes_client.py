@@ -19,11 +19,11 @@ if TYPE_CHECKING:
 
     from roam_live.common.file_path import FilePath
 
-LET_GO = "the server lets this go, as where as many others follow the panes as may"
+LET_GO = "the server closed the connection; it may have 64 subscribers"
 
 # So many seconds a server has until it tells something: it may have taken none of those that came.
 QUIET = 3.0
-TELLS_NOTHING = "the server tells nothing, as where no descriptor is left for it"
+TELLS_NOTHING = "the server reports nothing; it may have no free descriptor"
 
 # A server that lets go who asks for texts for a clipboard is asked for them again after so many seconds.
 CLIPS_AGAIN = 60.0
@@ -39,8 +39,8 @@ MOST_PROBES = 4
 # seconds a front end takes it that it will be told.
 TRIES = 3
 AWAITED = 10.0
-NO_PANES = "where panes are isn't told: nobody listens at the socket panes; an arrow goes to the next pane"
-NO_PLACE = "no more may follow where panes are; an arrow goes to the next pane"
+NO_PANES = "the server does not report its panes (socket panes); an arrow goes to the next pane"
+NO_PLACE = "the server has 64 subscribers to its panes; an arrow goes to the next pane"
 
 # A server tells one for whom it has no place too where the panes are, and lets it go then: who met that goes by what is told once the
 # connection has stood for so many seconds.
@@ -186,7 +186,7 @@ class HostSubscription(Subscription):
         self.loop.drop(self.quiet)
         if self.told:
             self.told = ""
-            self.tells("the panes are followed again")
+            self.tells("the server reports its panes again")
         self.takes(lines)
 
     def lost(self, why: str) -> None:
@@ -199,7 +199,7 @@ class HostSubscription(Subscription):
     def tell(self, why: str) -> None:
         """Tells once why it can't follow."""
         if not self.told:
-            self.why, self.told = why, f"the panes can't be followed: {why}"
+            self.why, self.told = why, f"the server's panes are not reported: {why}"
             self.tells(self.told)
 
 

@@ -28,10 +28,10 @@ MOST_BUFFERS = 20
 MOST_BUFFER = 1 << 20
 MOST_COMING = 4 << 20
 SAMPLE = 40
-BUFFER_TOO_LONG = f"a buffer has {MOST_BUFFER >> 20} MB at most"
-BUFFER_EMPTY = "a buffer has a character at least"
-BUFFERS_TOO_MANY = "too many buffers come at once"
-BUFFER_READ_ONLY = "who watches has no buffer kept"
+BUFFER_TOO_LONG = f"a buffer has at most {MOST_BUFFER >> 20} MB"
+BUFFER_EMPTY = "a buffer has at least one character"
+BUFFERS_TOO_MANY = "too many buffers at once"
+BUFFER_READ_ONLY = "a read-only terminal stores no buffers"
 BUFFER_UNKNOWN = "no buffer has this number"
 BUFFER_NOTHING = "nothing of that buffer can be typed"
 

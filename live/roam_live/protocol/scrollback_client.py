@@ -214,7 +214,7 @@ class ScrollbackClient:
             return is_refusal
         word, told = self.asked.pop(0)
         if not is_refusal and word != words[0]:
-            raise BadAnswer(f"{words[0]} isn't what was asked for")
+            raise BadAnswer(f"{words[0]} is not the answer to the request")
         told(None if is_refusal or NONE in words[2:4] else answer)
         return True
 

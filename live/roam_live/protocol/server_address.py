@@ -7,7 +7,7 @@ import os
 from roam_live.common.process import program
 from roam_live.common.unix_socket import is_listened, unheard
 
-HOME = "a server is named by its folder, or by its port, 1 to 65535, and the session's id, 1 to 16 hexadecimal digits"
+HOME = "name a server by its directory, or by its port, 1 to 65535, and the session's id, 1 to 16 hexadecimal digits"
 
 
 def random_id() -> str:

@@ -17,7 +17,7 @@ WAITS = 2.0
 # What is told of one behind its name: it waits, it isn't taken, it has begun, or no pane came in time.
 READY, REFUSED, DONE, LATE = "ready", "refused", "done", "late"
 
-TOO_LONG = f"a command has {MOST_BYTES} bytes at most"
+TOO_LONG = f"a command has at most {MOST_BYTES} bytes"
 
 
 class Begins(NamedFields):

@@ -266,7 +266,7 @@ class Far:
         if not self.has_command():
             raise Ended(0)
         if not self.ways.path or not self.ways.path.place:
-            raise Fault(f"the other end has said nothing for {ALONE:.0f} s")
+            raise Fault(f"the other end has been silent for {ALONE:.0f} s")
         self.let_go()
 
     def renew(self) -> None:

@@ -232,7 +232,7 @@ class Streams(Generic[One]):
     def came_taken(one: One, count: int) -> None:
         """Takes note of how many bytes the reader at the other end has taken, in all."""
         if count > one.went:
-            raise BadStream(f"the other end has taken {count} bytes of a connection, and was sent {one.went}")
+            raise BadStream(f"the other end acknowledged {count} bytes of a connection's {one.went}")
         one.allowed = max(one.allowed, count + CREDIT)
 
 
@@ -285,13 +285,13 @@ class PipeStreams(Streams[ForwardedConnection]):
         if kind not in (OPEN, BYTES, END, TAKEN):
             return False
         if len(text) < NUMBER.size:
-            raise BadStream("a frame of a connection is cut")
+            raise BadStream("a connection's frame is truncated")
         number: int = NUMBER.unpack_from(text)[1]
         rest, one = text[NUMBER.size :], self.all.get(number)
         if kind == OPEN:
             self.take_open(number, rest)
         elif kind == TAKEN and len(text) != TAKEN_COUNT.size or kind == END and rest or kind == BYTES and not rest:
-            raise BadStream("a frame of a connection has another length than any")
+            raise BadStream("a connection's frame has an invalid length")
         elif one and kind == BYTES:
             self.take_bytes(one, rest)
         elif one and kind == END:
@@ -303,9 +303,9 @@ class PipeStreams(Streams[ForwardedConnection]):
     def take_open(self, number: int, name: bytes) -> None:
         """Takes a connection that the other end begins; above the most it is ended at once."""
         if not self.opens:
-            raise BadStream("the far end opens a connection")
+            raise BadStream("the far end opened a connection")
         if number in self.all or not number or not 0 < len(name) <= LONGEST_NAME:
-            raise BadStream("a connection is opened that can't be")
+            raise BadStream("an invalid connection was opened")
         is_room = self.has_room()
         self.make_room()
         one = self.all[number] = self.made(number)
@@ -318,5 +318,5 @@ class PipeStreams(Streams[ForwardedConnection]):
     def take_bytes(one: ForwardedConnection, text: bytes) -> None:
         """Takes bytes of a connection; more than may be here is no fault of a reader."""
         if one.came + len(text) > one.taken + CREDIT:
-            raise BadStream("the other end sent more of a connection than may be on its way")
+            raise BadStream("the other end exceeded a connection's window")
         one.take(text)

@@ -97,7 +97,7 @@ def read_greeting(source: int) -> str:
 def session_of(found: re.Match[bytes] | None) -> str:
     """The session that a greeting names."""
     if not found:
-        raise BadWords("the other end is no relay")
+        raise BadWords("the other end is not a relay")
     if int(found[1]) != VERSION:
         age = "an older" if int(found[1]) < VERSION else "a newer"
         raise BadWords(f"the other end is of {age} roam: its relay has version {int(found[1])}, and this one version {VERSION}")
@@ -110,7 +110,7 @@ def demand_length(peer: int, length: int) -> None:
         raise BadWords("the other end sent an empty frame")
     least, most = (SHORTEST, LONGEST) if peer else (1, MOST_TOLD)
     if not least <= length <= most:
-        raise BadWords(f"the other end sent a frame of {length} bytes, and {least} to {most} may be")
+        raise BadWords(f"the other end sent a frame of {length} bytes; {least} to {most} are allowed")
 
 
 def demand_told(text: bytes) -> None:
@@ -118,7 +118,7 @@ def demand_told(text: bytes) -> None:
     kind = text[:1]
     is_wrong = kind == HAD and len(text) != COUNT.size or kind == ENDED and text not in (ENDED, KILLED)
     if is_wrong or kind == PACKED and len(text) <= PACKED_HEAD.size:
-        raise BadWords(f"what the other end tells can't be read: {text[:16]!r}")
+        raise BadWords(f"the other end sent invalid data: {text[:16]!r}")
 
 
 def instruction_of(datagram: bytes) -> bytes:
@@ -368,16 +368,16 @@ class RelayStream:
             try:
                 self.coming += self.unpacker.decompress(chunk, UNPACKED)
             except zlib.error as fault:
-                raise BadWords("what the other end says can't be read") from fault
+                raise BadWords("the other end sent invalid data") from fault
             chunk = self.unpacker.unconsumed_tail
             yield from self._frames()
             if self.unpacker.eof:
-                raise BadWords("what the other end says has ended, and the other end hasn't")
+                raise BadWords("the other end's data ended, but the other end did not")
 
     def _acknowledge(self, count: int) -> None:
         """So many bytes have arrived."""
         if count > self.sent:
-            raise BadWords(f"the other end has had {count} bytes, and was sent {self.sent}")
+            raise BadWords(f"the other end acknowledged {count} bytes of {self.sent}")
         if count > self.acknowledged:
             self.acknowledged, self.moved = count, time.monotonic()
             self.said = {peer: said for peer, said in self.said.items() if said[1] > count}
@@ -388,7 +388,7 @@ class RelayStream:
         found = GREETING.search(self.coming)
         if not found:
             if len(self.coming) > NOISE_LIMIT:
-                raise BadWords("the other end is no relay")
+                raise BadWords("the other end is not a relay")
             return b""
         self.session = session_of(found)
         rest = bytes(self.coming[found.end() :])
@@ -436,5 +436,5 @@ class RelayStream:
         self.packed.clear()
         found = None if unpacked is None else parted(unpacked)
         if found is None or not all(map(is_datagram, found)):
-            raise BadWords("what the other end packed can't be read")
+            raise BadWords("the other end sent invalid compressed data")
         yield from ((peer, one) for one in found)

@@ -49,7 +49,7 @@ TOLD_WINDOWS = "windows told"
 
 # What a shell's status tells of a command that it hasn't found, and what may be done then.
 NOT_FOUND = 127
-NOT_THERE = ": roam isn't installed there, or --far has to name its roam-mux"
+NOT_THERE = ": roam is not installed there, or --far must name its roam-mux"
 
 
 def bound_port(port: int | None) -> socket.socket | None:
@@ -172,7 +172,7 @@ class Near:
         is_first = not self.has_answered
         self.drop(link)
         if is_first:
-            line = f"{shlex.join(self.asked.command)} ended with status {link.status()}, and hadn't answered"
+            line = f"{shlex.join(self.asked.command)} ended with status {link.status()} before it answered"
             line += NOT_THERE if link.status() == NOT_FOUND else ""
             if self.asked.owner or self.asked.alone is not None:
                 raise Fault(line)
@@ -186,8 +186,8 @@ class Near:
         now = time.monotonic()
         self.next_try = max(self.next_try, self.broken.add(now))
         if self.broken.are_too_many():
-            raise Fault(f"{fault}; the other end has said what can't be {MOST_BROKEN} times, and no other is spawned")
-        say(f"{fault}; another is spawned in {self.next_try - now:.0f} s")
+            raise Fault(f"{fault}; the other end has sent invalid data {MOST_BROKEN} times; giving up")
+        say(f"{fault}; next try in {self.next_try - now:.0f} s")
         self.drop(link)
 
     def look(self) -> None:

@@ -369,7 +369,7 @@ class NearWindows:
             self.windows[number] = NearWindow(window_folder(self.folder, number), name, self.loop, self.forwards,
                                               lambda folder: self.listens(folder, number), number)
         except (Fault, OSError) as fault:
-            say(f"window {number} can't be had here: {reason(fault)}")
+            say(f"cannot show window {number} here: {reason(fault)}")
 
     def drop(self, number: int) -> None:
         """Removes a window."""

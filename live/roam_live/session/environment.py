@@ -195,9 +195,9 @@ def asked_values(session: SessionFolder) -> dict[str, str]:
             peer.send(joined([ENVIRONMENT]))
             told = read_environment(peer, time.monotonic() + ASKED)
     except OSError as fault:
-        raise Fault(f"session {session.name}: its pty host is not running: {reason(fault)}") from fault
+        raise Fault(f"session {session.name}: its pty host is not running ({reason(fault)}); `mux {session.name}` restarts it") from fault
     if told is None:
-        raise Fault(f"session {session.name}: the pty host doesn't tell what new panes have")
+        raise Fault(f"session {session.name}: the pty host did not report the environment")
     return told.values
 
 

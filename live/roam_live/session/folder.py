@@ -119,7 +119,7 @@ class SessionFolder(Processes):
         """What is said where the process that serves it has ended, and the status: who ends it on purpose notes so before."""
         if self.met and end_words(*self.met) in self.whole_session().ended().splitlines():
             return "[the session has ended]", 0
-        return f"[the server was killed, or has failed, and its session is gone; {self.log} may tell why]", 1
+        return f"[the server was killed or failed, and its session is gone; {self.log} may say why]", 1
 
     def ended(self) -> str:
         """What is noted of an end: the process that served and when it began; nothing where nothing is."""
@@ -161,7 +161,7 @@ class SessionFolder(Processes):
     def demand(self) -> None:
         """Refuses where it doesn't run."""
         if not self.find():
-            raise Fault(f"no session {self.name} is running")
+            raise Fault(f"no session {self.name} is running; `mux ls` lists sessions")
 
     def note_found(self) -> None:
         """Notes again what was found by its sockets, where the note is lost; its lock is held."""
@@ -190,8 +190,8 @@ class SessionFolder(Processes):
         """Refuses where the server knows as many clients as it ever does."""
         places = self.places(ROOM_ASKED)
         if places and places.is_full():
-            raise Fault(f"session {self.name} has had the {MOST_CLIENTS} clients of its life, and hears no other; what runs in it "
-                        f"goes on, and `mux kill {self.name}` ends it")
+            raise Fault(f"session {self.name} has used its {MOST_CLIENTS} clients and accepts no more; its programs "
+                        f"keep running, and `mux kill {self.name}` ends it")
 
     def demand_client(self) -> None:
         """Sees that the client of this machine's terminals runs, and is ready."""
@@ -225,7 +225,7 @@ class SessionFolder(Processes):
         """Removes what a session that doesn't run any more left, but for its log and the note of its end. Where somebody answers still
         nothing is removed."""
         if self.is_served():
-            raise Fault(f"somebody answers at {self.folder / 'clients'}; nothing is removed there")
+            raise Fault(f"a process answers at {self.folder / 'clients'}; nothing was removed there")
         relays = self.folder / "relays"
         notes = [self.folder / name for name in (*SOCKETS, LINK, REMOTE_CLIENTS, "session", "session.new", "state.json")]
         for path in [*(relays.iterdir() if relays.is_dir() else ()), *notes]:
@@ -336,5 +336,5 @@ def many_clients(found: Iterable[Places | None]) -> str:
     places = max((one for one in found if one), key=lambda one: one.clients, default=None)
     if not places or places.clients <= MANY_CLIENTS:
         return ""
-    warning = ", new ones of this machine alone are taken" if places.warning() else ""
-    return f", {places.clients} of {MOST_CLIENTS} clients{', no other is taken' if places.is_full() else warning}"
+    warning = ", only this machine gets new ones" if places.warning() else ""
+    return f", {places.clients} of {MOST_CLIENTS} clients{', no more are accepted' if places.is_full() else warning}"

@@ -40,9 +40,9 @@ class FrontEndLock:
 def opened(folder: str | os.PathLike[str]) -> int | None:
     """Return the open file that a front end locks; None if it can't be had, which is said."""
     if not os.path.isdir(folder):
-        raise Fault(f"{folder} is no folder")
+        raise Fault(f"{folder} is not a directory")
     if not is_own_folder(folder):
-        say(f"{folder} is not a folder of yours: nothing is logged there")
+        say(f"{folder} is not a directory of yours: nothing is logged there")
         return None
     log_to(folder)
     path = os.path.join(folder, FRONT_ENDS)

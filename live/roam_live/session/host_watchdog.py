@@ -22,7 +22,7 @@ PAUSES = (0.3, 1, 2, 4, 8, 15)
 # comes of that.
 LOOKS = 4.0
 LOOKED = "host is stopped"
-STOPPED = "the pty host is stopped; what is typed waits for it"
+STOPPED = "the pty host is stopped; input waits for it"
 
 
 class HostWatchdog:
@@ -71,11 +71,11 @@ class HostWatchdog:
         try:
             if self.session.revive_host():
                 self.follow()
-                self.tells("the shells had ended: new ones are there, and what was typed meanwhile is dropped")
+                self.tells("the pty host was restarted: the shells are new, and input typed in between was dropped")
                 return
         except (Fault, OSError) as fault:
             why = reason(fault).removeprefix(f"session {self.session.name}: ")
-            self.tells(f"the shells have ended: {why}; tried again in {self.wait()} s")
+            self.tells(f"the shells have ended: {why}; next try in {self.wait()} s")
             return
         # Another spawns them just now, or the session has ended.
         self.loop.later("host", PAUSES[1], self.revive)
@@ -89,4 +89,4 @@ class HostWatchdog:
         self.retry.ends(time.monotonic())
         pause = self.wait()
         if self.retry.faults > 1:
-            self.tells(f"the pty host ended again; it is spawned anew in {pause} s")
+            self.tells(f"the pty host ended again; it is restarted in {pause} s")

@@ -69,8 +69,7 @@ class LocalSession(SessionFolder):
             return named
         there = self.windows()
         if not there and self.runs(self.served):
-            raise Fault(f"session {self.name} runs, and nothing is left by which its windows are found, as where a cleaner removed it; "
-                        "what keeps them makes that anew within a minute")
+            raise Fault(f"session {self.name} runs, but its files were removed; its pty host restores them within a minute")
         if not there:
             raise Fault(f"session {self.name} has ended")
         last = self.last()
@@ -238,7 +237,7 @@ class Window(SessionFolder):
         if number in (None, self.number or 1):
             return self
         if not self.session:
-            raise Fault(f"session {self.name} has one window, as one that was begun by hand, and no window {number}")
+            raise Fault(f"session {self.name} was started by hand and has one window; there is no window {number}")
         return self.session.window(number)
 
     def spawn_server(self) -> None:
@@ -299,7 +298,7 @@ class Window(SessionFolder):
 
     def launch(self, command: Iterable[str] = ()) -> None:
         """Refuses: the pty host opens them."""
-        raise Fault(f"session {self.whole_session().name}: what keeps its windows opens them")
+        raise Fault(f"session {self.whole_session().name}: only its pty host opens windows")
 
     def demand_client(self) -> None:
         """Sees that the client of this machine's terminals runs, and is ready; what was found by its sockets is noted again."""

@@ -22,11 +22,11 @@ def session_named(name: str) -> SessionFolder:
     if not is_near_name(name):
         session = LocalSession.named(name)
         if is_by_hand(session.folder):
-            raise Fault(f"{session.folder} has a server that was started by hand, and is no session of mux; `live/attach` of it attaches")
+            raise Fault(f"{session.folder} belongs to a server that was started by hand; `roam-attach {session.folder}` attaches to it")
         return session
     near = RemoteSession(base() / name, name)
     if not near.folder.is_dir():
-        raise Fault(f"no session {name} is here")
+        raise Fault(f"no session named {name}; `mux ls` lists sessions")
     return near
 
 

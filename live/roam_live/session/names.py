@@ -33,9 +33,9 @@ def runtime_folder() -> FilePath | None:
         return None
     if os.path.isdir(chosen) and os.stat(chosen).st_uid == os.getuid():
         if os.stat(chosen).st_mode & 0o022:
-            raise Fault(f"XDG_RUNTIME_DIR is {chosen}, which others may write; `chmod go-w` on it, or another, is needed")
+            raise Fault(f"other users may write to XDG_RUNTIME_DIR, {chosen}; run `chmod go-w` on it, or set another")
         return FilePath(os.path.join(chosen, "roam"))
-    say(f"XDG_RUNTIME_DIR is {chosen}, which is no folder of yours; /tmp has the sessions")
+    say(f"XDG_RUNTIME_DIR is {chosen}, which is not a directory of yours; using /tmp instead")
     return None
 
 
@@ -61,7 +61,7 @@ def made_base() -> FilePath:
     except OSError as fault:
         raise Fault(f"{path}: {fault.strerror}") from fault
     if not stat.S_ISDIR(found.st_mode) or found.st_uid != os.getuid() or found.st_mode & 0o077:
-        raise Fault(f"{path} has to be a folder that you own and nobody else may enter")
+        raise Fault(f"{path} must be a directory of yours that nobody else may enter")
     return path
 
 
@@ -78,7 +78,7 @@ def is_near_name(word: str) -> bool:
 def check_name(name: str) -> None:
     """Refuses what can't name a session."""
     if not is_name(name):
-        raise Fault(f"{name!r} is no name: letters, digits, - and _, 32 at most")
+        raise Fault(f"{name!r} is not a valid name: use at most 32 letters, digits, - and _")
 
 
 # What lies in a window's folder while its server only stands ready.
@@ -128,7 +128,7 @@ def numbers_in(folder: str) -> list[int]:
         return sorted(int(name) for name in os.listdir(folder) if is_number(name))
     except OSError as fault:
         if not is_absent(fault):
-            raise Fault(f"{folder} can't be read: {reason(fault)}") from fault
+            raise Fault(f"cannot read {folder}: {reason(fault)}") from fault
         return []
 
 

@@ -38,7 +38,7 @@ class PortSession:
     def window(self, number: int | None = None) -> PortSession:
         """It alone is known."""
         if number is not None:
-            raise Fault(f"of {self} no other window can be had")
+            raise Fault(f"there is only one window {self}")
         return self
 
     def read(self) -> None:

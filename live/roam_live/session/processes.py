@@ -165,7 +165,7 @@ class Processes:
     def demand_read(self) -> None:
         """Refuses where the note couldn't be read: what isn't known may be there."""
         if self.unread:
-            raise Fault(f"{self.note} can't be read: {self.unread}; nothing is done there")
+            raise Fault(f"cannot read {self.note}: {self.unread}; nothing was changed there")
 
     def process(self, role: str) -> int | None:
         """The process of a role; None where none runs."""
@@ -195,13 +195,13 @@ class Processes:
             with connected_in(path, ASK_WAIT) as end:
                 process = SocketPeer.of(end).process
         except BlockingIOError as fault:
-            raise Fault(f"somebody listens at {path} and takes no connection; nothing is done there") from fault
+            raise Fault(f"a process listens at {path} and accepts no connection; nothing was changed there") from fault
         except OSError as fault:
             if not is_absent(fault):
-                raise Fault(f"who listens at {path} can't be asked: {reason(fault)}; nothing is done there") from fault
+                raise Fault(f"cannot find the process that listens at {path}: {reason(fault)}; nothing was changed there") from fault
             return None
         if not process:
-            raise Fault(f"who listens at {path} is no process of this machine's own list; nothing is done there")
+            raise Fault(f"the process that listens at {path} is not in /proc; nothing was changed there")
         return process
 
     # ---- the lock
@@ -229,7 +229,7 @@ class Processes:
         while True:
             self.folder.mkdir(mode=0o700, exist_ok=True)
             if not is_own_folder(self.folder):
-                raise Fault(f"{self.folder} is no folder of yours")
+                raise Fault(f"{self.folder} is not a directory of yours")
             # Who removes the folder may do so just now.
             with suppress(FileNotFoundError):
                 return os.open(self.folder / "lock", os.O_RDWR | os.O_CREAT | os.O_CLOEXEC | os.O_NOFOLLOW, 0o600)
@@ -254,7 +254,7 @@ class Processes:
             if time.monotonic() > end:
                 break
             time.sleep(0.02)
-        say(f"waiting for another that launches what belongs to {self.folder}")
+        say(f"waiting for another process that starts parts of {self.folder}")
         fcntl.flock(lock, fcntl.LOCK_EX)
 
     # ---- what is spawned
@@ -270,7 +270,7 @@ class Processes:
             parts()
             self.note_own(role)
 
-        refused = f"session {self.name}: {ROLES[role].said} can't be spawned"
+        refused = f"session {self.name}: {ROLES[role].said} cannot be started"
         try:
             self.write_note()
             make_room(self.log)
@@ -282,7 +282,7 @@ class Processes:
             where = f"{fault.filename}: " if fault.filename else ""
             raise Fault(f"{refused}: {where}{reason(fault)}") from fault
         except subprocess.SubprocessError as fault:
-            raise Fault(f"{refused}: it can't be noted in {self.note}{self.unnoted()}") from fault
+            raise Fault(f"{refused}: it cannot be recorded in {self.note}{self.unnoted()}") from fault
         self.state = {**(self.state or {}), role: [process.pid, begun(process.pid)]}
         self.own[role] = process
         return process
@@ -338,7 +338,7 @@ class Processes:
             time.sleep(0.005)
         process.kill()
         process.wait()
-        raise Fault(f"session {self.name}: {ROLES[role].said} didn't come up: {self.said(before) or f'nothing is said; see {self.log}'}")
+        raise Fault(f"session {self.name}: {ROLES[role].said} did not start: {self.said(before) or f'no message; see {self.log}'}")
 
     # ---- ends
 

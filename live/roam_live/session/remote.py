@@ -60,7 +60,7 @@ class RemoteSession(SessionFolder):
         there = self.windows()
         named = [window for window in there if window.number == number or number is None and self.is_own(window)]
         if not named and number is not None:
-            one = "has one window here, as one that was begun by hand there, and no window"
+            one = "was started by hand there and has one window; there is no window"
             why = f"has no window {number}" if there[0].number else f"{one} {number}"
             raise Fault(f"session {self.whole_session().name} {why}")
         return (named or there)[0]
@@ -103,7 +103,7 @@ class RemoteSession(SessionFolder):
 
     def launch(self, command: Iterable[str] = ()) -> None:
         """Refuses: how ssh is called isn't known."""
-        raise Fault(f"no relay to {self.whole_session().name} is running; `mux ssh` launches one")
+        raise Fault(f"no relay to {self.whole_session().name} is running; `mux ssh` starts one")
 
     def launch_relay(self, command: list[str], host: str = "") -> int:
         """Starts a relay over a command, which may ask at this terminal until it has answered, and by UDP to a host, where one is named;
@@ -130,12 +130,12 @@ class RemoteSession(SessionFolder):
         if self.session:
             return self.session.ending()
         if self.met and end_words(*self.met) in self.ended().splitlines():
-            return "[the relay was ended; the session goes on at the other machine]", 0
+            return "[the relay was ended; the session keeps running on the other machine]", 0
         if self.ended() == "killed":
-            return "[the server was killed, or has failed, and its session is gone]", 1
+            return "[the server was killed or failed, and its session is gone]", 1
         if (self.folder / "ended").exists():
             return "[the session has ended]", 0
-        return f"[the relay has ended; {self.log} tells why]", 1
+        return f"[the relay has ended; see {self.log}]", 1
 
     def end_all(self) -> None:
         """Ends the relay, and the client processes of all windows."""

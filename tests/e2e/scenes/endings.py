@@ -39,7 +39,8 @@ def killed(folder):
     check("and the shell", comes(lambda: not pathlib.Path(f"/proc/{shell}").exists()), shell)
     check("no session is left then", listed() == [], listed())
     run = subprocess.run(tool("mux", "kill", "other"), stderr=subprocess.PIPE, check=False)
-    check("what isn't there is said in one line", (run.returncode, run.stderr) == (1, b"mux: no session other is running\n"), run)
+    told = (run.returncode, run.stderr)
+    check("what isn't there is said in one line", told == (1, b"mux: no session other is running; `mux ls` lists sessions\n"), run)
 
 
 @scene
@@ -262,7 +263,7 @@ def not_started(outer, host):
     for keys in (b"\x02x", b"x"):
         with limited(host, resource.RLIMIT_NOFILE, first_free(host)):
             outer.type(b'\x02"')
-            check("a pane whose shell can't be spawned says so", outer.shows("[not run: "), outer.rows)
+            check("a pane whose shell cannot be started says so", outer.shows("[not run: "), outer.rows)
         outer.type(keys)
         # So soon there is a descriptor again by which a pane says what it hasn't.
         time.sleep(1)
@@ -292,7 +293,7 @@ def host(folder):
     host = noted("other")["host"][0]
     os.kill(host, signal.SIGKILL)
     outer.type(b"echo los''t\r")
-    check("the end of the pty host is told", outer.status("the shells had ended"), outer.rows)
+    check("the end of the pty host is told", outer.status("the pty host was restarted"), outer.rows)
     outer.type(b"echo al''so\r")
     check("another is spawned", comes(lambda: noted("other")["host"][0] != host) and outer.shows("[a new shell; "), outer.rows)
     check("with a shell", outer.shows("$ "), outer.rows)

@@ -68,7 +68,7 @@ def installed(folder):
     shutil.rmtree(prefix)
     goes_on(outer, 2)
     outer.type(b"\x02c")
-    check("without its files no window is opened, and that is said", outer.shows("no window is opened"), outer.rows)
+    check("without its files no window is opened, and that is said", outer.shows("cannot open a window"), outer.rows)
     outer.type(b"\x02d")
     check("and the terminal is given back", outer.ends() and outer.is_restored(), outer.rows)
     told = said("ls")

@@ -162,7 +162,7 @@ def ssh_words(folder, far, asked):
 def is_asked(outer):
     """Whether C-b x asks whether pane 2 is closed: for a moment after another way carries all it isn't known which is in focus."""
     outer.type(b"\x02x")
-    holds = outer.status("close whatever runs in pane 2? y closes it", 2)
+    holds = outer.status("close the program in pane 2? y closes it", 2)
     outer.type(b"" if holds else b"n")
     return holds
 

@@ -172,7 +172,7 @@ def mouse_of_roam(folder):
     """With C-b m a click focuses a pane, the wheel scrolls a shell's and sends arrows on the other screen, and a border is dragged."""
     outer = three_panes(environment=KEEPS_NONE)
     outer.type(b"\x02m")
-    check("C-b m tells that roam has the mouse", outer.status("the mouse focuses, scrolls and drags borders; C-b m ends that"), outer.rows)
+    check("C-b m tells that roam has the mouse", outer.status("roam has the mouse: click, wheel, drag; C-b m gives it back"), outer.rows)
     check("and has the terminal asked", asks(outer, ASKED["drags"], 0), bytes(outer.written[-200:]))
     for place, label in (((3, 60), " 1 [2] 3 "), ((20, 60), " 1  2 [3]"), ((20, 10), "[1] 2  3 ")):
         click(outer, *place)
@@ -197,7 +197,7 @@ def mouse_of_roam(folder):
     outer.type(b"q")
     dragged(outer)
     outer.type(b"\x02m")
-    check("C-b m again gives the mouse back", outer.status("the mouse selects text, but where a program has it"), outer.rows)
+    check("C-b m again gives the mouse back", outer.status("the mouse selects text, except in programs that use it"), outer.rows)
     is_off = comes(lambda: bytes(outer.written).rfind(OFF) > bytes(outer.written).rfind(b"?1002h"))
     check("and the terminal isn't asked", is_off, bytes(outer.written[-200:]))
 

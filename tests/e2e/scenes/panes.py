@@ -82,7 +82,7 @@ def leaving(folder):
     before_it = again.written.count(tty.CLEARED)
     os.kill(noted(SESSION)["client"][0], signal.SIGKILL)
     check("a killed client process is followed by another", comes(lambda: again.written.count(tty.CLEARED) > before_it), again.rows)
-    check("which is told", again.status("the client process has ended; what was typed last may be lost"), again.rows)
+    check("which is told", again.status("the client process ended; the last keys may be lost"), again.rows)
     check("which shows the same", comes(lambda: again.rows() == before), again.rows)
     again.type(b"echo aft''er\r")
     check("and types", again.shows("after"), again.rows)
@@ -163,7 +163,7 @@ def drawn_smaller(outer):
 def covered(outer):
     """What stands in place of the session, and what is scrolled back, and the way out of both."""
     outer.type(b"clear\r\x02?")
-    check("C-b ? shows the keys", outer.shows("C-b itself"), outer.rows)
+    check("C-b ? lists the keys", outer.shows("C-b itself"), outer.rows)
     outer.type(b"x")
     check("a key ends that", outer.status("[1] 2  3"), outer.rows)
     outer.type(b"for k in 1 2 3 4 5 6; do echo $k$k$k; done; seq 100; echo en''d\r")
@@ -291,9 +291,9 @@ def told(folder):
     """What a person asks for that can't be had is told for a second, in the last row."""
     outer = Outer(tool("mux", "other"), environment=KEEPS_NONE)
     outer.shows("$ ")
-    means = "is not bound; C-b ? shows the keys"
+    means = "is not bound; C-b ? lists the keys"
     outer.type(b"\x02x")
-    asked = "shut window 1 and end the session, whose last it is? y"
+    asked = "close window 1 and the session, whose last it is? y"
     check("the last pane's close is the session's end, and asked for", outer.status(asked), outer.rows)
     outer.type(b"n")
     for keys, text in ((b"\x02Z", f"C-b Z {means}"), (b"\x02\x01", f"C-b C-a {means}"), (b"\x02\x1b1", f"C-b M-1 {means}")):
@@ -305,7 +305,7 @@ def told(folder):
     comes(lambda: listed()[1:4] == ["4", "by", "80"])
     outer.shows("$ ")
     outer.type(b'\x02"')
-    check("a split that is too small is told of", outer.status("pane 1 is too small to be split: 4 by 80"), outer.rows)
+    check("a split that is too small is told of", outer.status("pane 1 is too small to split: 4 by 80"), outer.rows)
     outer.resize(24, 80)
     comes(lambda: listed()[1:4] == ["23", "by", "80"])
     outer.type(b"seq 100\r\x02[\x1b[5~")
@@ -387,7 +387,7 @@ def smaller(folder):
     check("it leaves", small.ends() and small.is_restored() and small.shows("[detached]"), small.rows)
     check("and nothing is cut", listed()[1:4] == ["23", "by", "100"] and comes(lambda: outer.rows() == before), outer.rows)
     large = Outer(tool("mux", "attach", "other"), size=(40, 120))
-    is_told = comes(lambda: large.rows()[39].startswith("24 by 100, as another terminal has it; C-b r fits this one"))
+    is_told = comes(lambda: large.rows()[39].startswith("24 by 100, the size of another terminal; C-b r fits this one"))
     check("a larger one beside it shows the session as it is, and is told the key", is_told and large.shows("right-9"), large.rows)
     check("which disturbs nobody", outer.rows() == before, outer.rows)
     large.type(b"\x02r")
@@ -413,8 +413,8 @@ def full(folder):
         link.connect()
     check("fifteen more are taken", all(link.begins(5) for link in links), listed())
     late = Outer(tool("mux", "other"))
-    full = "no more terminals are taken: 16 are there"
-    check("a seventeenth is told so", late.shows(f"{full}; tried anew in 1 s; C-c or q leaves"), late.rows)
+    full = "16 terminals are attached; no more are accepted"
+    check("a seventeenth is told so", late.shows(f"{full}; next try in 1 s; C-c or q leaves"), late.rows)
     check("so is a send", said("send", "other", "a") == (1, "", f"mux: {full}\n"), said("send", "other", "a"))
     check("and a capture", said("capture", "other") == (1, "", f"mux: {full}\n"), said("capture", "other"))
     links[0].close()

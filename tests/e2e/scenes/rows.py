@@ -146,23 +146,23 @@ def process_lost(folder):
     run(outer, "clear; seq 1 100", "before")
     check("rows are kept", comes(lambda: "50" in kept()), kept)
     os.kill(scrollback_processes()[0], signal.SIGKILL)
-    check("a killed filter is told of", outer.shows("rows of history are lost: the scrollback process ended"), outer.rows)
+    check("a killed filter is told of", outer.shows("scrollback rows were lost: the scrollback process ended"), outer.rows)
     check("another runs", comes(lambda: len(scrollback_processes()) == 1), scrollback_processes)
     run(outer, "seq 201 300", "behind")
     check("what came before is kept, then a row tells of the loss, then what comes",
-          comes(lambda: in_order(kept(), "50", "[rows of history are lost here]", "250")), lambda: kept()[-120:])
+          comes(lambda: in_order(kept(), "50", "[rows were lost here]", "250")), lambda: kept()[-120:])
     process = scrollback_processes()[0]
     os.kill(process, signal.SIGSTOP)
     begin = time.monotonic()
     check("a stopped one doesn't stop a shell", run(outer, "seq 1 300000", "passed", 30), outer.rows)
     print(f"        seq 1 300000 beside a stopped scrollback process took {time.monotonic() - begin:.1f} s", flush=True)
-    check("which is told", outer.shows("rows of history are lost: the scrollback process doesn't keep up"), outer.rows)
+    check("which is told", outer.shows("scrollback rows were lost: the scrollback process is too slow"), outer.rows)
     check("keys are echoed meanwhile", run(outer, "clear", "echoed"), outer.rows)
     status, _, why = said("capture", "-S", "-", SESSION)
-    check("no snapshot is had of it", status == 1 and "no rows are kept" in why, why)
+    check("no snapshot is had of it", status == 1 and "has no stored rows" in why, why)
     os.kill(process, signal.SIGCONT)
     # What is written before it has taken what waited for it is lost too.
-    again = lambda: run(outer, "seq 401 500", "continued") and in_order(kept(), "[rows of history are lost here]", "450")
+    again = lambda: run(outer, "seq 401 500", "continued") and in_order(kept(), "[rows were lost here]", "450")
     check("rows are kept again once it is continued", comes(again), lambda: kept()[-120:])
     check("by the same scrollback process", scrollback_processes() == [process], scrollback_processes())
 

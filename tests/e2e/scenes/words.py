@@ -13,6 +13,8 @@ from roam_live.frontend.effects import Perform, TypeKey
 from roam_live.frontend.modes import ModeStack
 from roam_live.input.keys import Key, Keys
 
+NOT_RUNNING = "mux: no session other is running; `mux ls` lists sessions\n"
+
 
 @scene
 def words(folder):
@@ -24,7 +26,7 @@ def words(folder):
     check("detach tells what leaves", said("detach", "other")[0] == 1 and "C-b d" in said("detach")[2], said("detach"))
     for word in ("attach", "send", "paste", "capture", "env", "watch"):
         told = said(word, "other", *(["a"] if word == "send" else []))
-        check(f"mux {word} refuses a session that isn't there", told == (1, "", "mux: no session other is running\n"), told)
+        check(f"mux {word} refuses a session that isn't there", told == (1, "", NOT_RUNNING), told)
     check("mux new refuses what is no command", said("new", "-d", "other", "/no/command")[0] == 1, said("ls"))
     told = said("new", "-d", "other", "/bin/sh", "-c", "echo st''arted; exec cat")
     check("mux new -d launches a session", told == (0, "", ""), told)
@@ -40,7 +42,7 @@ def words(folder):
     check("mux capture --svg draws them", told[0] == 0 and "started" in told[1] and xml.etree.ElementTree.fromstring(told[1]), told)
     for act, why in (("size 1 1", "a session has 4 to 200 rows and 8 to 500 columns"), ("focus 7", "there is no pane 7")):
         told = said("send", "-a", "other", "char 61", act)
-        check(f"mux send -a refuses {act}", told == (1, "", f"mux: {act!r} can't be done: {why}. None was typed\n"), told)
+        check(f"mux send -a refuses {act}", told == (1, "", f"mux: cannot do {act!r}: {why}; nothing was typed\n"), told)
     is_known = said("send", "-a", "other", "split down") == said("send", "-a", "other", "focus 3", "close") == (0, "", "")
     check("what was asked for just before is known", is_known, listed())
     slips()
@@ -56,11 +58,12 @@ def words(folder):
 
 def slips():
     """What is nearly a word of mux starts no session, and what is quit behind a pipe says nothing."""
-    for name, told in (("lst", "'lst' is no command of mux; did you mean ls?"), ("a", "a is a word of tmux; roam has `mux attach NAME`"),
-                       ("list-sessions", "list-sessions is a word of tmux; roam has `mux ls`"),
-                       ("next-window", "next-window is a word of tmux; roam has C-b n"),
-                       ("swap-pane", "swap-pane: tmux has this, roam hasn't")):
-        wanted = f"mux: {told} (`mux new {name}` begins a session of that name)\n"
+    for name, told in (("lst", "'lst' is not a command of mux; did you mean ls?"),
+                       ("a", "a is a tmux command; in roam, use `mux attach NAME`"),
+                       ("list-sessions", "list-sessions is a tmux command; in roam, use `mux ls`"),
+                       ("next-window", "next-window is a tmux command; in roam, use C-b n"),
+                       ("swap-pane", "swap-pane: roam does not support this tmux command")):
+        wanted = f"mux: {told} (`mux new {name}` starts a session of that name)\n"
         check(f"mux {name} is refused, and what there is told", said(name) == (2, "", wanted), said(name))
     check("and starts nothing", "lst" not in listed() and "a" not in listed(), listed())
     run = subprocess.run(f"{TOOLS / 'mux'} help | head -1", shell=True, stdout=subprocess.PIPE, stderr=subprocess.PIPE, check=False)
@@ -81,7 +84,7 @@ def all_clients():
     os.kill(noted("other")["client"][0], signal.SIGKILL)
     for word in (["capture", "other"], ["send", "other", "a"]):
         told = said(*word)
-        check(f"mux {word[0]} tells that the session hears no more starts", told[0] == 1 and "has had the 64" in told[2], told)
+        check(f"mux {word[0]} tells that the session hears no more starts", told[0] == 1 and "has used its 64" in told[2], told)
 
 
 def asked_of(name, text):

@@ -407,7 +407,7 @@ def moved(outer, pane, side):
 
 def is_told_in(text):
     """Whether a text tells why a border doesn't go."""
-    return any(words in text for words in ("no border", NO_PANE[:20], "as far as it can be"))
+    return any(words in text for words in ("no border", NO_PANE[:20], "cannot move further"))
 
 
 def edges(rect, side):

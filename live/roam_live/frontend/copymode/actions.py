@@ -11,7 +11,7 @@ from roam_live.frontend.copymode.search import Finds, Match, matches, next_match
 from roam_live.frontend.copymode.selection import CHARACTERS, Columns, CopiedText, Selection, lines_at, word_at
 from roam_live.frontend.copymode.viewport import CopyView
 
-NOTHING_FOUND = "{!r} isn't found"
+NOTHING_FOUND = "{!r} not found"
 
 # What comes of keys beside what is shown, by a word each: it is left, a new snapshot is wanted, or a text is copied.
 LEAVE, REFRESH, COPY = "leave", "refresh", "copy"

@@ -21,10 +21,10 @@ from roam_live.protocol.scrollback_client import BufferNote, Snapshot
 # A text has so many bytes at most, also where it is put behind another.
 MOST_COPIED = 1 << 20
 
-TOO_LONG = "nothing is copied: it has more than 1 MB"
-NOT_KEPT = "{} copied for the clipboard alone: no buffer is kept"
+TOO_LONG = "not copied: it exceeds 1 MB"
+NOT_KEPT = "{} copied to the clipboard only: no buffer was stored"
 COPIED = "{} copied; {} ] pastes"
-COPIED_HERE = "{} copied for the clipboard"
+COPIED_HERE = "{} copied to the clipboard"
 
 
 def counted(text: bytes) -> str:
@@ -84,7 +84,7 @@ MOST_WAITING = 4096
 
 # So many seconds a line stands that tells why it was closed.
 TOLD = 2.0
-NO_ROOM = "nothing of the pane is shown here"
+NO_ROOM = "no part of the pane is visible here"
 
 # The key that leaves it while an answer is awaited, whatever waits before that; and with an escape before it.
 INTERRUPTS = (INTERRUPT, f"M-{INTERRUPT}")

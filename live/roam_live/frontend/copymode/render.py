@@ -163,7 +163,7 @@ class CopyScreen:
             back, most = mode.view.back()
         except Missing:
             return self.display.row.popup_line
-        came = f"{self.state.came} row{'s' * (self.state.came != 1)} came since" if self.state.came else ""
+        came = f"{self.state.came} new row{'s' * (self.state.came != 1)}" if self.state.came else ""
         count = f"(repeat) {mode.count.digits}" if mode.count.digits else ""
         return "; ".join(filter(None, (f"[{back}/{most}] copy mode", came, count, mode.told)))
 

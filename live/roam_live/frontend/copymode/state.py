@@ -57,7 +57,7 @@ CONNECTS = 0.05
 # What is awaited for longer than so many seconds is told.
 WAITS = 0.5
 WAITING = "waiting for rows; C-c leaves"
-GONE = "the rows that were shown aren't kept any more"
+GONE = "these rows are no longer stored"
 
 
 class CopyAsking:
