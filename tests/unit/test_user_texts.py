@@ -1,6 +1,7 @@
 """What a user reads: the same sentences in `mux help`, --help, C-b ? and the man pages, and how plain README, guide and pages are."""
 import pathlib
 import re
+import subprocess
 import unittest
 
 from aids import loaded
@@ -86,6 +87,14 @@ def sentences(text):
     text = re.sub(r"\[([^\]]*)\]\([^)]*\)", r"\1", re.sub(r"`[^`\n]*`", "X", text))
     parts = re.split(r"(?<=[.!?])\s+(?=[A-Z`*\"(])|\n\s*\n|\s\|\s|^\s*[-*] |\n\s*\d+\. ", text)
     return [part.split() for part in parts if len(part.split()) > 2]
+
+
+class Pictures(unittest.TestCase):
+    """The diagrams are those of their texts."""
+
+    def test_drawn(self):
+        run = subprocess.run([str(TOP / "tools/diagram"), "--check"], stdout=subprocess.PIPE, check=False)
+        self.assertEqual((run.returncode, run.stdout), (0, b""))
 
 
 class Plain(unittest.TestCase):
