@@ -1,4 +1,6 @@
 """What a user reads: the same sentences in `mux help`, --help, C-b ? and the man pages, and how plain README, guide and pages are."""
+import importlib.machinery
+import importlib.util
 import pathlib
 import re
 import subprocess
@@ -16,6 +18,14 @@ TEXTS = [TOP / "README.md", *sorted(GUIDE.glob("*.md")), *PAGES]
 MOST_BYTES = 6000
 
 mux = loaded("mux")
+
+
+def tool_module(name):
+    """Return a script of tools/ as a module."""
+    loader = importlib.machinery.SourceFileLoader(name, str(TOP / "tools" / name))
+    module = importlib.util.module_from_spec(importlib.util.spec_from_loader(name, loader))
+    loader.exec_module(module)
+    return module
 
 
 def flat(text):
@@ -111,6 +121,16 @@ class Plain(unittest.TestCase):
             words, count, flagged = words + sum(map(len, found)), count + len(found), flagged + len(FLAGS.findall(text))
         self.assertLessEqual(1000 * flagged / words, MOST_FLAGS)
         self.assertLessEqual(words / count, LONGEST_MEAN)
+
+    def test_messages(self):
+        """So are the messages of live/, as tools/user_messages lists them; lists of keys are no sentences."""
+        lister = tool_module("user_messages")
+        texts = [text for path in lister.files() for _, kind, text in lister.texts_in(path) if kind != "HELP"]
+        found = [one for text in texts for one in sentences(text)]
+        words = sum(map(len, found))
+        self.assertEqual([" ".join(one) for one in found if len(one) > LONGEST_SENTENCE], [])
+        self.assertLessEqual(1000 * sum(len(FLAGS.findall(text)) for text in texts) / words, MOST_FLAGS)
+        self.assertLessEqual(words / len(found), LONGEST_MEAN)
 
     def test_guide(self):
         """The guide has eleven pages, each of 6 kB at most, and its first page names each."""
