@@ -3,6 +3,7 @@ import os
 import pathlib
 import re
 import subprocess
+import sys
 
 from tried import LIVE, Outer, check, comes, scene
 from scenes.installed import install
@@ -66,7 +67,7 @@ class Home:
             (self.home / name).write_text("some text\n", encoding="utf-8")
         (self.home / ".tmux.conf").write_text("set -g mouse on\nset -g base-index 1\n", encoding="utf-8")
         known = {word: value for word, value in os.environ.items() if word not in ("ROAM", "XDG_CONFIG_HOME")}
-        path = f"{self.bin}:{prefix / 'bin'}:{os.environ['PATH']}"
+        path = ":".join(map(str, (self.bin, prefix / "bin", os.path.dirname(sys.executable), os.environ["PATH"])))
         self.environment = {**known, "PATH": path, "HOME": str(self.home), "TMPDIR": str(folder / "tmp")}
 
     def run(self, command):
@@ -176,7 +177,7 @@ def scripts(all_):
     all_.shows("roam mux watch work")
     all_.shows("roam mux attach -d work")
     all_.does("roam mux kill -f work")
-    all_.does("roam mux new -d build sh -c 'make; echo \"status $?\"; sleep 1'")
+    all_.does("roam mux new -d build sh -c 'make; echo \"status $?\"; sleep 5'")
     all_.does("roam mux log build", "status 0")
     all_.does("roam mux new -d build cat")
     all_.shows("roam mux watch build")
@@ -253,7 +254,8 @@ def man_pages(all_):
     all_.shows("mux attach work")
     all_.does("mux send work 'ls -l' Enter")
     all_.does("mux capture work.1", "ls -l")
-    all_.does("mux new -d build sh -c 'make; echo \"status $?\"'; mux log build; true")
+    all_.does("mux new -d build sh -c 'make; echo \"status $?\"; sleep 5'")
+    all_.does("mux log build", "status 0")
     all_.shows("mux ssh -p 2222 user@host work")
     all_.does("mkdir -m 700 d near")
     parts = all_.home.terminal("roam serve --dir d & roam-pane-shells d & roam attach --dir d --watch")

@@ -171,7 +171,7 @@ def own_settings(tasks):
 
 def scripted(tasks):
     """Scripting."""
-    told = tasks.home.run("roam mux new -d build sh -c 'make; echo \"status $?\"; sleep 1' && roam mux log build")
+    told = tasks.home.run("roam mux new -d build sh -c 'make; echo \"status $?\"; sleep 5' && roam mux log build")
     tasks.done("script a build and wait for its end", told[0] == 0 and "built" in told[1] and told[1].rstrip().endswith("status 0"), told)
 
 
