@@ -146,6 +146,11 @@ class PlayedPanes:
         """The modes that the program in focus has set."""
         return self.modes(self.places.focus) if self.places else []
 
+    @property
+    def has_application_keypad(self):
+        """Whether it asked for the application codes of the keypad."""
+        return "keypad" in self.focus_modes
+
     def making(self, pane):
         """Which making of its number a pane is."""
         return f"{pane} 1" if self.places and pane in self.places.rects else ""

@@ -1,4 +1,4 @@
-"""Bundles of modules: what they have, when they are used, and what becomes of one that can't be."""
+"""The bundles of modules: what they have, when they are used, and what becomes of one that can't be."""
 import os
 import shutil
 import subprocess
@@ -41,8 +41,8 @@ assert roam_live.common.other.shown is text.shown
 """
 
 
-class Bundles(Case):
-    """Bundles of a small tree."""
+class BundleFiles(Case):
+    """The bundles of a small tree."""
 
     def setUp(self):
         self.tools = self.made_folder() / "live"

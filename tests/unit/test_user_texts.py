@@ -6,7 +6,7 @@ import re
 import subprocess
 import unittest
 
-from aids import loaded
+from roam_live.cli import help_text, mux, words
 from roam_live.config.command_table import BY_NAME, DEFAULT_KEYS
 from roam_live.frontend.bindings import HELP
 
@@ -16,8 +16,6 @@ GUIDE = TOP / "docs/guide"
 PAGES = sorted(MAN.glob("*.[15]"))
 TEXTS = [TOP / "README.md", *sorted(GUIDE.glob("*.md")), *PAGES]
 MOST_BYTES = 6000
-
-mux = loaded("mux")
 
 
 def tool_module(name):
@@ -44,8 +42,8 @@ class Same(unittest.TestCase):
 
     def test_mux(self):
         """`mux help` and roam-mux(1) have the sentence of each word's --help."""
-        told, page = flat(mux.__doc__), plain_roff((MAN / "roam-mux.1").read_text(encoding="utf-8"))
-        for name, word in mux.WORDS.items():
+        told, page = flat(help_text.HELP), plain_roff((MAN / "roam-mux.1").read_text(encoding="utf-8"))
+        for name, word in words.WORDS.items():
             sentence = mux.sentence(word.tells)
             self.assertEqual(flat(mux.parser_of(name).description), sentence)
             if name not in ("detach", "list"):

@@ -19,7 +19,7 @@ from roam_live.frontend.window_views import LOSS_TOLD, ViewMaker, WindowView, Wi
 from roam_live.frontend.windows import WindowWishes
 from roam_live.protocol.client_link import LAST_WAIT
 from roam_live.protocol.host_link import HostLink
-from roam_live.protocol.panes import KEYPAD, Places
+from roam_live.protocol.panes import Places
 from roam_live.session.environment import environment_lines
 from roam_live.session.host_watchdog import HostWatchdog
 
@@ -164,7 +164,8 @@ class FrontEnd:
         except ImportError:
             self.views.commands.tell_replaced()
         view, outer = self.views.view, self.display.outer
-        outer.set_keypad(KEYPAD in view.panes.focus_modes)
+        if view.panes.has_application_keypad != outer.is_application:
+            outer.set_keypad(view.panes.has_application_keypad)
         if view.link.waiting and view.link.peer:
             self.connection.send()
         if outer.waiting or outer.clip.newest:

@@ -9,7 +9,7 @@ from roam_live.common.io import LineReader, write
 from roam_live.common.retry import Retry
 from roam_live.common.unix_socket import SocketPeer, connected, connected_now
 from roam_live.protocol.host_lines import BAD_LINE
-from roam_live.protocol.panes import BRACKETED, CLIPBOARD, LONGEST_LINE, METADATA, PanesState, Places
+from roam_live.protocol.panes import BRACKETED, CLIPBOARD, KEYPAD, LONGEST_LINE, METADATA, PanesState, Places
 from roam_live.protocol.queries import QUERIES
 
 TYPE_CHECKING = False
@@ -214,6 +214,8 @@ class PanesSubscriber:
         # The title of the pane in focus, and the shape of its cursor; and the modes that its program has set.
         self.title_and_shape = ("", 0)
         self.focus_modes: list[str] = []
+        # True if that program asked for the application codes of the keypad.
+        self.has_application_keypad = False
         # What is called with a text for the clipboard that the program in focus set, and the making of its pane.
         self.clipped: Callable[[str, str], object] = lambda text, making: None
         # What is called with each pane whose bell rang.
@@ -286,6 +288,7 @@ class PanesSubscriber:
         before, self.places = (self.places, self.title_and_shape, self.focus_modes), self.told.places()
         self.title_and_shape = self.told.title_and_shape(self.places.focus) if self.places else ("", 0)
         self.focus_modes = self.modes(self.places.focus) if self.places else []
+        self.has_application_keypad = KEYPAD in self.focus_modes
         self.was_told = self.was_told or self.places is not None
         if (self.places, self.title_and_shape, self.focus_modes) != before:
             self.changed()
@@ -300,6 +303,7 @@ class PanesSubscriber:
         subscription, was_told = self.subscription, self.places is not None
         self.probes.clear()
         self.told, self.places, self.title_and_shape, self.focus_modes = PanesState(), None, ("", 0), []
+        self.has_application_keypad = False
         self.loop.drop("panes stand")
         if was_told:
             # A relay that goes another way cuts what it carries, which is there again in a moment.
