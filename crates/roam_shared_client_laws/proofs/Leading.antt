@@ -2,7 +2,7 @@
 use Rattle.std.proofs.Common.{◌≡◌, ◌⊎◌, ℕ, Bool, true, false, List, [], ◌∷◌, ◌++◌, map, take, append-nil, append_assoc, Option, Some, None, refl, sym, ap, ◌∙◌, subst, inl, inr, arith}
 use Rattle.std.proofs.KnownBytes.{Appends-kept, Appends-nil, Appends-trans}
 use Rattle.std.proofs.lemmas.List.{map-append, take-append-drop}
-use Rattle.std.specs.Prelude.{not, ◌&&◌, ◌==◌, is_some, if◌then◌else◌}
+use Rattle.std.specs.Prelude.{not, ◌&&◌, ◌==◌, IfSome, is_some, if◌then◌else◌}
 use Rattle.std.specs.Io.KnownBytes.{Appends, Keeps}
 use Rattle.roam_prediction.specs.Predictions.{PredictionsOf, are_shown}
 use Rattle.roam_prediction.specs.Overlay.{predicted, overlay}
@@ -44,7 +44,7 @@ use Rattle.roam_outer_terminal.specs.declared.terminal.Terminal.{Terminal}
 use Rattle.roam_outer_terminal.proofs.Heard.{taken_outer}
 use Rattle.roam_outer_terminal.proofs.Written.{empty_is}
 use Rattle.roam_shared_client_laws.specs.Lines.{came_in}
-use Rattle.roam_shared_client_laws.specs.Paintings.{AreLed, FitsAll, IsFollowed, IsLed, IsNotedOf, IsToldAs, IsOneOf, LeadsAny, PaintingsLead, screens_in}
+use Rattle.roam_shared_client_laws.specs.Paintings.{AreLed, FitsAll, HasOverlay, IsFollowed, IsLaidIn, IsLed, IsNotedOf, IsToldAs, IsOneOf, LeadsAny, PaintingsLead, WasLaid, screens_in}
 use Rattle.roam_shared_client_laws.proofs.Lists.{noted_of_more, one_of_last, one_of_more}
 use Rattle.roam_shared_client_laws.proofs.Records.{is_events_entry, refusal_quiet, told_after, told_all, told_begins, told_flushed, told_more, told_on, untold_after}
 
@@ -69,7 +69,14 @@ leads_any_more screens more text (Some noted) h =
 
 -- ---- a terminal
 
-module _ {S : Type 0} (remaining contents : S → Option (List ℕ)) where
+module _ {S : Type 0} (remaining contents : S → Option (List ℕ)) (to : Addr) where
+  pub came_on : (came : List S) (step : RunStep S) (steps : List (RunStep S))
+      → (came ++ came_in (step ∷ [])) ++ came_in steps ≡ came ++ came_in (step ∷ steps)
+  came_on came (Asks call) steps = ap (λ c. c ++ came_in steps) (append-nil came)
+  came_on came (Came stream) steps = append_assoc came (stream ∷ []) (came_in steps)
+  came_on came (Took silence wait) steps = ap (λ c. c ++ came_in steps) (append-nil came)
+
+module _ {S : Type 0} (laid : OverlayOf → ℕ → Type 0) (remaining contents : S → Option (List ℕ)) where
   led_more : (came more : List S) (screens extra : List Screenshot) (t : Terminal S) → IsLed contents came screens t
       → IsLed contents (came ++ more) (screens ++ extra) t
   led_more came more screens extra t h = record {
@@ -163,44 +170,44 @@ module _ {S : Type 0} (remaining contents : S → Option (List ℕ)) where
   taken_stream entry old new client client' (unheard is not_heard c to) = ap (λ t. t.stream) to
 
   read_followed : (came : List S) (screens : List Screenshot) (old mid : Terminal S) → Keeps (contents old.stream) (contents mid.stream)
-      → IsRead old mid → IsFollowed contents came screens old old.display_state → IsFollowed contents came screens mid mid.display_state
+      → IsRead old mid → IsFollowed laid contents came screens old old.display_state → IsFollowed laid contents came screens mid mid.display_state
   read_followed came screens old mid keeps (read is) h =
-      subst (IsFollowed contents came screens mid) (sym (ap (λ t. t.display_state) is)) (by old.display_state refl h)
+      subst (IsFollowed laid contents came screens mid) (sym (ap (λ t. t.display_state) is)) (by old.display_state refl h)
     where
-      by : (o : Option DisplayStateView) → old.display_state ≡ o → IsFollowed contents came screens old o → IsFollowed contents came screens mid o
+      by : (o : Option DisplayStateView) → old.display_state ≡ o → IsFollowed laid contents came screens old o → IsFollowed laid contents came screens mid o
       by None told led = stays_led came screens old mid keeps (read_stays old mid (read is)) led
       by (Some t) told led =
-          told_on remaining contents came screens old mid t t [] keeps tt (ap (λ t. t.waiting) is ∙ sym (append-nil old.waiting))
+          told_on laid remaining contents came screens old mid t t [] keeps tt (ap (λ t. t.waiting) is ∙ sym (append-nil old.waiting))
           (inl (ap (λ t. t.outer) is)) refl (inl (refl, refl)) led
   read_followed came screens old mid keeps (was_refused text words long is) h =
-      subst (IsFollowed contents came screens mid) (sym (ap (λ t. t.display_state) is)) (by old.display_state refl h)
+      subst (IsFollowed laid contents came screens mid) (sym (ap (λ t. t.display_state) is)) (by old.display_state refl h)
     where
-      by : (o : Option DisplayStateView) → old.display_state ≡ o → IsFollowed contents came screens old o → IsFollowed contents came screens mid o
+      by : (o : Option DisplayStateView) → old.display_state ≡ o → IsFollowed laid contents came screens old o → IsFollowed laid contents came screens mid o
       by None told led = stays_led came screens old mid keeps (read_stays old mid (was_refused text words long is)) led
       by (Some t) told led =
           let more = refusal_quiet text (subst (λ o. IsRefusal (is_some o) text) told words) in
-          told_on remaining contents came screens old mid t t more.0 keeps more.1
+          told_on laid remaining contents came screens old mid t t more.0 keeps more.1
           (ap (λ t. t.waiting) is ∙ ap (λ l. old.waiting ++ l) more.2) (inr (ap (λ t. t.outer) is)) refl (inl (refl, refl)) led
 
   -- nothing of it changed but what is told
   same_followed : (came : List S) (screens : List Screenshot) (old new : Terminal S) → new ≡ old
-      → IsFollowed contents came screens old old.display_state → IsFollowed contents came screens new new.display_state
-  same_followed came screens old new is h = subst (λ t. IsFollowed contents came screens t t.display_state) (sym is) h
+      → IsFollowed laid contents came screens old old.display_state → IsFollowed laid contents came screens new new.display_state
+  same_followed came screens old new is h = subst (λ t. IsFollowed laid contents came screens t t.display_state) (sym is) h
 
   refused_followed : (came : List S) (screens : List Screenshot) (old new : Terminal S) → IsRefused old new
-      → IsFollowed contents came screens old old.display_state → IsFollowed contents came screens new new.display_state
+      → IsFollowed laid contents came screens old old.display_state → IsFollowed laid contents came screens new new.display_state
   refused_followed came screens old new to h =
-      subst (IsFollowed contents came screens new) (sym (ap (λ t. t.display_state) to.2)) (by old.display_state refl h)
+      subst (IsFollowed laid contents came screens new) (sym (ap (λ t. t.display_state) to.2)) (by old.display_state refl h)
     where
       keeps : Keeps (contents old.stream) (contents new.stream)
       keeps = keeps_same old.stream new.stream (ap (λ t. t.stream) to.2)
 
-      by : (o : Option DisplayStateView) → old.display_state ≡ o → IsFollowed contents came screens old o → IsFollowed contents came screens new o
+      by : (o : Option DisplayStateView) → old.display_state ≡ o → IsFollowed laid contents came screens old o → IsFollowed laid contents came screens new o
       by None told led =
           stays_led came screens old new keeps (lost to.0 (ap (λ t. t.waiting) to.2) (ap (λ t. t.outer) to.2)) led
       by (Some t) told led =
           let more = refusal_quiet to.0 (subst (λ o. IsRefusal (is_some o) to.0) told to.1) in
-          told_on remaining contents came screens old new t t more.0 keeps more.1
+          told_on laid remaining contents came screens old new t t more.0 keeps more.1
           (ap (λ t. t.waiting) to.2 ∙ ap (λ l. old.waiting ++ l) more.2) (inr (ap (λ t. t.outer) to.2)) refl (inl (refl, refl)) led
 
   -- where records begin nothing was told
@@ -214,24 +221,24 @@ module _ {S : Type 0} (remaining contents : S → Option (List ℕ)) where
 
   made_followed : (came : List S) (screens : List Screenshot) (e : Entry) (client : ClientView) (old new : Terminal S)
       → may_take e old.lines.count old.display_state ≡ true → Makes e client old new → (new.outer ≡ old.outer) ⊎ (new.outer ≡ None)
-      → IsFollowed contents came screens old old.display_state → IsFollowed contents came screens new new.display_state
+      → IsFollowed laid contents came screens old old.display_state → IsFollowed laid contents came screens new new.display_state
   made_followed came screens e client old new may to outer h = by (is_events_entry e) refl
     where
       keeps : Keeps (contents old.stream) (contents new.stream)
       keeps = keeps_same old.stream new.stream (ap (λ t. t.stream) to)
 
-      further : (o : Option DisplayStateView) → is_events_entry e ≡ false → old.display_state ≡ o → IsFollowed contents came screens old o
-          → IsFollowed contents came screens new (display_state_after old.watches e client o)
+      further : (o : Option DisplayStateView) → is_events_entry e ≡ false → old.display_state ≡ o → IsFollowed laid contents came screens old o
+          → IsFollowed laid contents came screens new (display_state_after old.watches e client o)
       further None none told led =
-          subst (IsFollowed contents came screens new) (sym (untold_after e old.watches client none))
+          subst (IsFollowed laid contents came screens new) (sym (untold_after e old.watches client none))
           (stays_led came screens old new keeps (made_stays e client old new none to outer) led)
       further (Some t) none told led =
           let on = told_after e old.watches client t none in
-          subst (IsFollowed contents came screens new) (sym on.1)
-          (told_on remaining contents came screens old new t on.0 [] keeps tt
+          subst (IsFollowed laid contents came screens new) (sym on.1)
+          (told_on laid remaining contents came screens old new t on.0 [] keeps tt
           (ap (λ t. t.waiting) to ∙ ((no_records e none old.waiting old.over).0 ∙ sym (append-nil old.waiting))) outer on.2 on.3 led)
 
-      begun : (x : Entry) → e ≡ x → is_events_entry x ≡ true → IsFollowed contents came screens new new.display_state
+      begun : (x : Entry) → e ≡ x → is_events_entry x ≡ true → IsFollowed laid contents came screens new new.display_state
       begun (Acts acts) is told = absurd cc
       begun (Paste acts) is told = absurd cc
       begun Events is told =
@@ -245,9 +252,9 @@ module _ {S : Type 0} (remaining contents : S → Option (List ℕ)) where
             waiting = old.waiting ++ text_of records.Events;
             display_state = display_state_after old.watches Events client old.display_state;
           } = subst (λ x. Makes x client old new) is to in
-          subst (IsFollowed contents came screens new) (sym (ap (λ t. t.display_state) now))
-          (told_begins remaining contents came screens old new (record nothing_told { taken = took None nothing_taken }) keeps
-          (ap (λ t. t.outer) now) refl refl (subst (IsFollowed contents came screens old) bare h))
+          subst (IsFollowed laid contents came screens new) (sym (ap (λ t. t.display_state) now))
+          (told_begins laid remaining contents came screens old new (record nothing_told { taken = took None nothing_taken }) keeps
+          (ap (λ t. t.outer) now) refl refl (subst (IsFollowed laid contents came screens old) bare h))
       begun Repaint is told = absurd cc
       begun Watch is told = absurd cc
       begun (Prediction predicting) is told = absurd cc
@@ -256,14 +263,14 @@ module _ {S : Type 0} (remaining contents : S → Option (List ℕ)) where
       begun (Show showing) is told = absurd cc
       begun End is told = absurd cc
 
-      by : (b : Bool) → is_events_entry e ≡ b → IsFollowed contents came screens new new.display_state
+      by : (b : Bool) → is_events_entry e ≡ b → IsFollowed laid contents came screens new new.display_state
       by true told = begun e refl told
       by false none =
-          subst (IsFollowed contents came screens new) (sym (ap (λ t. t.display_state) to)) (further old.display_state none refl h)
+          subst (IsFollowed laid contents came screens new) (sym (ap (λ t. t.display_state) to)) (further old.display_state none refl h)
 
   taken_followed : (came : List S) (screens : List Screenshot) (entry : Option Entry) (old new : Terminal S) (client client' : ClientView)
-      → TakesLine entry old new client client' → IsFollowed contents came screens old old.display_state
-      → IsFollowed contents came screens new new.display_state
+      → TakesLine entry old new client client' → IsFollowed laid contents came screens old old.display_state
+      → IsFollowed laid contents came screens new new.display_state
   taken_followed came screens entry old new client client' (taken e line is heard first says may types predictions to) h =
       made_followed came screens e client' old new may to
       (taken_outer entry old new client client' (taken e line is heard first says may types predictions to)) h
@@ -279,8 +286,8 @@ module _ {S : Type 0} (remaining contents : S → Option (List ℕ)) where
   taken_followed came screens entry old new client client' (unheard is not_heard c to) h = same_followed came screens old new to h
 
   heard_followed : (came : List S) (screens : List Screenshot) (entry : Option Entry) (old new : Terminal S) (client client' : ClientView)
-      → HearsOne remaining contents entry old new client client' → IsFollowed contents came screens old old.display_state
-      → IsFollowed contents came screens new new.display_state
+      → HearsOne remaining contents entry old new client client' → IsFollowed laid contents came screens old old.display_state
+      → IsFollowed laid contents came screens new new.display_state
   heard_followed came screens entry old new client client' h led =
       taken_followed came screens entry h.read new client client' h.takes (read_followed came screens old h.read h.apart h.is_read led)
 
@@ -450,45 +457,46 @@ module _ {S : Type 0} (remaining contents : S → Option (List ℕ)) where
   untold_is (Some t) e = absurd cc
 
   followed_more : (came more : List S) (screens extra : List Screenshot) (t : Terminal S) (o : Option DisplayStateView)
-      → IsFollowed contents came screens t o → IsFollowed contents (came ++ more) (screens ++ extra) t o
+      → IsFollowed laid contents came screens t o → IsFollowed laid contents (came ++ more) (screens ++ extra) t o
   followed_more came more screens extra t None h = led_more came more screens extra t h
-  followed_more came more screens extra t (Some display_state) h = told_more remaining contents came more screens extra t display_state h
+  followed_more came more screens extra t (Some display_state) h = told_more laid remaining contents came more screens extra t display_state h
 
   painted_followed : (came : List S) (screens : List Screenshot) (silence : Silence) (client : ClientView) (old new : Terminal S)
-      → MayPaint silence client old new → IsFollowed contents came screens old old.display_state
-      → IsFollowed contents came (screens ++ (shown_of client).screen ∷ []) new new.display_state
-  painted_followed came screens silence client old new (painted p) h =
+      → MayPaint silence client old new → IfSome new.predicting (λ overlay. laid overlay silence.moment)
+      → IsFollowed laid contents came screens old old.display_state → IsFollowed laid contents came (screens ++ (shown_of client).screen ∷ []) new new.display_state
+  painted_followed came screens silence client old new (painted p) were_laid h =
       let bare : old.display_state ≡ None = untold_is old.display_state p.untold in
       let now : new.display_state ≡ None = ap (λ t. t.display_state) p.others ∙ bare in
-      subst (IsFollowed contents came (screens ++ (shown_of client).screen ∷ []) new) (sym now)
-      (paints_led came screens silence client old new p (subst (IsFollowed contents came screens old) bare h))
-  painted_followed came screens silence client old new (was_told p) h =
-      subst (IsFollowed contents came (screens ++ (shown_of client).screen ∷ []) new) (sym (ap (λ t. t.display_state) p.tells.is))
-      (told_all remaining contents came screens silence.moment client old p.mid new p.before p.noted p.over p.others p.tells
-      (subst (IsFollowed contents came screens old) p.was h))
-  painted_followed came screens silence client old new (not_ready not_is to) h =
-      subst (λ t. IsFollowed contents came (screens ++ (shown_of client).screen ∷ []) t t.display_state) (sym to)
-      (subst (λ c. IsFollowed contents c (screens ++ (shown_of client).screen ∷ []) old old.display_state) (append-nil came)
+      subst (IsFollowed laid contents came (screens ++ (shown_of client).screen ∷ []) new) (sym now)
+      (paints_led came screens silence client old new p (subst (IsFollowed laid contents came screens old) bare h))
+  painted_followed came screens silence client old new (was_told p) were_laid h =
+      subst (IsFollowed laid contents came (screens ++ (shown_of client).screen ∷ []) new) (sym (ap (λ t. t.display_state) p.tells.is))
+      (told_all laid remaining contents came screens silence.moment client old p.mid new p.before p.noted
+      (subst (λ o. IfSome o (λ overlay. laid overlay silence.moment)) (ap (λ t. t.predicting) p.tells.is) were_laid) p.over p.others p.tells
+      (subst (IsFollowed laid contents came screens old) p.was h))
+  painted_followed came screens silence client old new (not_ready not_is to) were_laid h =
+      subst (λ t. IsFollowed laid contents came (screens ++ (shown_of client).screen ∷ []) t t.display_state) (sym to)
+      (subst (λ c. IsFollowed laid contents c (screens ++ (shown_of client).screen ∷ []) old old.display_state) (append-nil came)
       (followed_more came [] screens ((shown_of client).screen ∷ []) old old.display_state h))
 
   -- ---- what waits is written
 
   said_followed : (came : List S) (screens : List Screenshot) (seen : Silence) (old new : Terminal S) (t : DisplayStateView)
-      → SaysSilence seen old new → IsToldAs contents came screens old t → IsToldAs contents came screens new t
+      → SaysSilence seen old new → IsToldAs laid contents came screens old t → IsToldAs laid contents came screens new t
   said_followed came screens seen old new t (is_heard_again h empty here is) led =
-      told_on remaining contents came screens old new t t (records.Heard ∷ [])
+      told_on laid remaining contents came screens old new t t (records.Heard ∷ [])
       (keeps_same old.stream new.stream (ap (λ t. t.stream) is)) (refl, λ told. refl, tt)
       (ap (λ t. t.waiting) is ∙ (sym (append-nil (text_of records.Heard)) ∙ ap (λ w. w ++ texts_of (records.Heard ∷ [])) (sym empty)))
       (inl (ap (λ t. t.outer) is)) refl (inl (refl, refl)) led
   said_followed came screens seen old new t (is_silent seconds h due empty here is) led =
-      told_on remaining contents came screens old new t t (records.Silent seconds ∷ [])
+      told_on laid remaining contents came screens old new t t (records.Silent seconds ∷ [])
       (keeps_same old.stream new.stream (ap (λ t. t.stream) is)) (refl, λ told. refl, tt)
       (ap (λ t. t.waiting) is
       ∙ (sym (append-nil (text_of (records.Silent seconds)))
       ∙ ap (λ w. w ++ texts_of (records.Silent seconds ∷ [])) (sym empty)))
       (inl (ap (λ t. t.outer) is)) refl (inl (refl, refl)) led
   said_followed came screens seen old new t (is_as_it_was is) led =
-      subst (λ x. IsToldAs contents came screens x t) (sym is) led
+      subst (λ x. IsToldAs laid contents came screens x t) (sym is) led
 
   said_display_state : (seen : Silence) (old new : Terminal S) → SaysSilence seen old new → new.display_state ≡ old.display_state
   said_display_state seen old new (is_heard_again h empty here is) = ap (λ t. t.display_state) is
@@ -497,16 +505,16 @@ module _ {S : Type 0} (remaining contents : S → Option (List ℕ)) where
 
   -- one that isn't told in records
   bare_followed : (came : List S) (screens : List Screenshot) (old new : Terminal S) → is_some old.display_state ≡ false
-      → new.display_state ≡ old.display_state → new.stream ≡ old.stream → Stays old new → IsFollowed contents came screens old old.display_state
-      → IsFollowed contents came screens new new.display_state
+      → new.display_state ≡ old.display_state → new.stream ≡ old.stream → Stays old new → IsFollowed laid contents came screens old old.display_state
+      → IsFollowed laid contents came screens new new.display_state
   bare_followed came screens old new bare display_state stream stays h =
       let none : old.display_state ≡ None = untold_is old.display_state bare in
-      subst (IsFollowed contents came screens new) (sym (display_state ∙ none))
+      subst (IsFollowed laid contents came screens new) (sym (display_state ∙ none))
       (stays_led came screens old new (keeps_same old.stream new.stream stream) stays
-      (subst (IsFollowed contents came screens old) none h))
+      (subst (IsFollowed laid contents came screens old) none h))
 
   tells_followed : (came : List S) (screens : List Screenshot) (silence : Silence) (old new : Terminal S) → TellsSilence silence old new
-      → IsFollowed contents came screens old old.display_state → IsFollowed contents came screens new new.display_state
+      → IsFollowed laid contents came screens old old.display_state → IsFollowed laid contents came screens new new.display_state
   tells_followed came screens silence old new (is_told_over bare h is) led =
       bare_followed came screens old new bare (ap (λ t. t.display_state) is) (ap (λ t. t.stream) is)
       (lost [] (ap (λ t. t.waiting) is ∙ sym (append-nil old.waiting)) (ap (λ t. t.outer) is)) led
@@ -515,9 +523,9 @@ module _ {S : Type 0} (remaining contents : S → Option (List ℕ)) where
       (lost (notice_of seconds) (ap (λ t. t.waiting) is ∙ ap (λ w. w ++ notice_of seconds) (sym empty)) (ap (λ t. t.outer) is)) led
   tells_followed came screens silence old new (is_quiet bare h is) led = same_followed came screens old new is led
   tells_followed came screens silence old new (in_records is h) led =
-      subst (IsFollowed contents came screens new) (sym (said_display_state _ old new h)) (by old.display_state is led)
+      subst (IsFollowed laid contents came screens new) (sym (said_display_state _ old new h)) (by old.display_state is led)
     where
-      by : (o : Option DisplayStateView) → is_some o ≡ true → IsFollowed contents came screens old o → IsFollowed contents came screens new o
+      by : (o : Option DisplayStateView) → is_some o ≡ true → IsFollowed laid contents came screens old o → IsFollowed laid contents came screens new o
       by None none later = absurd cc
       by (Some t) some later = said_followed came screens _ old new t h later
 
@@ -544,53 +552,60 @@ module _ {S : Type 0} (remaining contents : S → Option (List ℕ)) where
       }
 
   flushed_followed : (came : List S) (screens : List Screenshot) (now : ℕ) (old new : Terminal S)
-      → Flushes remaining contents now old new → IsFollowed contents came screens old old.display_state
-      → IsFollowed contents came screens new new.display_state
+      → Flushes remaining contents now old new → IsFollowed laid contents came screens old old.display_state
+      → IsFollowed laid contents came screens new new.display_state
   flushed_followed came screens now old new f h =
-      subst (IsFollowed contents came screens new) (sym (ap (λ t. t.display_state) f.others)) (by old.display_state h)
+      subst (IsFollowed laid contents came screens new) (sym (ap (λ t. t.display_state) f.others)) (by old.display_state h)
     where
-      by : (o : Option DisplayStateView) → IsFollowed contents came screens old o → IsFollowed contents came screens new o
+      by : (o : Option DisplayStateView) → IsFollowed laid contents came screens old o → IsFollowed laid contents came screens new o
       by None led = flushed_led came screens now old new f led
-      by (Some t) led = told_flushed remaining contents came screens now old new t f led
+      by (Some t) led = told_flushed laid remaining contents came screens now old new t f led
 
   settled_followed : (came : List S) (screens : List Screenshot) (silence : Silence) (old new : Terminal S)
-      → Settles remaining contents silence old new → IsFollowed contents came screens old old.display_state
-      → IsFollowed contents came screens new new.display_state
+      → Settles remaining contents silence old new → IsFollowed laid contents came screens old old.display_state
+      → IsFollowed laid contents came screens new new.display_state
   settled_followed came screens silence old new s h =
       flushed_followed came screens silence.moment s.told new s.flushes (tells_followed came screens silence old s.told s.tells h)
 
   -- ---- all of them
 
-  all_more : (came more : List S) (screens extra : List Screenshot) (all : List (Terminal S)) → AreLed contents came screens all
-      → AreLed contents (came ++ more) (screens ++ extra) all
+  all_more : (came more : List S) (screens extra : List Screenshot) (all : List (Terminal S)) → AreLed laid contents came screens all
+      → AreLed laid contents (came ++ more) (screens ++ extra) all
   all_more came more screens extra [] h = tt
   all_more came more screens extra (t ∷ all) h =
       (followed_more came more screens extra t t.display_state h.0, all_more came more screens extra all h.1)
 
-  both_led : (came : List S) (screens : List Screenshot) (xs ys : List (Terminal S)) → AreLed contents came screens xs
-      → AreLed contents came screens ys → AreLed contents came screens (xs ++ ys)
+  both_led : (came : List S) (screens : List Screenshot) (xs ys : List (Terminal S)) → AreLed laid contents came screens xs
+      → AreLed laid contents came screens ys → AreLed laid contents came screens (xs ++ ys)
   both_led came screens [] ys h k = k
   both_led came screens (x ∷ xs) ys h k = (h.0, both_led came screens xs ys h.1 k)
 
   all_heard : (came : List S) (screens : List Screenshot) (old new : List (Terminal S)) (client client' : ClientView) (ending : Bool)
-      → HearsAll remaining contents old new client client' ending → AreLed contents came screens old → AreLed contents came screens new
+      → HearsAll remaining contents old new client client' ending → AreLed laid contents came screens old → AreLed laid contents came screens new
   all_heard came screens [] [] client client' ending h led = tt
   all_heard came screens [] (t ∷ new) client client' ending h led = absurd h
   all_heard came screens (t ∷ old) [] client client' ending h led = absurd h
   all_heard came screens (t ∷ old) (t' ∷ new) client client' ending h led =
       (heard_followed came screens h.1 t t' client h.0 h.3 led.0, all_heard came screens old new h.0 client' h.2 h.4 led.1)
 
+  -- the overlays of terminals that were painted at a moment are among those that were laid then
+  abbrev AreLaid : ℕ → List (Terminal S) → Type 0
+  AreLaid now [] = Unit {0}
+  AreLaid now (t ∷ all) = IfSome t.predicting (λ overlay. laid overlay now) × AreLaid now all
+
   all_painted : (came : List S) (screens : List Screenshot) (silence : Silence) (client : ClientView) (old new : List (Terminal S))
-      → AreEach (MayPaint silence client) old new → AreLed contents came screens old
-      → AreLed contents came (screens ++ (shown_of client).screen ∷ []) new
-  all_painted came screens silence client [] [] h led = tt
-  all_painted came screens silence client [] (t ∷ new) h led = absurd h
-  all_painted came screens silence client (t ∷ old) [] h led = absurd h
-  all_painted came screens silence client (t ∷ old) (t' ∷ new) h led =
-      (painted_followed came screens silence client t t' h.0 led.0, all_painted came screens silence client old new h.1 led.1)
+      → AreEach (MayPaint silence client) old new → AreLaid silence.moment new → AreLed laid contents came screens old
+      → AreLed laid contents came (screens ++ (shown_of client).screen ∷ []) new
+  all_painted came screens silence client [] [] h were_laid led = tt
+  all_painted came screens silence client [] (t ∷ new) h were_laid led = absurd h
+  all_painted came screens silence client (t ∷ old) [] h were_laid led = absurd h
+  all_painted came screens silence client (t ∷ old) (t' ∷ new) h were_laid led = (
+    painted_followed came screens silence client t t' h.0 were_laid.0 led.0,
+    all_painted came screens silence client old new h.1 were_laid.1 led.1,
+  )
 
   all_settled : (came : List S) (screens : List Screenshot) (silence : Silence) (old new : List (Terminal S))
-      → AreEach (Settles remaining contents silence) old new → AreLed contents came screens old → AreLed contents came screens new
+      → AreEach (Settles remaining contents silence) old new → AreLed laid contents came screens old → AreLed laid contents came screens new
   all_settled came screens silence [] [] h led = tt
   all_settled came screens silence [] (t ∷ new) h led = absurd h
   all_settled came screens silence (t ∷ old) [] h led = absurd h
@@ -598,19 +613,19 @@ module _ {S : Type 0} (remaining contents : S → Option (List ℕ)) where
       (settled_followed came screens silence t t' h.0 led.0, all_settled came screens silence old new h.1 led.1)
 
   if_led : (b : Bool) (came : List S) (screens : List Screenshot) (t : Terminal S) (all : List (Terminal S))
-      → IsFollowed contents came screens t t.display_state
-      → AreLed contents came screens all → AreLed contents came screens (if b then t ∷ all else all)
+      → IsFollowed laid contents came screens t t.display_state
+      → AreLed laid contents came screens all → AreLed laid contents came screens (if b then t ∷ all else all)
   if_led true came screens t all h k = (h, k)
   if_led false came screens t all h k = k
 
-  all_staying : (came : List S) (screens : List Screenshot) (all : List (Terminal S)) → AreLed contents came screens all
-      → AreLed contents came screens (who_stay all)
+  all_staying : (came : List S) (screens : List Screenshot) (all : List (Terminal S)) → AreLed laid contents came screens all
+      → AreLed laid contents came screens (who_stay all)
   all_staying came screens [] led = tt
   all_staying came screens (t ∷ all) led =
       if_led (not (is_gone t)) came screens t (who_stay all) led.0 (all_staying came screens all led.1)
 
-  all_turned : (came : List S) (screens : List Screenshot) (all : List (Terminal S)) → AreLed contents came screens all
-      → AreLed contents came screens (turned_round all)
+  all_turned : (came : List S) (screens : List Screenshot) (all : List (Terminal S)) → AreLed laid contents came screens all
+      → AreLed laid contents came screens (turned_round all)
   all_turned came screens [] led = tt
   all_turned came screens (t ∷ all) led = both_led came screens all (t ∷ []) led.1 (led.0, tt)
 
@@ -631,53 +646,92 @@ module _ {S : Type 0} (remaining contents : S → Option (List ℕ)) where
   }
 
   module _ (to : Addr) where
+    abbrev StepLaid : (step : RunStep S) (calls calls' : Option (List PortCall)) (old new : Shared S)
+        → IsStep remaining contents to step calls calls' old new → Type 0
+    StepLaid (Asks call) calls calls' old new h = Unit {0}
+    StepLaid (Came stream) calls calls' old new h = Unit {0}
+    StepLaid (Took silence wait) calls calls' old new h = AreLaid silence.moment h.painted
+
+    abbrev RunLaid : (steps : List (RunStep S)) (calls calls' : Option (List PortCall)) (old new : Shared S)
+        → RunsBy remaining contents to steps calls calls' old new → Type 0
+    RunLaid [] calls calls' old new h = Unit {0}
+    RunLaid (step ∷ steps) calls calls' old new h = StepLaid step calls h.1 old h.0 h.2 × RunLaid steps h.1 calls' h.0 new h.3
+
+    -- what was laid in a run is among what was laid
+    some_laid : (o : Option OverlayOf) (now : ℕ) → ((overlay : OverlayOf) → o ≡ Some overlay → laid overlay now)
+        → IfSome o (λ overlay. laid overlay now)
+    some_laid None now each = tt
+    some_laid (Some overlay) now each = each overlay refl
+
+    all_laid : (all : List (Terminal S)) (now : ℕ) → ((overlay : OverlayOf) → HasOverlay overlay all → laid overlay now) → AreLaid now all
+    all_laid [] now each = tt
+    all_laid (t ∷ all) now each =
+        (some_laid t.predicting now (λ overlay is. each overlay (inl is)), all_laid all now (λ overlay is. each overlay (inr is)))
+
+    step_laid : (step : RunStep S) (calls calls' : Option (List PortCall)) (old new : Shared S)
+        (h : IsStep remaining contents to step calls calls' old new)
+        → ((overlay : OverlayOf) (now : ℕ) → IsLaidIn remaining contents to overlay now step calls calls' old new h → laid overlay now)
+        → StepLaid step calls calls' old new h
+    step_laid (Asks call) calls calls' old new h each = tt
+    step_laid (Came stream) calls calls' old new h each = tt
+    step_laid (Took silence wait) calls calls' old new h each =
+        all_laid h.painted silence.moment (λ overlay is. each overlay silence.moment (refl, is))
+
+    run_laid : (steps : List (RunStep S)) (calls calls' : Option (List PortCall)) (old new : Shared S)
+        (h : RunsBy remaining contents to steps calls calls' old new)
+        → ((overlay : OverlayOf) (now : ℕ) → WasLaid remaining contents to steps calls calls' old new h overlay now → laid overlay now)
+        → RunLaid steps calls calls' old new h
+    run_laid [] calls calls' old new h each = tt
+    run_laid (step ∷ steps) calls calls' old new h each = (
+      step_laid step calls h.1 old h.0 h.2 (λ overlay now is. each overlay now (inl is)),
+      run_laid steps h.1 calls' h.0 new h.3 (λ overlay now is. each overlay now (inr is)),
+    )
+
     step_led : (came : List S) (screens : List Screenshot) (step : RunStep S) (calls calls' : Option (List PortCall))
-        (old new : Shared S) → IsStep remaining contents to step calls calls' old new → AreLed contents came screens old.all
-        → AreLed contents (came ++ came_in (step ∷ [])) (screens ++ new.client.kept.receiver.newest.state ∷ []) new.all
-    step_led came screens (Asks call) calls calls' old new h led =
-        subst (λ s. AreLed contents (came ++ []) (screens ++ s.client.kept.receiver.newest.state ∷ []) s.all) (sym h.1)
+        (old new : Shared S) (h : IsStep remaining contents to step calls calls' old new) → StepLaid step calls calls' old new h
+        → AreLed laid contents came screens old.all
+        → AreLed laid contents (came ++ came_in (step ∷ [])) (screens ++ new.client.kept.receiver.newest.state ∷ []) new.all
+    step_led came screens (Asks call) calls calls' old new h were_laid led =
+        subst (λ s. AreLed laid contents (came ++ []) (screens ++ s.client.kept.receiver.newest.state ∷ []) s.all) (sym h.1)
         (all_more came [] screens (old.client.kept.receiver.newest.state ∷ []) old.all led)
-    step_led came screens (Came stream) calls calls' old new h led =
+    step_led came screens (Came stream) calls calls' old new h were_laid led =
         let screen = new.client.kept.receiver.newest.state in
         let comes : Comes stream old new = h.1 in
         let first = all_more came (stream ∷ []) screens (screen ∷ []) old.all led in
-        subst (AreLed contents (came ++ stream ∷ []) (screens ++ screen ∷ [])) (sym (ap (λ s. s.all) comes.all))
+        subst (AreLed laid contents (came ++ stream ∷ []) (screens ++ screen ∷ [])) (sym (ap (λ s. s.all) comes.all))
         (both_led (came ++ stream ∷ []) (screens ++ screen ∷ []) old.all (comes.terminal ∷ []) first (
-          subst (IsFollowed contents (came ++ stream ∷ []) (screens ++ screen ∷ []) comes.terminal) (sym comes.fresh.untold)
+          subst (IsFollowed laid contents (came ++ stream ∷ []) (screens ++ screen ∷ []) comes.terminal) (sym comes.fresh.untold)
               (came_led came (screens ++ screen ∷ []) stream comes.terminal comes.is comes.fresh),
           tt,
         ))
-    step_led came screens (Took silence wait) calls calls' old new h led =
+    step_led came screens (Took silence wait) calls calls' old new h were_laid led =
         let screen = new.client.kept.receiver.newest.state in
         let heard = all_heard came screens old.all h.heard old.client h.client h.ending h.hears led in
-        let done = all_painted came screens silence new.client h.heard h.painted h.paints heard in
+        let done = all_painted came screens silence new.client h.heard h.painted h.paints were_laid heard in
         let settled = all_settled came (screens ++ screen ∷ []) silence h.painted h.settled h.settles done in
         let all =
         all_turned came (screens ++ screen ∷ []) (who_stay h.settled) (all_staying came (screens ++ screen ∷ []) h.settled settled) in
-        subst (λ c. AreLed contents c (screens ++ screen ∷ []) new.all) (sym (append-nil came))
-        (subst (AreLed contents came (screens ++ screen ∷ [])) (sym h.all) all)
-
-    pub came_on : (came : List S) (step : RunStep S) (steps : List (RunStep S))
-        → (came ++ came_in (step ∷ [])) ++ came_in steps ≡ came ++ came_in (step ∷ steps)
-    came_on came (Asks call) steps = ap (λ c. c ++ came_in steps) (append-nil came)
-    came_on came (Came stream) steps = append_assoc came (stream ∷ []) (came_in steps)
-    came_on came (Took silence wait) steps = ap (λ c. c ++ came_in steps) (append-nil came)
+        subst (λ c. AreLed laid contents c (screens ++ screen ∷ []) new.all) (sym (append-nil came))
+        (subst (AreLed laid contents came (screens ++ screen ∷ [])) (sym h.all) all)
 
     runs_led : (steps : List (RunStep S)) (came : List S) (screens : List Screenshot) (calls calls' : Option (List PortCall))
-        (old new : Shared S) (h : RunsBy remaining contents to steps calls calls' old new) → AreLed contents came screens old.all
-        → AreLed contents (came ++ came_in steps) (screens ++ screens_in remaining contents to steps calls calls' old new h) new.all
-    runs_led [] came screens calls calls' old new h led =
-        subst (λ s. AreLed contents (came ++ []) (screens ++ []) s.all) (sym h.1) (all_more came [] screens [] old.all led)
-    runs_led (step ∷ steps) came screens calls calls' old new h led =
+        (old new : Shared S) (h : RunsBy remaining contents to steps calls calls' old new) → RunLaid steps calls calls' old new h
+        → AreLed laid contents came screens old.all → AreLed laid contents (came ++ came_in steps) (screens ++ screens_in remaining contents to steps calls calls' old new h) new.all
+    runs_led [] came screens calls calls' old new h were_laid led =
+        subst (λ s. AreLed laid contents (came ++ []) (screens ++ []) s.all) (sym h.1) (all_more came [] screens [] old.all led)
+    runs_led (step ∷ steps) came screens calls calls' old new h were_laid led =
         let screen = h.0.client.kept.receiver.newest.state in
         let rest = screens_in remaining contents to steps h.1 calls' h.0 new h.3 in
-        let one = step_led came screens step calls h.1 old h.0 h.2 led in
+        let one = step_led came screens step calls h.1 old h.0 h.2 were_laid.0 led in
         let all =
-        runs_led steps (came ++ came_in (step ∷ [])) (screens ++ screen ∷ []) h.1 calls' h.0 new h.3 one in
-        subst (λ c. AreLed contents c (screens ++ screen ∷ rest) new.all) (came_on came step steps)
-        (subst (λ s. AreLed contents ((came ++ came_in (step ∷ [])) ++ came_in steps) s new.all) (append_assoc screens (screen ∷ []) rest)
+        runs_led steps (came ++ came_in (step ∷ [])) (screens ++ screen ∷ []) h.1 calls' h.0 new h.3 were_laid.1 one in
+        subst (λ c. AreLed laid contents c (screens ++ screen ∷ rest) new.all) (came_on remaining contents to came step steps)
+        (subst (λ s. AreLed laid contents ((came ++ came_in (step ∷ [])) ++ came_in steps) s new.all) (append_assoc screens (screen ∷ []) rest)
         all)
 
-  pub paintings_lead : PaintingsLead remaining contents
-  paintings_lead to steps calls calls' old new none h =
-      runs_led to steps [] [] calls calls' old new h (subst (AreLed contents [] []) (sym none) tt)
+pub paintings_lead : {S : Type 0} (remaining contents : S → Option (List ℕ)) → PaintingsLead remaining contents
+paintings_lead remaining contents to steps calls calls' old new none h =
+    let laid = WasLaid remaining contents to steps calls calls' old new h in
+    runs_led laid remaining contents to steps [] [] calls calls' old new h
+    (run_laid laid remaining contents to steps calls calls' old new h (λ overlay now is. is))
+    (subst (AreLed laid contents [] []) (sym none) tt)

@@ -1,5 +1,5 @@
 -- One of a list is one of a longer one.
-use Rattle.std.proofs.Common.{◌≡◌, List, [], ◌∷◌, ◌++◌, Option, Some, None, refl, inl, inr}
+use Rattle.std.proofs.Common.{List, [], ◌∷◌, ◌++◌, Option, Some, None, refl, inl, inr}
 use Rattle.roam_screens.specs.Screenshot.{Screenshot}
 use Rattle.roam_turns.specs.declared.outer.Noted.{Noted}
 use Rattle.roam_shared_client_laws.specs.Paintings.{IsNotedOf, IsOneOf}

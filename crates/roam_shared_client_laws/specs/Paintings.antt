@@ -15,7 +15,7 @@ use Rattle.roam_turns.specs.Calls.{PortCall}
 use Rattle.roam_turns.specs.Painting.{DisplaysNoted, Fits, ShowsAt}
 use Rattle.roam_turns.specs.declared.outer.Noted.{Noted}
 use Rattle.roam_outer_terminal.specs.Overlaid.{on_show}
-use Rattle.roam_shared_client.specs.Running.{RunStep, RunsBy}
+use Rattle.roam_shared_client.specs.Running.{Asks, Came, IsStep, RunStep, RunsBy, Took}
 use Rattle.roam_shared_client.specs.Sharing.{Shared}
 use Rattle.roam_outer_terminal.specs.declared.terminal.Terminal.{Terminal}
 use Rattle.roam_shared_client_laws.specs.Lines.{came_in}
@@ -67,22 +67,44 @@ pub record IsLed {S : Type 0} (contents : S → Option (List ℕ)) (came : List 
 
 -- ---- in records
 
--- a screen that was shown, with what was predicted over it or without
-abbrev pub IsLaidOf : List Screenshot → Screenshot → Type 0
-IsLaidOf screens s =
+-- one of these terminals has this overlay
+abbrev pub HasOverlay : {S : Type 0} → OverlayOf → List (Terminal S) → Type 0
+HasOverlay overlay [] = ⊥
+HasOverlay overlay (t ∷ all) = (t.predicting ≡ Some overlay) ⊎ HasOverlay overlay all
+
+-- a terminal had this overlay once it was painted in a step, at this moment
+abbrev pub IsLaidIn : {S : Type 0} (remaining contents : S → Option (List ℕ)) (to : Addr) (overlay : OverlayOf) (now : ℕ) (step : RunStep S)
+    (calls calls' : Option (List PortCall)) (old new : Shared S) → IsStep remaining contents to step calls calls' old new → Type 0
+IsLaidIn remaining contents to overlay now (Asks call) calls calls' old new h = ⊥
+IsLaidIn remaining contents to overlay now (Came stream) calls calls' old new h = ⊥
+IsLaidIn remaining contents to overlay now (Took silence wait) calls calls' old new h =
+    (now ≡ silence.moment) × HasOverlay overlay h.painted
+
+-- the same of a step of a run
+abbrev pub WasLaid : {S : Type 0} (remaining contents : S → Option (List ℕ)) (to : Addr) (steps : List (RunStep S))
+    (calls calls' : Option (List PortCall)) (old new : Shared S) → RunsBy remaining contents to steps calls calls' old new
+    → OverlayOf → ℕ → Type 0
+WasLaid remaining contents to [] calls calls' old new h overlay now = ⊥
+WasLaid remaining contents to (step ∷ steps) calls calls' old new h overlay now =
+    IsLaidIn remaining contents to overlay now step calls h.1 old h.0 h.2
+    ⊎ WasLaid remaining contents to steps h.1 calls' h.0 new h.3 overlay now
+
+-- a screen that was shown, without an overlay, or with one of these overlays at its moment
+abbrev pub IsLaidOf : (OverlayOf → ℕ → Type 0) → List Screenshot → Screenshot → Type 0
+IsLaidOf laid screens s =
     (base : Screenshot) × IsOneOf base screens
-    × ((s ≡ base) ⊎ ((overlay : OverlayOf) × (now : ℕ) × (s ≡ laid_over overlay base now)))
+    × ((s ≡ base) ⊎ ((overlay : OverlayOf) × (now : ℕ) × laid overlay now × (s ≡ laid_over overlay base now)))
 
 -- what a terminal is to show is a part of such a screen, but for what is masked
-abbrev pub IsPartOf : List Screenshot → List Part → Option Screenshot → Type 0
-IsPartOf screens masks None = Unit {0}
-IsPartOf screens masks (Some view) = (part : Part) × (s : Screenshot) × IsLaidOf screens s × (view ≡ part_of part masks s)
+abbrev pub IsPartOf : (OverlayOf → ℕ → Type 0) → List Screenshot → List Part → Option Screenshot → Type 0
+IsPartOf laid screens masks None = Unit {0}
+IsPartOf laid screens masks (Some view) = (part : Part) × (s : Screenshot) × IsLaidOf laid screens s × (view ≡ part_of part masks s)
 
 -- A terminal that asked for records and came at the other end of one of these streams: what is noted of it is one of the screens that were
 -- shown; what it was written and what waits for it are what was before records began, and then records; the paintings among them, since it
 -- was last painted anew, lead any terminal that has each size which was told to what it is to show, of which the size was told last; and
--- that is a part of one of these screens with what was predicted over it.
-pub record IsToldAs {S : Type 0} (contents : S → Option (List ℕ)) (came : List S) (screens : List Screenshot) (t : Terminal S)
+-- that is a part of one of these screens, without an overlay or with one of these.
+pub record IsToldAs {S : Type 0} (laid : OverlayOf → ℕ → Type 0) (contents : S → Option (List ℕ)) (came : List S) (screens : List Screenshot) (t : Terminal S)
     (display_state : DisplayStateView) : Type 0 where
   pub stream : S
   pub is : IsOneOf stream came
@@ -93,22 +115,24 @@ pub record IsToldAs {S : Type 0} (contents : S → Option (List ℕ)) (came : Li
   pub said : List Record
   pub parts : written ++ t.waiting ≡ before ++ texts_of said
   pub leads : IsSaid said display_state
-  pub shows : IsPartOf screens display_state.masks display_state.view
+  pub shows : IsPartOf laid screens display_state.masks display_state.view
 
 -- so it is of a terminal that asked for records, and of one that didn't
-abbrev pub IsFollowed : {S : Type 0} → (S → Option (List ℕ)) → List S → List Screenshot → Terminal S → Option DisplayStateView → Type 0
-IsFollowed contents came screens t None = IsLed contents came screens t
-IsFollowed contents came screens t (Some display_state) = IsToldAs contents came screens t display_state
+abbrev pub IsFollowed : {S : Type 0} → (OverlayOf → ℕ → Type 0) → (S → Option (List ℕ)) → List S → List Screenshot → Terminal S
+    → Option DisplayStateView → Type 0
+IsFollowed laid contents came screens t None = IsLed contents came screens t
+IsFollowed laid contents came screens t (Some display_state) = IsToldAs laid contents came screens t display_state
 
-abbrev pub AreLed : {S : Type 0} → (S → Option (List ℕ)) → List S → List Screenshot → List (Terminal S) → Type 0
-AreLed contents came screens [] = Unit {0}
-AreLed contents came screens (t ∷ all) = IsFollowed contents came screens t t.display_state × AreLed contents came screens all
+abbrev pub AreLed : {S : Type 0} → (OverlayOf → ℕ → Type 0) → (S → Option (List ℕ)) → List S → List Screenshot → List (Terminal S) → Type 0
+AreLed laid contents came screens [] = Unit {0}
+AreLed laid contents came screens (t ∷ all) = IsFollowed laid contents came screens t t.display_state × AreLed laid contents came screens all
 
 -- ---- the law
 
--- So it is of each terminal that is there after a run that begins without terminals.
+-- So it is of each terminal that is there after a run that begins without terminals, with the overlays that its terminals had when they were
+-- painted.
 abbrev pub PaintingsLead : {S : Type 0} → (S → Option (List ℕ)) → (S → Option (List ℕ)) → Type 0
 PaintingsLead {S} remaining contents =
     (to : Addr) (steps : List (RunStep S)) (calls calls' : Option (List PortCall)) (old new : Shared S) → old.all ≡ []
     → (h : RunsBy remaining contents to steps calls calls' old new)
-    → AreLed contents (came_in steps) (screens_in remaining contents to steps calls calls' old new h) new.all
+    → AreLed (WasLaid remaining contents to steps calls calls' old new h) contents (came_in steps) (screens_in remaining contents to steps calls calls' old new h) new.all
