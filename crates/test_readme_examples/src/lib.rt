@@ -20,6 +20,8 @@ pub mod pane_metadata;
 pub mod pane_protocol;
 pub mod pane_sockets;
 pub mod pane_subscribers;
+pub mod repaint;
+pub mod rewrap;
 pub mod rows;
 pub mod screens;
 pub mod scrollback;

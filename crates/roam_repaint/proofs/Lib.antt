@@ -1,0 +1,4 @@
+pub mod Grounding
+pub mod Whole
+pub mod Reading
+pub mod Texts

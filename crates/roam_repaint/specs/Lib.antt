@@ -1,0 +1,2 @@
+pub mod Repainting
+pub mod Repainted

@@ -1,0 +1,5 @@
+pub mod Joining
+pub mod Cutting
+pub mod Positions
+pub mod Cursors
+pub mod Shots

@@ -1,0 +1,31 @@
+-- Positions and places, row by row.
+use Rattle.std.proofs.Common.{◌≡◌, ℕ, zero, suc, ◌-◌, true, false, List, [], ◌∷◌, refl, ap, ◌∙◌, arith}
+use Rattle.std.specs.Prelude.{◌==◌, if◌then◌else◌}
+use Rattle.std.proofs.lemmas.Bool.{ne_eqb}
+use Rattle.roam_rewrap.specs.Lines.{TextRow}
+use Rattle.roam_rewrap.specs.Windows.{below, is_here, place_of, position_after, position_behind, position_from}
+use Rattle.roam_rewrap.specs.declared.places.ScreenPosition.{ScreenPosition}
+use Rattle.roam_rewrap.specs.declared.places.TextPosition.{TextPosition}
+
+pub position_step : (s : TextPosition) (left : ℕ) (row : TextRow) (rows : List TextRow)
+    → position_from (if left == 0 then s else position_after s row) (left - 1) rows ≡ position_from s left (row ∷ rows)
+position_step s zero row rows = refl
+position_step s (suc n) row rows =
+    let back : suc n - 1 ≡ n = omega arith in
+    ap (λ b. position_from (if b then s else position_after s row) (suc n - 1) rows) (ne_eqb (suc n) 0 (λ e. absurd (omega (arith, e))))
+    ∙ ap (λ k. position_from (position_after s row) k rows) back
+
+pub position_end : (s : TextPosition) (left : ℕ) → position_from s left [] ≡ s
+position_end s zero = refl
+position_end s (suc n) = refl
+
+pub place_here : (s : TextPosition) (row : TextRow) (rows : List TextRow) → is_here s row ≡ true
+    → place_of s (row ∷ rows) ≡ record { row = 0; col = s.cell }
+place_here s row rows h = ap (λ b. if b then record { row = 0; col = s.cell } else below (place_of (position_behind s row) rows)) h
+
+pub place_below : (s : TextPosition) (row : TextRow) (rows : List TextRow) → is_here s row ≡ false
+    → place_of s (row ∷ rows) ≡ below (place_of (position_behind s row) rows)
+place_below s row rows h = ap (λ b. if b then record { row = 0; col = s.cell } else below (place_of (position_behind s row) rows)) h
+
+pub same_place : (p q : ScreenPosition) → p.row ≡ q.row → p.col ≡ q.col → p ≡ q
+same_place p q row col i = record { row = row i; col = col i }
