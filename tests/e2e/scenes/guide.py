@@ -19,6 +19,9 @@ NOT_RUN = {
     "roam mux ssh -p 2222 -J gate HOST": "the command that stands for ssh here knows no jump host",
 }
 
+# So many seconds a command has at a terminal: one that begins a session over ssh starts a dozen processes.
+LONG = 45.0
+
 # What stands for ssh, and for another command of it: its options are passed over up to the host, and the words run there in another home.
 SSH = """#!/bin/sh
 while :; do
@@ -97,7 +100,7 @@ class Commands:
         """Runs a command at a terminal, and checks that a text comes to be shown; then it is left."""
         self.ran.append(command)
         outer = self.home.terminal(command)
-        check(command, outer.shows(text), outer.rows)
+        check(command, outer.shows(text, LONG), outer.rows)
         outer.type(leaves)
         check(f"{command}: it is left", outer.ends(), outer.rows)
 
@@ -216,7 +219,7 @@ def from_tmux(all_):
     all_.does("mux list-windows work", "build")
     all_.does("mux clients work")
     all_.does("mux kill work:2")
-    all_.does("mux env work", "SSH_AUTH_SOCK")
+    all_.does("mux env work", "DISPLAY")
     all_.does("mux buffer set work TEXT")
     all_.does("mux buffer show work", "TEXT")
     all_.does("mux paste work < FILE")
