@@ -81,7 +81,7 @@ class Home:
 
     def terminal(self, command, size=(24, 80)):
         """A terminal on which a command runs."""
-        return Outer(["sh", "-c", f"cd {self.home} && {command}"], size=size, environment=self.environment)
+        return Outer(["sh", "-c", f"cd {self.home} || exit\n{command}"], size=size, environment=self.environment)
 
 
 class Commands:
@@ -225,8 +225,7 @@ def from_tmux(all_):
     all_.does("mux paste work < FILE")
     all_.shows("mux attach -d work")
     all_.does("mux cmd work split-window htop", status=0)
-    all_.does("timeout 2 mux log work; true")
-    all_.ran.append("mux log work")
+    all_.does("timeout 2 roam mux log work; true")
     all_.does("mux kill -f work")
     all_.does("mux new -d work")
     all_.does("mux kill work")
@@ -261,12 +260,14 @@ def man_pages(all_):
     all_.does("mux log build", "status 0")
     all_.shows("mux ssh -p 2222 user@host work")
     all_.does("mkdir -m 700 d near")
-    parts = all_.home.terminal("roam serve --dir d & roam-pane-shells d & roam attach --dir d --watch")
+    begun = "roam serve --dir d & roam-pane-shells d &"
+    parts = all_.home.terminal(f"{begun}\nuntil [ -S d/clients ]; do sleep 0.1; done; roam attach --dir d --watch")
     all_.ran += ["mkdir -m 700 d", "mkdir -m 700 near", "roam serve --dir d & roam-pane-shells d &", "roam attach --dir d --watch"]
-    check("the parts of a session show it", parts.shows("[1]"), parts.rows)
-    far = all_.home.terminal("relay --dir near - sh -c 'cd ~; exec roam-relay --far --dir d -' & sleep 2; attach near")
+    check("the parts of a session show it", parts.shows("[1]", LONG), parts.rows)
+    begun = "relay --dir near - sh -c 'exec roam-relay --far --dir d -' &"
+    far = all_.home.terminal(f"{begun}\nuntil [ -S near/clients ]; do sleep 0.1; done; attach near")
     all_.ran += ["relay --dir near - ssh host roam-relay --far --dir work - &", "attach near"]
-    check("so does a relay of them", far.shows("[1]"), far.rows)
+    check("so does a relay of them", far.shows("[1]", LONG), far.rows)
     parts.process.kill()
 
 
@@ -303,7 +304,8 @@ def settings(home, pages):
     """Each block of settings of the pages is one without a fault."""
     file = home.home / ".config/roam/roam.conf"
     file.parent.mkdir(parents=True, exist_ok=True)
-    for block in [block for text in pages for block in re.findall(r"^```\n(.*?)^```", text, re.M | re.S)]:
+    fenced = [found for text in pages for found in re.findall(r"^```(\w*)\n(.*?)^```", text, re.M | re.S)]
+    for block in [block for kind, block in fenced if not kind]:
         file.write_text(block, encoding="utf-8")
         found = home.run("roam mux settings")
         check(f"settings: {block.splitlines()[0]} ..", found[0] == 0, found)

@@ -194,8 +194,8 @@ def remote(tasks):
     ended = tasks.outer.ends()
     listed = tasks.home.run("roam mux ls")[1]
     is_over = tasks.home.run("roam mux kill ssh:HOST:main")[0] == 0
-    tasks.done("use a session on another machine with UDP blocked, and end its relay", shown and ended and "ssh:HOST:main" in listed and is_over,
-               listed)
+    holds = shown and ended and "ssh:HOST:main" in listed and is_over
+    tasks.done("use a session on another machine with UDP blocked, and end its relay", holds, listed)
 
 
 def survives(tasks):
