@@ -63,7 +63,7 @@ def copy_private(folder):
     other.type(b"seq 5000 5040\r")
     check("what goes on comes at the other", other.shows("5040"), other.rows)
     check("and not here", stays(one, shown), one.rows)
-    check("where it is told how many rows came", comes(lambda: "rows came since" in one.rows()[-1]), one.rows)
+    check("where it is told how many rows came", comes(lambda: "new rows" in one.rows()[-1]), one.rows)
     one.type(b"q")
     check("q has all again as the other", comes(lambda: one.rows()[:-1] == other.rows()[:-1]) and one.shows("5040"), one.rows)
     watcher = Outer(tool("mux", "watch", SESSION), environment=VI)

@@ -57,7 +57,7 @@ def jobs(folder):
     outer.type(b"sleep 1000 &\r")
     comes(lambda: outer.rows()[-1].rstrip().endswith(":sh*"))
     names = "cat (stopped), sleep (background)"
-    for keys, text in ((b"\x02x", f"close {names} in pane 2? y"), (b"\x02&", f"shut window 1, with {names} in pane 2 and end")):
+    for keys, text in ((b"\x02x", f"close {names} in pane 2? y"), (b"\x02&", f"close window 1, with {names} in pane 2 and the session")):
         outer.type(keys)
         check(f"{keys!r} asks, and names them", outer.status(text), outer.rows)
         outer.type(b"n")

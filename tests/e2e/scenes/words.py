@@ -47,7 +47,7 @@ def words(folder):
     check("what was asked for just before is known", is_known, listed())
     slips()
     told = said("send", "-a", "other", "char 61", "split up")
-    check("mux send -a refuses what is no act", told[0] == 1 and told[2].startswith("mux: 'split up' is no act"), told)
+    check("mux send -a refuses what is no act", told[0] == 1 and told[2].startswith("mux: 'split up' is neither an act"), told)
     check("and types none of the others", "a" not in said("capture", "other")[1].replace("started", ""), said("ls"))
     is_typed = said("send", "other", "C-u", "close next", "Enter") == (0, "", "")
     is_shown = is_typed and comes(lambda: "close next" in said("capture", "other")[1], 2)
@@ -70,7 +70,7 @@ def slips():
     check("mux help | head -1 is a line", run.stdout.count(b"\n") == 1 and run.stderr == b"" and run.stdout.startswith(b"mux "), run)
     for called, wanted in (("roam mux", "roam mux"), ("./roam mux", "./roam mux"), ("", "mux")):
         run = subprocess.run(tool("mux", "help"), stdout=subprocess.PIPE, env={**os.environ, "ROAM_CALLED": called}, check=True)
-        check(f"mux help names {wanted}", run.stdout.decode().startswith(f"{wanted} [NAME] | WORD"), run.stdout[:80])
+        check(f"mux help names {wanted}", run.stdout.decode().startswith(f"{wanted} [NAME] | COMMAND"), run.stdout[:80])
 
 
 def all_clients():
@@ -117,7 +117,7 @@ def prefix(folder):
     outer.type(b"\x01%")
     check("ROAM_PREFIX=C-a makes C-a the prefix", outer.status(" 1 [2]"), outer.rows)
     outer.type(b"\x01?")
-    check("the help names it", outer.shows("C-a      C-a itself") and not outer.shows("C-b", 0.1), outer.rows)
+    check("the help names it", outer.shows("C-a      type C-a itself") and not outer.shows("C-b", 0.1), outer.rows)
     outer.type(b"q")
     outer.status(" 1 [2]")
     outer.type(b"cat -v\r\x01\x01\x02d\r")
