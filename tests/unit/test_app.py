@@ -213,7 +213,7 @@ class Loop(Fronts):
         self.place.processes["client"] = 5
         self.front.views.view.reconnector.retry.faults = 1
         for text, told in ((record("refused", 3, words="bad act"), b"the client process refused a line: bad act"),
-                           (b"full\n", b"16 terminals are attached; no more are accepted")):
+                           (b"full\n", b"at most 16 terminals may attach")):
             client = self.connect()
             client.send(text)
             client.close()

@@ -588,8 +588,8 @@ class Sends(Based):
                     continue
                 with self.assertRaisesRegex(Fault, f"^{words}$"):
                     send.send(session, ["char 61"])
-        self.opens.side_effect = Fault("16 terminals are attached; no more are accepted")
-        with self.assertRaisesRegex(Fault, "^16 terminals are attached; no more are accepted$"):
+        self.opens.side_effect = Fault("at most 16 terminals may attach")
+        with self.assertRaisesRegex(Fault, "^at most 16 terminals may attach$"):
             send.send(self.session(), ["char 61"])
 
 

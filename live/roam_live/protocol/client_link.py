@@ -47,7 +47,7 @@ PASTED = "paste ; "
 
 # Why a link was lost.
 LOST = "the client process ended; the last keys may be lost"
-NO_MORE = "16 terminals are attached; no more are accepted"
+NO_MORE = "at most 16 terminals may attach"
 LET_GO = "this terminal was disconnected; the last keys may be lost"
 NO_RECORDS = "the client process there sends no display records"
 REFUSED = "the client process refused a line"

@@ -413,7 +413,7 @@ def full(folder):
         link.connect()
     check("fifteen more are taken", all(link.begins(5) for link in links), listed())
     late = Outer(tool("mux", "other"))
-    full = "16 terminals are attached; no more are accepted"
+    full = "at most 16 terminals may attach"
     check("a seventeenth is told so", late.shows(f"{full}; next try in 1 s; C-c or q leaves"), late.rows)
     check("so is a send", said("send", "other", "a") == (1, "", f"mux: {full}\n"), said("send", "other", "a"))
     check("and a capture", said("capture", "other") == (1, "", f"mux: {full}\n"), said("capture", "other"))
