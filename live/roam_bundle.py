@@ -16,12 +16,14 @@ signal(SIGINT, SIG_DFL)
 FOLDER = os.path.dirname(os.path.realpath(__file__))
 PACKAGE = "roam_live"
 
-# For each bundle, the modules that it is for; it has them with what they import at once, but for what the bundles before it have: what the
-# words of mux need that go to a session, what a front end needs besides to show a window, and the rest of it.
+# For each bundle, the bundles that are loaded before it, and the modules that it is for; it has these with what they import at once, but for
+# what is in those before. They have what the words of mux need that go to a session, what a front end needs besides to show a window, the
+# rest of a front end, and a pty host.
 ROOTS = {
-    "mux": (f"{PACKAGE}.cli.mux", f"{PACKAGE}.cli.attaching"),
-    "first_painting": (f"{PACKAGE}.frontend.follow",),
-    "front_end": (f"{PACKAGE}.frontend.app",),
+    "mux": ((), (f"{PACKAGE}.cli.mux", f"{PACKAGE}.cli.attaching")),
+    "first_painting": (("mux",), (f"{PACKAGE}.frontend.follow",)),
+    "front_end": (("mux", "first_painting"), (f"{PACKAGE}.frontend.app",)),
+    "host": ((), (f"{PACKAGE}.host.window", f"{PACKAGE}.host.windows")),
 }
 
 ModuleType, ModuleSpec = type(sys), type(sys.__spec__)
@@ -104,12 +106,11 @@ def write(name):
 
 def made_of(name):
     """Return the modules of a bundle, compiled: each behind those that it imports."""
-    names = list(ROOTS)
     before = {}
-    for one in names[: names.index(name)]:
-        add_all(ROOTS[one], before)
+    for one in ROOTS[name][0]:
+        add_all(ROOTS[one][1], before)
     found = dict(before)
-    add_all(ROOTS[name], found)
+    add_all(ROOTS[name][1], found)
     return [(module, source, stamp, code) for module, (source, stamp, code) in found.items() if module not in before]
 
 

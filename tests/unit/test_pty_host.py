@@ -732,6 +732,19 @@ class Rows(Host):
 class Words(Case):
     """The words of the command line."""
 
+    def test_plain(self):
+        """The words that mux gives are read as argparse reads them; others aren't such."""
+        for words in (["--windows", "d"], ["--windows", "--first", "d"], ["--windows", "d", "vi", "-x"], ["--windows", "--first", "d", "--first"],
+                      ["--windows", "d", "--"], ["--windows", "d", "--windows"]):
+            self.assertTrue(tool.Words.are_plain(words), words)
+            with mock.patch("sys.argv", ["pane_shells", *words]):
+                plain, parsed = tool.Words(words), tool.parsed_words()
+            for name in ("windows", "first", "dir", "server", "close", "again", "command"):
+                self.assertEqual(getattr(plain, name), getattr(parsed, name), (words, name))
+        for words in ([], ["--windows"], ["--windows", "--first"], ["--windows", "--close", "d"], ["d"], ["--close", "d"],
+                      ["--first", "--windows", "d"]):
+            self.assertFalse(tool.Words.are_plain(words), words)
+
     def test_words(self):
         self.environment(SHELL="/bin/zsh")
         self.words("pane_shells", "--close", "--server", "7", "d", "vi", "-R", "x")

@@ -10,12 +10,13 @@ from roam_live.common.process import TOOLS
 
 # A small tree with the modules for which bundles are.
 TREE = {
-    "__init__": "", "common/__init__": "", "cli/__init__": "", "frontend/__init__": "",
+    "__init__": "", "common/__init__": "", "cli/__init__": "", "frontend/__init__": "", "host/__init__": "",
     "common/text": '"""Words."""\nfrom __future__ import annotations\n\n\ndef shown(text: Unknown) -> str:\n    """Show it."""\n    return f"<{text}>"\n',
     "common/other": "from roam_live.common.text import shown\n",
     "cli/mux": "import os\nfrom roam_live.common import text\n", "cli/attaching": "from roam_live.cli.mux import text\n",
     "frontend/follow": "from roam_live.common.text import shown\n\n\ndef later():\n    from roam_live.frontend import late\n",
     "frontend/app": "import roam_live.frontend.follow\n", "frontend/late": "from roam_live.common.text import shown\n",
+    "host/window": "from roam_live.common.text import shown\n", "host/windows": "from roam_live.host.window import shown\n",
 }
 
 # The modules that each bundle adds to those before it.
@@ -72,6 +73,8 @@ class BundleFiles(Case):
         self.write()
         self.assertEqual(self.brought("mux", "first_painting"), ADDED["mux"] + ADDED["first_painting"])
         self.assertEqual(self.brought(*ADDED), sum(ADDED.values()))
+        # That of the host needs no other.
+        self.assertEqual(self.brought("host"), 6)
 
     def test_changed(self):
         """One with a source that has changed, or is gone, isn't used, and is written anew."""

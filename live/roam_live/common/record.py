@@ -5,9 +5,9 @@ They are used like classes of the standard module `dataclasses`, which takes a p
 from __future__ import annotations
 
 import binascii
-import json
 
 from roam_live.common.errors import Fault
+from roam_live.common.json_reader import read_json
 from roam_live.common.suppress import suppress
 from roam_live.common.text import decimal_in
 
@@ -204,6 +204,8 @@ def plain(value: Any) -> object:
 
 def written(value: StateRecord) -> str:
     """Return a record as JSON."""
+    import json
+
     return json.dumps(plain(value))
 
 
@@ -211,7 +213,7 @@ def read_back(cls: type[StateRecord], text: str, most: int) -> Any:
     """Return the record that a text of at most so many characters is written for; Malformed if it is none."""
     demand(len(text) <= most, cls.__name__, f"longer than {most} characters")
     try:
-        value = json.loads(text)
+        value = read_json(text)
     except (ValueError, RecursionError):
         raise Malformed(f"{cls.__name__}: not JSON") from None
     return record_of(cls)(value, cls.__name__)

@@ -1,14 +1,12 @@
 """What a pty host has once for all windows: its loop, the scrollback rows, the socket, and processes that were hung up."""
 from __future__ import annotations
 
-import contextlib
-from collections.abc import Callable
-
 from roam_live.common.errors import reason, say
 from roam_live.common.event_loop import Loop
 from roam_live.common.fault_log import FaultLog
 from roam_live.common.io import read
 from roam_live.common.signals import signal
+from roam_live.common.suppress import suppress
 from roam_live.host.options import Spare, has_ended
 from roam_live.host.scrollback import Scrollback, pane_of_key
 from roam_live.host.socket_server import HostSocket
@@ -18,6 +16,8 @@ from roam_live.session.tmp_keepalive import LOOKS
 
 TYPE_CHECKING = False
 if TYPE_CHECKING:
+    from collections.abc import Callable
+
     from roam_live.host.window import WindowHost
 
 # So many seconds later what the system refused is tried again.
@@ -44,7 +44,7 @@ class Common:
         self.loop.add(wakeup, self.reap)
         # One for what a pane is begun with, and one by which a pane that can't be begun says so.
         self.spare, self.voice = Spare(), Spare()
-        with contextlib.suppress(OSError):
+        with suppress(OSError):
             self.voice.keep()
             self.spare.keep()
         self.state = SessionState()

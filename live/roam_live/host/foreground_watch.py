@@ -2,13 +2,14 @@
 from __future__ import annotations
 
 import math
-from collections.abc import Callable
 
 from roam_live.common.event_loop import Loop
 from roam_live.session.foreground import group_in_front, name_of
 
 TYPE_CHECKING = False
 if TYPE_CHECKING:
+    from collections.abc import Callable
+
     from roam_live.host.pane import PaneCommand
 
 # So many seconds after something came it is looked up, since a program that was begun is in front a moment later; and so many lie between

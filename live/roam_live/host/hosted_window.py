@@ -2,16 +2,14 @@
 its sockets, and ended."""
 from __future__ import annotations
 
-import contextlib
-import json
 import os
-from collections.abc import Callable
 
 from roam_live.common.errors import reason, say
 from roam_live.common.files import replace_text
 from roam_live.common.io import read
 from roam_live.common.process import begun, end_words, is_running
 from roam_live.common.spawn import forked_apart
+from roam_live.common.suppress import suppress
 from roam_live.common.tty import size_act
 from roam_live.common.unix_socket import SHUT_WR, SocketPeer, connected_now
 from roam_live.host.window import WindowHost
@@ -24,6 +22,7 @@ from roam_live.session.roles import CLIENT, ROLES, SERVER, client_words, server_
 TYPE_CHECKING = False
 if TYPE_CHECKING:
     import socket
+    from collections.abc import Callable
 
     from typing import NoReturn
 
@@ -102,7 +101,7 @@ MOST_NAME = 512
 def remove_folder(folder: str) -> None:
     """Removes a folder with what lies in it; OSError where it can't be."""
     for name in os.listdir(folder):
-        with contextlib.suppress(OSError):
+        with suppress(OSError):
             os.unlink(os.path.join(folder, name))
     os.rmdir(folder)
 
@@ -122,7 +121,7 @@ class WindowProcesses:
     def make_folder(self) -> None:
         """Makes the window's folder, where nobody else may enter it."""
         for folder in (windows_folder(self.common), self.folder):
-            with contextlib.suppress(FileExistsError):
+            with suppress(FileExistsError):
                 os.mkdir(folder, 0o700)
 
     # ---- what is known
@@ -132,13 +131,13 @@ class WindowProcesses:
         self.read()
         for role in (SERVER, CLIENT):
             if not self.is_known(role):
-                with contextlib.suppress(OSError), connected_now(self.path(ROLES[role].socket)) as peer:
+                with suppress(OSError), connected_now(self.path(ROLES[role].socket)) as peer:
                     process = SocketPeer.of(peer).process
                     self.noted[role] = process, begun(process)
 
     def read(self) -> None:
         """Reads what is noted."""
-        with contextlib.suppress(OSError):
+        with suppress(OSError):
             state = noted_in(self.path("state.json")) or {}
             for role in [role for role in (SERVER, CLIENT) if role in state]:
                 self.noted[role] = state[role][0], state[role][1]
@@ -175,7 +174,7 @@ class WindowProcesses:
 
     def read_name(self) -> None:
         """Reads what the window is called, as was noted."""
-        with contextlib.suppress(OSError, ValueError), open(self.path("name"), encoding="utf-8") as file:
+        with suppress(OSError, ValueError), open(self.path("name"), encoding="utf-8") as file:
             self.state.name = name_in(file.read(MOST_NAME).strip() or NO_NAME) or ""
 
     def note_name(self) -> None:
@@ -199,7 +198,7 @@ class WindowProcesses:
 
     def spawn_client(self) -> int:
         """Spawns the client process of this machine's terminals."""
-        with contextlib.suppress(FileNotFoundError):
+        with suppress(FileNotFoundError):
             os.unlink(self.path(ROLES[CLIENT].socket))
         return self.spawn(CLIENT, client_words(self.folder))
 
@@ -225,6 +224,8 @@ class WindowProcesses:
         state: State = {"version": WINDOWS_VERSION, **({} if self.is_spare() else {JOINED: True})}
         for role, one in self.noted.items():
             state[role] = list(one)
+        import json
+
         replace_text(self.path("state.json"), json.dumps(state))
 
     # ---- their end
@@ -233,11 +234,11 @@ class WindowProcesses:
         """Signals the processes that run, of these roles, or of both."""
         for role in roles or (SERVER, CLIENT):
             if self.runs(role):
-                with contextlib.suppress(OSError):
+                with suppress(OSError):
                     os.kill(self.noted[role][0], number)
 
     def clean(self) -> None:
         """Removes what they left, and the notes of far relays."""
         for folder in (self.path("relays"), self.folder):
-            with contextlib.suppress(OSError):
+            with suppress(OSError):
                 remove_folder(folder)

@@ -2,13 +2,16 @@
 from __future__ import annotations
 
 from collections import deque
-from collections.abc import Callable
 
 from roam_live.common.io import UNREAD_LIMIT, keep, write
 from roam_live.common.patterns import LazyPattern
 from roam_live.host.state import PendingPaste
 from roam_live.host.uploads import PendingPastes
 from roam_live.protocol.paste_text import CLOSES
+
+TYPE_CHECKING = False
+if TYPE_CHECKING:
+    from collections.abc import Callable
 
 # A placeholder: APC, a name and ST, in their forms of U+009F and U+009C, in UTF-8; and the beginning of one at the end of what came.
 PLACEHOLDER = LazyPattern(rb"\xc2\x9f([0-9a-f]{16})\xc2\x9c")

@@ -1,13 +1,11 @@
 """A pane of a session at the pty host: the command on its pseudo-terminal, the pane's socket, and what waits for either."""
 from __future__ import annotations
 
-import contextlib
 import fcntl
 import math
 import os
 import struct
 import termios
-from collections.abc import Callable
 
 from roam_live.common import spawn, tty
 from roam_live.common.errors import reason, say
@@ -15,6 +13,7 @@ from roam_live.common.event_loop import Loop, always, comes
 from roam_live.common.fault_log import SoonFaults
 from roam_live.common.io import UNREAD_LIMIT, read, write
 from roam_live.common.signals import signal
+from roam_live.common.suppress import suppress
 from roam_live.common.unix_socket import SO_SNDBUF, SOL_SOCKET, connected_now
 from roam_live.host.input_queue import TypedQueue
 from roam_live.host.options import Options, entered, surroundings
@@ -25,6 +24,7 @@ from roam_live.session.foreground import group_in_front
 TYPE_CHECKING = False
 if TYPE_CHECKING:
     import socket
+    from collections.abc import Callable
 
 # How many bytes may wait for a pane; no more of the command's are read then. What waits here and in the socket is what is still shown
 # of a command that has been interrupted, so it is little.
@@ -53,7 +53,7 @@ NOT_RUN = "[not run: {}; a key tries again]\r\n"
 
 def say_in(path: str, text: str) -> None:
     """Says a line in a pane that has no shell: where another is connected there, or nothing can be had for it, it isn't said."""
-    with contextlib.suppress(OSError), connected_now(path) as peer:
+    with suppress(OSError), connected_now(path) as peer:
         peer.send(text.encode("utf-8", "replace"))
 
 
@@ -156,7 +156,7 @@ class PaneCommand:
     def resize(self, size: tty.Size) -> None:
         """Tells the programs a new size."""
         if size != self.state.size and self.terminal is not None:
-            with contextlib.suppress(OSError):
+            with suppress(OSError):
                 tty.set_size(self.terminal, *size)
         self.state.size = size
 
@@ -208,7 +208,7 @@ class PaneCommand:
         if self.state.process is not None and self.runs():
             for number in (signal.SIGHUP, signal.SIGCONT):
                 # A process that has become another user's is hung up by its terminal alone.
-                with contextlib.suppress(OSError):
+                with suppress(OSError):
                     os.kill(self.state.process, number)
 
     def runs(self) -> bool:
@@ -322,7 +322,7 @@ class PaneCommand:
         """Whether something was written to the pane, no more than the socket holds, and is there still."""
         if not self.peer or not 0 < self.written <= 2 * SOCKET_LIMIT:
             return False
-        with contextlib.suppress(OSError):
+        with suppress(OSError):
             waiting: int = struct.unpack("i", fcntl.ioctl(self.peer, termios.TIOCOUTQ, bytes(4)))[0]
             return waiting > 0
         return False
@@ -341,7 +341,7 @@ class PaneCommand:
 
         The slave is opened for this alone: flushing the master would drop the programs' output.
         """
-        with contextlib.suppress(OSError, termios.error):
+        with suppress(OSError, termios.error):
             assert self.terminal is not None
             theirs = fcntl.ioctl(self.terminal, OPENS_THEIRS, os.O_RDWR | os.O_NOCTTY | os.O_CLOEXEC)
             try:

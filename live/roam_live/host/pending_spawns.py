@@ -2,7 +2,6 @@
 from __future__ import annotations
 
 import os
-from collections.abc import Callable
 
 from roam_live.common.event_loop import Loop
 from roam_live.common.named_fields import NamedFields
@@ -10,6 +9,8 @@ from roam_live.protocol.spawn_request import DONE, LATE, MOST_BYTES, RAN, READY,
 
 TYPE_CHECKING = False
 if TYPE_CHECKING:
+    from collections.abc import Callable
+
     from roam_live.host.socket_peer import HostPeer
     from roam_live.protocol.panes import Rect
     from roam_live.protocol.spawn_request import Begins

@@ -4,7 +4,6 @@ Without them the session would run on, but nobody could find it or end it.
 """
 from __future__ import annotations
 
-import json
 import os
 import stat
 
@@ -135,6 +134,8 @@ class Mending:
         asked = self.windows.asked
         command = [] if asked.instead else asked.command
         state = {"version": WINDOWS_VERSION, "command": command, BUILD: self.build, "host": [os.getpid(), begun(os.getpid())]}
+        import json
+
         replace_text(os.path.join(common, "state.json"), json.dumps(state))
         os.makedirs(windows_folder(common), 0o700, exist_ok=True)
         if self.windows.state.last_window:

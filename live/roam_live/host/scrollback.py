@@ -2,14 +2,13 @@
 where it doesn't keep up or ends."""
 from __future__ import annotations
 
-import contextlib
 from collections import deque
-from collections.abc import Callable
 
 from roam_live.common.errors import Fault, reason
 from roam_live.common.event_loop import Loop
 from roam_live.common.process import program
 from roam_live.common.retry import Retry
+from roam_live.common.suppress import suppress
 from roam_live.config.environment import DEFAULT_ROWS, chosen_history
 from roam_live.host.scrollback_process import (CLEARED, LEAST_SIZE, LOST, MOST_SIZE, MOST_TERMINALS, ROWS, ScrollbackProcess,
                                                ScrollbackRecord)
@@ -17,6 +16,8 @@ from roam_live.host.scrollback_store import PaneRows, RowsRoom, Snapshot
 
 TYPE_CHECKING = False
 if TYPE_CHECKING:
+    from collections.abc import Callable
+
     from roam_live.common.tty import Size
 
     # What is called with a snapshot; None where none can be had.
@@ -172,7 +173,7 @@ class Scrollback:
     def shed(self) -> None:
         """Drop the older half of all rows if memory is short: they matter least of what the host keeps."""
         self.reserve = b""
-        with contextlib.suppress(MemoryError):
+        with suppress(MemoryError):
             self.room.shed()
             self.tell(SHORT)
             self.reserve = bytes(RESERVED)

@@ -1,17 +1,20 @@
 """The scrollback process, a process of the program: it is handed what programs write, and prints each row that leaves a screen."""
 from __future__ import annotations
 
-import contextlib
 import fcntl
 import os
-from collections.abc import Callable
 
 from roam_live.common.event_loop import Loop, always
 from roam_live.common.io import read, write
 from roam_live.common.named_fields import NamedFields
 from roam_live.common.signals import signal
+from roam_live.common.suppress import suppress
 from roam_live.common.text import one_line
 from roam_live.session.foreground import PANE
+
+TYPE_CHECKING = False
+if TYPE_CHECKING:
+    from collections.abc import Callable
 
 # No terminal of the scrollback process has another size than one from the first to the second of these.
 LEAST_SIZE, MOST_SIZE = (2, 4), (200, 500)
@@ -144,7 +147,7 @@ def spawned(words: list[str]) -> tuple[int, list[int]]:
         os.close(end)
     for end in (to_it, from_it, said):
         os.set_blocking(end, False)
-        with contextlib.suppress(OSError):
+        with suppress(OSError):
             fcntl.fcntl(end, SETS_SIZE, PIPE_SIZE if end != said else SAID_SIZE)
     return process, [to_it, from_it, said]
 
@@ -286,7 +289,7 @@ class ScrollbackProcess:
     def signal_kill(self) -> None:
         """Has the system end it, while it is there."""
         if self.process:
-            with contextlib.suppress(OSError):
+            with suppress(OSError):
                 os.kill(self.process, signal.SIGKILL)
 
     def reap(self) -> None:

@@ -1,14 +1,16 @@
 """What is answered at the host's socket `host` of the scrollback rows of panes."""
 from __future__ import annotations
 
-from collections.abc import Callable
-
 from roam_live.common.text import decimal_in
 from roam_live.host.scrollback import PaneScrollback, Scrollback, pane_key, pane_of_key
 from roam_live.host.scrollback_store import ScrollbackRange, Search, Snapshot
 from roam_live.protocol.host_lines import (BACK, COUNT, END, FIND, FOUND, LOG, MORE, MOST_NUMBER, NONE, ON, RELEASE, ROWS, SNAPSHOT,
                                              led)
 from roam_live.protocol.panes import MOST_PANES
+
+TYPE_CHECKING = False
+if TYPE_CHECKING:
+    from collections.abc import Callable
 
 # So many seconds are spent at once on what is looked for, and so many pass between two lines that tell how many rows came.
 SEARCHES = 0.01

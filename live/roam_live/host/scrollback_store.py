@@ -8,9 +8,12 @@ from __future__ import annotations
 import binascii
 import struct
 from collections import deque
-from collections.abc import Iterable, Iterator
 
 from roam_live.protocol.host_lines import MOST_ROW_BYTES, MOST_ROWS
+
+TYPE_CHECKING = False
+if TYPE_CHECKING:
+    from collections.abc import Iterable, Iterator
 
 # So many bytes all chunks of a session have, with what is counted for each beside its bytes, those of snapshots too, and these alone. The
 # process grows by 64 MB for them at most: what is free between them is more than what is counted beside each.

@@ -1,8 +1,6 @@
 """What connections give the pty host: texts that are pasted, buffers, and commands for new panes, each with its bytes behind a line."""
 from __future__ import annotations
 
-from collections.abc import Callable
-
 from roam_live.common.event_loop import Loop
 from roam_live.common.patterns import LazyPattern
 from roam_live.host.socket_peer import HostPeer, Upload
@@ -15,6 +13,8 @@ from roam_live.session.environment import ENVIRONMENT
 
 TYPE_CHECKING = False
 if TYPE_CHECKING:
+    from collections.abc import Callable
+
     from roam_live.host.socket_server import HostSocket
 
 # How one gives a text, whose bytes follow, and asks for one that it gave.

@@ -1,15 +1,14 @@
 """The panes of one window of a session at the pty host, as the window's server tells them."""
 from __future__ import annotations
 
-import contextlib
 import functools
 import os
 import time
-from collections.abc import Callable
 
 from roam_live.common.errors import Fault, reason, say
 from roam_live.common.process import begun, is_running, note_end
 from roam_live.common.signals import signal
+from roam_live.common.suppress import suppress
 from roam_live.host.common import Common
 from roam_live.host.foreground_watch import Fronts
 from roam_live.host.input_queue import TypedQueue
@@ -28,6 +27,7 @@ from roam_live.session.tmp_keepalive import Lasting
 TYPE_CHECKING = False
 if TYPE_CHECKING:
     import socket
+    from collections.abc import Callable
 
     from roam_live.common.tty import Size
     from roam_live.protocol.spawn_request import Begins
@@ -315,7 +315,7 @@ class WindowHost:
             self.is_over = self.is_meant = True
             if self.asked.server and not self.asked.window:
                 note_end(self.asked.common, *self.state.processes[SERVER])
-                with contextlib.suppress(ProcessLookupError):
+                with suppress(ProcessLookupError):
                     os.kill(self.asked.server, signal.SIGTERM)
             return
         for pane in done:

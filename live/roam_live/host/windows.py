@@ -1,14 +1,13 @@
 """The windows of a session at its host: each is a server with its client, in a folder of its own, and shells in its panes."""
 from __future__ import annotations
 
-import contextlib
 import functools
 import os
-from collections.abc import Callable
 
 from roam_live.common.errors import Fault, reason, say
 from roam_live.common.files import replace_text
 from roam_live.common.signals import signal
+from roam_live.common.suppress import suppress
 from roam_live.common.tty import LEAST
 from roam_live.common.unix_socket import connected_now
 from roam_live.host.common import Common
@@ -27,6 +26,8 @@ from roam_live.session.tmp_keepalive import Lasting
 
 TYPE_CHECKING = False
 if TYPE_CHECKING:
+    from collections.abc import Callable
+
     from roam_live.common.tty import Size
     from roam_live.protocol.spawn_request import Begins
 
@@ -138,7 +139,7 @@ class Windows:
         self.spare = None
         is_there = os.path.exists(spare.path("session")) and os.path.exists(spare.path("panes"))
         if spare.runs(SERVER) and (is_there or self.loop.clock() < self.spared_at + OPENS):
-            with contextlib.suppress(OSError):
+            with suppress(OSError):
                 spare.mark_spare(False)
                 return spare
         # A cleaner of old files may have had what lies there.
@@ -191,7 +192,7 @@ class Windows:
         """Takes note that a terminal is at a window now: who attaches without naming one goes there."""
         if number != self.state.last_window:
             self.state.last_window = number
-            with contextlib.suppress(OSError):
+            with suppress(OSError):
                 self.note_last()
 
     def note_last(self) -> None:
@@ -376,9 +377,9 @@ class Windows:
         end = self.loop.clock() + ALL_END
         while self.windows and self.loop.clock() < end:
             self.loop.turn()
-        with contextlib.suppress(OSError):
+        with suppress(OSError):
             os.unlink(os.path.join(self.folder, "last"))
-        with contextlib.suppress(OSError):
+        with suppress(OSError):
             os.rmdir(self.folder)
 
     # ---- what is new
