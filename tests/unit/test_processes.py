@@ -517,7 +517,7 @@ class Sends(Based):
         self.link = self.opens.return_value = ClientLink(self.folder / "terminals", False)
         self.link.peer, self.client = self.pair()
         self.link.records.begun = True
-        self.runs = self.patch_of(send.subprocess, "run", return_value=mock.Mock(returncode=0))
+        self.runs = self.patch_of(subprocess, "run", return_value=mock.Mock(returncode=0))
         self.patch("roam_live.protocol.server_address.program", return_value="/roam")
         self.answers, self.asked = [], []
         self.patch("roam_live.protocol.client_link.ready", self.ready)
@@ -627,7 +627,7 @@ class Captures(Based):
         printed.buffer.write.assert_called_once_with(f"{syllable}x\n".encode())
 
     def test_drawn(self):
-        with mock.patch.object(capture.subprocess, "run", return_value=mock.Mock(returncode=3)) as runs:
+        with mock.patch.object(subprocess, "run", return_value=mock.Mock(returncode=3)) as runs:
             self.assertEqual(self.capture(record("screen", data=self.SCREEN), True), 3)
         self.assertEqual((runs.call_args[0][0], runs.call_args[1]["input"]), ([str(capture.TOOLS / "picture")], self.SCREEN))
         self.assertEqual(read_now(self.client), b"look sgr\n")

@@ -106,13 +106,19 @@ def attach(asked: Asked) -> int:
     return enter(asked.name, prediction=asked.predict)
 
 
-def new(asked: Asked) -> int:
-    """Launches a session that isn't running, and attaches to it where that is wanted."""
+def demand_command(word: str) -> None:
+    """Refuses what is no command."""
     import shutil
 
+    if not shutil.which(word):
+        raise Fault(f"{word!r} is not a command; put the options of new before NAME")
+
+
+def new(asked: Asked) -> int:
+    """Launches a session that isn't running, and attaches to it where that is wanted."""
     check_name(asked.name)
-    if asked.command and not shutil.which(asked.command[0]):
-        raise Fault(f"{asked.command[0]!r} is not a command; put the options of new before NAME")
+    if asked.command:
+        demand_command(asked.command[0])
     if not asked.is_detached:
         demand_terminal()
     session = session_named(asked.name)

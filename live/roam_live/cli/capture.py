@@ -1,7 +1,6 @@
 """The rows that a session shows, as the client process of this machine's terminals tells them, cell by cell."""
 from __future__ import annotations
 
-import subprocess
 import sys
 import time
 
@@ -66,6 +65,8 @@ def capture(session: SessionFolder, is_drawn: bool, pane: int = 0) -> int:
     if rect:
         data = pane_of(data, rect, pane)
     if is_drawn:
+        import subprocess
+
         return subprocess.run([str(TOOLS / "picture")], input=data, check=False).returncode
     sys.stdout.buffer.write("".join(f"{row}\n" for row in screen_of(data).text()).encode("utf-8", "replace"))
     return 0

@@ -2,8 +2,6 @@
 from __future__ import annotations
 
 import os
-import re
-import subprocess
 import time
 
 from roam_live.cli.connection import opened
@@ -108,6 +106,9 @@ def wrong_in(acts: list[str], places: Places | None) -> str:
 
 def demand_acts(session: SessionFolder, acts: list[str]) -> None:
     """Refuses what is no act, by a client process that takes no turn: the session never knows it."""
+    import re
+    import subprocess
+
     lines = "".join(f"{act}\n" for act in acts)
     words = Home(folder=str(session.folder)).attach_words(["--keys", "/dev/stdin", "--turns", "0"])
     ran = subprocess.run(words, input=os.fsencode(lines), stdout=subprocess.DEVNULL, stderr=subprocess.PIPE, check=False)
@@ -173,16 +174,23 @@ def send_words(session: SessionFolder, words: list[str], pane: int = 0) -> int:
         acts = [act for word in words for act in acts_of_word(os.fsencode(word).decode("utf-8", "replace"))]
     except ValueError as fault:
         raise Fault(f"{fault}; nothing was typed") from None
-    return send(session, acts, pane)
+    # Those that keys and characters are don't have to be looked at.
+    return type_acts(session, acts, pane)
 
 
 def send(session: SessionFolder, words: list[str], pane: int = 0) -> int:
     """Types acts, and keys by tmux's names, into a session, in a pane where one is named, and ends once it has taken all of them."""
     acts = [act for word in words for act in acts_named(word) or [word.replace("\n", "\\n")]]
+    if acts:
+        demand_acts(session, acts)
+    return type_acts(session, acts, pane)
+
+
+def type_acts(session: SessionFolder, acts: list[str], pane: int) -> int:
+    """Types acts into a session, in a pane if one is named, and returns once it has taken all of them."""
     if not acts:
         raise Fault("there is nothing to type")
     focus = pane_places(session, pane).focus if pane else 0
-    demand_acts(session, acts)
     demand_doable(session, [f"focus {pane}", *acts] if pane else acts)
     type_lines(session, opened(session, False), lines_in_pane(acts, pane, focus))
     return 0
