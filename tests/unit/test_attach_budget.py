@@ -18,9 +18,8 @@ from roam_live.common.process import TOOLS
 MOST_PAINTED = 60000, 650
 MOST_LABELLED = 115000, 850
 
-# The same of words that need no terminal, of which each takes so many at most: `ls` of one session, and the help of a word, for which
-# argparse is loaded.
-MOST_WORDS = {("ls",): (75000, 700), ("help",): (40000, 600), ("help", "ls"): (330000, 1100)}
+# The same of words that need no terminal: `ls` of one session, and help.
+MOST_WORDS = {("ls",): (75000, 700), ("help",): (40000, 600), ("help", "ls"): (45000, 600), ("send", "--help"): (45000, 600)}
 
 # So many runs are tried: a machine under load may take a turn of the loop more.
 TRIES = 4

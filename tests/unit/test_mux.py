@@ -9,7 +9,7 @@ import types
 from unittest import mock
 
 from aids import Case
-from roam_live.cli import attaching, capture, cmd, ending, mux, paste, scrollback, send, ssh, targets, windows
+from roam_live.cli import attaching, capture, cmd, ending, mux, paste, scrollback, send, ssh, targets, windows, word_help
 from roam_live.cli.args import TMUX_WORDS
 from roam_live.common.errors import Fault
 from roam_live.common.process import TOOLS
@@ -610,9 +610,25 @@ class Words(Mux):
         told = "split-window is a tmux command; in roam, use `mux cmd NAME split-window`; `mux help` lists them"
         self.refuses(told, "help", "split-window")
         self.refuses("'zebra' is not a command of mux; `mux help` lists them", "help", "zebra")
-        with self.assertRaises(SystemExit):
-            self.mux("kill", "--help")
+        self.assertEqual(self.mux("kill", "--help"), 0)
         self.assertIn("End a session, a window or a pane, and the programs in it", self.text.getvalue())
+
+    def test_help_of_words(self):
+        """The help of a word has the text that argparse would print of the same arguments, at any width; and it is no wider."""
+        for columns in ("48", "61", "80", "132"):
+            self.environment(COLUMNS=columns)
+            for word in mux.WORDS:
+                with mock.patch.object(mux, "CALLED", "roam mux"):
+                    text, parsed = word_help.help_of("roam mux", word, mux.WORDS[word]), mux.parser_of(word).format_help()
+                self.assertEqual("".join(text.split()), "".join(parsed.replace("optional arguments:", "options:").split()), word)
+                longest = max(map(len, text.split()))
+                self.assertTrue(all(len(line) <= max(int(columns) - 2, 24 + longest) for line in text.split("\n")), text)
+                if columns == "132" and "..." not in text:
+                    self.assertEqual(text, parsed.replace("optional arguments:", "options:"))
+        for words in (("ls", "--help"), ("ls", "-h"), ("help", "ls")):
+            before = len(self.text.getvalue())
+            self.assertEqual(self.mux(*words), 0)
+            self.assertTrue(self.text.getvalue()[before:].startswith("usage: mux ls [-h]\n\nls lists the sessions"))
 
     def test_unknown_variables(self):
         """An unknown variable is named in one printable line on standard error, with the one that it is near to; up to four are."""

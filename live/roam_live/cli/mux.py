@@ -4,7 +4,7 @@ from __future__ import annotations
 import os
 import sys
 
-from roam_live.cli.words import REST, WORDS, PlainWords
+from roam_live.cli.words import REST, WORDS, PlainWords, sentence
 from roam_live.common.errors import Fault
 from roam_live.common.text import printable
 from roam_live.config.environment import unknown_variables
@@ -31,7 +31,7 @@ def called() -> str:
 def explain(asked: Asked) -> int:
     """Prints what all words do, or what one does."""
     if asked.word:
-        parser_of(asked.word).print_help()
+        print_help(asked.word)
     else:
         from roam_live.cli.help_text import HELP
 
@@ -39,18 +39,25 @@ def explain(asked: Asked) -> int:
     return 0
 
 
-def sentence(text: str) -> str:
-    """Return a text of a table as a sentence."""
-    return f"{text[0].upper()}{text[1:]}."
+def print_help(word: str) -> None:
+    """Print the help of a word; Fault if it is none."""
+    from roam_live.cli.word_help import help_of
+
+    demand_word(word)
+    print(help_of(called(), word, WORDS[word]), end="")
+
+
+def demand_word(word: str) -> None:
+    """Refuse what is no word, with what may be meant."""
+    if word not in WORDS:
+        hint = hint_of(word) or f"{word!r} is not a command of mux"
+        raise Fault(f"{hint}{' ' if hint.endswith('?') else '; '}`{called()} help` lists them")
 
 
 def parser_of(word: str) -> argparse.ArgumentParser:
     """The parser of what follows a word."""
     from roam_live.cli.args import WordParser
 
-    if word not in WORDS:
-        hint = hint_of(word) or f"{word!r} is not a command of mux"
-        raise Fault(f"{hint}{' ' if hint.endswith('?') else '; '}`{called()} help` lists them")
     parser = WordParser(prog=f"{called()} {word}", description=sentence(WORDS[word].tells), allow_abbrev=False)
     for names, more in WORDS[word].arguments:
         parser.add_argument(*names, **more)
@@ -154,6 +161,9 @@ def main() -> int:
         print(line, file=sys.stderr, flush=True)
     if words[:1] in (["-h"], ["--help"]):
         words[0] = "help"
+    if words and words[0] in WORDS and words[1:] in (["-h"], ["--help"]):
+        print_help(words[0])
+        return 0
     if words and words[0] in WORDS:
         return WORDS[words[0]].does(asked_by(words[0], words[1:]))
     names = words[1:] if words[:1] == ["--"] else words

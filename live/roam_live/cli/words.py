@@ -40,6 +40,11 @@ class Word:
         return does(asked)
 
 
+def sentence(text: str) -> str:
+    """Return a text of a table as a sentence."""
+    return f"{text[0].upper()}{text[1:]}."
+
+
 def argument(*names: str, **more: Any) -> Argument:
     """An argument of a word."""
     return names, more
