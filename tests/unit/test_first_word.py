@@ -79,5 +79,65 @@ class FirstWord(Case):
             self.assertEqual(self.says(*words), (0, f"program {' '.join(words)}\n", ""))
 
 
+class Stamp(Case):
+    """By what a clone's `roam` knows that its program is up to date."""
+
+    def setUp(self):
+        self.clone = self.made_folder() / "clone"
+        write(self.clone / "roam", "")
+        shutil.copy(TOOLS.parent / "roam", self.clone / "roam")
+        for name in ("src", "specs", "proofs"):
+            (self.clone / "crates/roam" / name).mkdir(parents=True)
+        write(self.clone / "live/mux", MUX)
+        write(self.clone / "live/first_word", "")
+        write(self.clone / "crates.txt", "")
+        write(self.clone / "crates/roam/src/lib.rt", "")
+        write(self.clone / "crates/roam/out/roam", PROGRAM)
+        write(self.clone / "crates/roam/out/current", "")
+        # What looks at files, and what builds, say so.
+        for name in ("find", "make", "rt"):
+            write(self.clone / f"bin/{name}", f"#!/bin/sh\necho {name} >> {self.clone}/called\n")
+        self.age("crates.txt", "crates/roam/src", "crates/roam/specs", "crates/roam/proofs", "crates/roam/src/lib.rt")
+
+    def age(self, *names):
+        """Has files be older than the stamp."""
+        for name in names:
+            os.utime(self.clone / name, (1000, 1000))
+
+    def called(self, *words):
+        """What `roam` calls to do words, in order."""
+        (self.clone / "called").write_text("", encoding="ascii")
+        environment = {**os.environ, "PATH": f"{self.clone}/bin:{os.environ['PATH']}"}
+        subprocess.run([str(self.clone / "roam"), *words], env=environment, stdout=subprocess.DEVNULL, stderr=subprocess.DEVNULL, check=True)
+        return (self.clone / "called").read_text(encoding="ascii").split()
+
+    def test_asking(self):
+        """Words that ask a session that runs something look at no file while no folder is newer than the stamp; others do."""
+        for words in (("mux", "attach", "main"), ("mux", "ls"), ("mux", "send", "main", "x"), ("mux", "help")):
+            self.assertEqual(self.called(*words), [], words)
+        for words in (("mux",), ("mux", "main"), ("mux", "new", "main"), ("mux", "ssh", "there"), ("show",), ("serve", "--dir", "d")):
+            self.assertEqual(self.called(*words), ["find"], words)
+        os.utime(self.clone / "crates/roam/specs")
+        os.utime(self.clone / "crates/roam/out/current", (2000, 2000))
+        self.assertEqual(self.called("mux", "ls"), ["find"])
+
+    def test_none(self):
+        """Without a stamp make looks, whatever the words are, and the next call needs none."""
+        (self.clone / "crates/roam/out/current").unlink()
+        self.assertEqual(self.called("mux", "ls"), ["make", "make"])
+        self.age("crates/roam/specs")
+        self.assertEqual(self.called("mux", "ls"), [])
+
+    def test_links(self):
+        """It is found by a link, by a path and by a name."""
+        link = self.clone / "bin/linked"
+        link.symlink_to(self.clone / "roam")
+        environment = {**os.environ, "PATH": f"{self.clone}/bin:{self.clone}:{os.environ['PATH']}"}
+        for words, folder in ((["linked", "mux", "ls"], "/"), (["./roam", "mux", "ls"], self.clone), (["roam", "mux", "ls"], "/"),
+                              (["../roam", "mux", "ls"], self.clone / "bin"), (["sh", "roam", "mux", "ls"], self.clone)):
+            run = subprocess.run(words, cwd=folder, env=environment, stdout=subprocess.PIPE, check=True)
+            self.assertEqual(run.stdout, b"mux ls\n", words)
+
+
 if __name__ == "__main__":
     unittest.main()
