@@ -9,6 +9,7 @@ A tool imports this before all else: an interrupt while it loads ends it without
 import marshal
 import os
 import sys
+from _frozen_importlib_external import MAGIC_NUMBER
 from _signal import SIG_DFL, SIGINT, signal
 
 signal(SIGINT, SIG_DFL)
@@ -57,8 +58,8 @@ def modules_in(name):
     """Return the modules of a bundle: the name, source, stamp and code of each; None if it is not there, or a source has changed."""
     try:
         with open(path_of(name), "rb", 0) as file:
-            version, folder, modules = marshal.loads(file.read())
-        if (version, folder) != (sys.version, FOLDER):
+            magic, folder, modules = marshal.loads(file.read())
+        if (magic, folder) != (MAGIC_NUMBER, FOLDER):
             return None
         for _, source, stamp, _ in modules:
             if stamp_of(source) != stamp:
@@ -95,7 +96,7 @@ def write(name):
         return
     made = f"{path_of(name)}.{os.getpid()}"
     try:
-        data = marshal.dumps((sys.version, FOLDER, made_of(name)))
+        data = marshal.dumps((MAGIC_NUMBER, FOLDER, made_of(name)))
         with open(made, "wb") as file:
             file.write(data)
         os.replace(made, path_of(name))

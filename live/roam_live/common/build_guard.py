@@ -20,7 +20,8 @@ class BuildGuard:
 
     def end(self) -> None:
         """Look at no import any more."""
-        sys.meta_path.remove(self)  # type: ignore[arg-type]
+        if self in sys.meta_path:
+            sys.meta_path.remove(self)  # type: ignore[arg-type]
 
     def find_spec(self, name: str, path: object = None, target: object = None) -> None:
         """Refuse a module of another build; where else a module is found is for others."""
