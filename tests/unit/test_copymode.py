@@ -77,6 +77,14 @@ class Copied(Case):
             person.paints(*(person.display.part.asked or person.session()), text)
         return said
 
+    def stands(self, person, seconds):
+        """Sees that what is told stands for so many seconds, and no longer."""
+        line = person.display.row.told
+        self.passes(person, seconds - 0.1)
+        self.assertEqual(person.display.row.told, line)
+        self.passes(person, 0.2)
+        self.assertEqual(person.display.row.told, "")
+
     def passes(self, person, seconds):
         """Lets so many seconds pass."""
         self.now += seconds
@@ -227,6 +235,7 @@ class Opened(Copied):
         person.types(b"rjjj")
         self.scrollback.answers()
         self.assertEqual((person.link.acts, person.commands.copying.state.is_on(), person.display.row.told), ([], False, GONE))
+        self.stands(person, 2.0)
 
     def test_not_lent_again(self):
         """What was typed while no rows were lent is not done again once some are."""
@@ -473,6 +482,7 @@ class Keeps(Copied):
         person.types(b"gw e\r")
         self.assertEqual((self.scrollback.texts, person.display.outer.clips), ([b"1 of"], [base64.b64encode(b"1 of").decode()]))
         self.assertEqual((person.display.row.told, person.commands.copying.state.is_on()), ("4 characters copied; C-b ] pastes", False))
+        self.stands(person, 2.0)
 
     def test_clipboard(self):
         """Where ROAM_CLIPBOARD is off the clipboard isn't set."""
