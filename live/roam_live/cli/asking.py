@@ -4,7 +4,7 @@ from __future__ import annotations
 import os
 import sys
 
-from roam_live.cli.targets import ready, running, window_named
+from roam_live.cli.targets import ready, window_named
 from roam_live.common.errors import Fault
 
 TYPE_CHECKING = False

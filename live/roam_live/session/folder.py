@@ -7,7 +7,7 @@ import time
 from roam_live.common.build_info import identity
 from roam_live.common.errors import Fault
 from roam_live.common.file_path import FilePath
-from roam_live.common.files import is_locked, is_own_folder, replace_text
+from roam_live.common.files import is_locked, is_own_folder
 from roam_live.common.process import age_of, begun, end_words, is_stopped
 from roam_live.common.suppress import suppress
 from roam_live.common.text import printable

@@ -11,10 +11,6 @@ from roam_live.common.errors import Fault, log_to, reason, say
 from roam_live.common.files import is_own_folder
 from roam_live.common.suppress import suppress
 
-TYPE_CHECKING = False
-if TYPE_CHECKING:
-    from collections.abc import Iterator
-
 # The locked file in a session's folder.
 FRONT_ENDS = "front_ends"
 

@@ -19,7 +19,7 @@ from roam_live.session.roles import ROLES, host_words, server_words
 
 TYPE_CHECKING = False
 if TYPE_CHECKING:
-    from collections.abc import Iterable, Iterator
+    from collections.abc import Iterable
 
 # The window with which a session begins.
 FIRST = 1

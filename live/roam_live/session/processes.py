@@ -19,7 +19,7 @@ from roam_live.session.roles import NOTED, ROLES
 TYPE_CHECKING = False
 if TYPE_CHECKING:
     import subprocess
-    from collections.abc import Callable, Iterator
+    from collections.abc import Callable
     from typing import IO, Any
 
     # What JSON has of a note, of which `is_note` says what may be one.
