@@ -6,6 +6,7 @@ otherwise the modules are imported as ever, and the bundle is written anew. If P
 
 A tool imports this before all else: an interrupt while it loads ends it without a word, and `run_tool` takes interrupts from then on.
 """
+import gc
 import marshal
 import os
 import sys
@@ -45,13 +46,18 @@ def load(name):
     """Load the modules of a bundle that are not there yet, or leave them to be imported."""
     if sys.dont_write_bytecode:
         return
-    modules = modules_in(name)
+    # What is made here stays, so that nobody has to look through it for garbage, now or later.
+    gc.disable()
+    try:
+        modules = modules_in(name)
+        for module, source, _, code in modules or ():
+            if module not in sys.modules:
+                begin(module, source, code)
+    finally:
+        gc.freeze()
+        gc.enable()
     if modules is None:
         write(name)
-        return
-    for module, source, _, code in modules:
-        if module not in sys.modules:
-            begin(module, source, code)
 
 
 def modules_in(name):

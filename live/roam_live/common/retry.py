@@ -1,8 +1,6 @@
 """Pauses between tries to have something again that was lost, as a connection or a process."""
 from __future__ import annotations
 
-import math
-
 TYPE_CHECKING = False
 if TYPE_CHECKING:
     from collections.abc import Sequence
@@ -17,7 +15,7 @@ class Retry:
 
     def __init__(self, pauses: Sequence[float] = PAUSES, sound: float = SOUND) -> None:
         self.pauses, self.sound = pauses, sound
-        self.faults, self.since = 0, -math.inf
+        self.faults, self.since = 0, float("-inf")
 
     def begins(self, now: float) -> None:
         """Note that there is something from a moment on."""
