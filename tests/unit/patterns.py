@@ -36,7 +36,6 @@ KNOWN = {
     ("roam_live/frontend/outer_terminal.py", "shaped", "ESC"): WRITES,
     ("roam_live/frontend/outer_terminal.py", "titled", "ESC"): WRITES,
     ("roam_live/frontend/line_editor.py", "LEAVES", "ESC"): TYPED,
-    ("roam_live/session/survey.py", "CLIENT_COUNT", "re"): LINES,
     ("roam_live/input/keys.py", "ESCAPE", "ESC"): TYPED,
     ("roam_live/frontend/modes.py", "SCROLL_ENDS", "ESC"): TYPED,
     ("roam_live/protocol/screen_cells.py", "parted", "ESC"): CELLS,

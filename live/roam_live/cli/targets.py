@@ -87,7 +87,7 @@ def making_of(session: SessionFolder, pane: int) -> tuple[int, int]:
     try:
         with connected_in(session.folder / "panes", ASKED) as peer:
             asked = AskedPanes(peer)
-            asked.hear_all()
+            asked.hear_all(ASKED, asked.told.is_whole)
     except OSError as fault:
         raise Fault(f"session {session.name}: its server does not report its panes") from fault
     places = asked.told.places()

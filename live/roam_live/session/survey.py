@@ -6,7 +6,7 @@ import select
 import time
 
 from roam_live.common.io import LineReader
-from roam_live.common.patterns import LazyPattern
+from roam_live.common.text import decimal_in
 from roam_live.common.unix_socket import connected_now
 from roam_live.protocol.host_lines import SESSION, led
 from roam_live.protocol.panes import PanesState
@@ -22,8 +22,8 @@ if TYPE_CHECKING:
 # Seconds for all answers together.
 ANSWERS = 0.3
 
-# The last line of the answer to `clients`.
-CLIENT_COUNT = LazyPattern(rf"(?a){SESSION} {CLIENTS} (\d{{1,4}})")
+# The last line of the answer to `clients` is this and a number.
+COUNT, MOST_COUNT = f"{led(SESSION, CLIENTS)} ", 9999
 
 
 class PanesQuestion:
@@ -52,9 +52,8 @@ class ClientsQuestion:
 
     def take(self, line: str) -> bool:
         """Take a line of the answer, and return True if it is the last one."""
-        found = CLIENT_COUNT.fullmatch(line)
-        self.count = int(found[1]) if found else None
-        return found is not None
+        self.count = decimal_in(line[len(COUNT) :], MOST_COUNT) if line.startswith(COUNT) else None
+        return self.count is not None
 
 
 class Asking:
