@@ -19,10 +19,12 @@ FOLDER = os.path.dirname(os.path.realpath(__file__))
 PACKAGE = "roam_live"
 
 # For each bundle, the bundles that are loaded before it, and the modules that it is for; it has these with what they import at once, but for
-# what is in those before. They have what the words of mux need that go to a session, what a front end needs besides to show a window, the
-# rest of a front end, and a pty host.
+# what is in those before. They have what the words of mux need that go to a session, what `ls` and what words that ask a session need besides
+# (by the module of `roam_live.cli` that does them), what a front end needs to show a window, the rest of a front end, and a pty host.
 ROOTS = {
     "mux": ((), (f"{PACKAGE}.cli.mux", f"{PACKAGE}.cli.attaching")),
+    "all_sessions": (("mux",), (f"{PACKAGE}.cli.all_sessions", f"{PACKAGE}.session.survey")),
+    "asking": (("mux",), (f"{PACKAGE}.cli.asking", f"{PACKAGE}.cli.send", f"{PACKAGE}.cli.capture")),
     "first_painting": (("mux",), (f"{PACKAGE}.frontend.follow",)),
     "front_end": (("mux", "first_painting"), (f"{PACKAGE}.frontend.app",)),
     "host": ((), (f"{PACKAGE}.host.window", f"{PACKAGE}.host.windows")),
@@ -43,8 +45,8 @@ def stamp_of(source):
 
 
 def load(name):
-    """Load the modules of a bundle that are not there yet, or leave them to be imported."""
-    if sys.dont_write_bytecode:
+    """Load the modules of a bundle that are not there yet, or leave them to be imported. Without a bundle of that name nothing is done."""
+    if name not in ROOTS or sys.dont_write_bytecode:
         return
     # What is made here stays, so that nobody has to look through it for garbage, now or later.
     gc.disable()

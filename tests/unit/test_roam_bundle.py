@@ -13,6 +13,7 @@ TREE = {
     "__init__": "", "common/__init__": "", "cli/__init__": "", "frontend/__init__": "", "host/__init__": "",
     "common/text": '"""Words."""\nfrom __future__ import annotations\n\n\ndef shown(text: Unknown) -> str:\n    """Show it."""\n    return f"<{text}>"\n',
     "common/other": "from roam_live.common.text import shown\n",
+    "cli/all_sessions": "", "cli/asking": "", "cli/send": "", "cli/capture": "", "session/__init__": "", "session/survey": "",
     "cli/mux": "import os\nfrom roam_live.common import text\n", "cli/attaching": "from roam_live.cli.mux import text\n",
     "frontend/follow": "from roam_live.common.text import shown\n\n\ndef later():\n    from roam_live.frontend import late\n",
     "frontend/app": "import roam_live.frontend.follow\n", "frontend/late": "from roam_live.common.text import shown\n",
@@ -73,7 +74,8 @@ class BundleFiles(Case):
         self.write()
         self.assertEqual(self.brought("mux", "first_painting"), ADDED["mux"] + ADDED["first_painting"])
         self.assertEqual(self.brought(*ADDED), sum(ADDED.values()))
-        # That of the host needs no other.
+        # That of the host needs no other; what has none is imported.
+        self.assertEqual(self.brought("mux", "none"), ADDED["mux"])
         self.assertEqual(self.brought("host"), 6)
 
     def test_changed(self):

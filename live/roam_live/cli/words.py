@@ -1,6 +1,8 @@
 """The words of `mux`: what each does, its help, and its arguments."""
 from __future__ import annotations
 
+import roam_bundle
+
 from roam_live.config.environment import PREDICTION
 
 TYPE_CHECKING = False
@@ -36,6 +38,7 @@ class Word:
     def does(self, asked: Asked) -> int:
         """Do what is asked for, and return the status. Only what this word needs is imported."""
         module, _, name = self.function.partition(".")
+        roam_bundle.load(module)
         does: Callable[[Asked], int] = getattr(__import__(f"roam_live.cli.{module}", fromlist=(name,)), name)
         return does(asked)
 
