@@ -20,15 +20,23 @@ PACKAGE = "roam_live"
 
 # For each bundle, the bundles that are loaded before it, and the modules that it is for; it has these with what they import at once, but for
 # what is in those before. They have what the words of mux need that go to a session, what `ls` and what words that ask a session need besides
-# (by the module of `roam_live.cli` that does them), what a front end needs to show a window, the rest of a front end, and a pty host.
+# (by the module of `roam_live.cli` that does them), what a front end needs to show a window, the rest of a front end, what that imports as
+# it is first used, and a pty host.
 ROOTS = {
     "mux": ((), (f"{PACKAGE}.cli.mux", f"{PACKAGE}.cli.attaching")),
     "all_sessions": (("mux",), (f"{PACKAGE}.cli.all_sessions", f"{PACKAGE}.session.survey")),
     "asking": (("mux",), (f"{PACKAGE}.cli.asking", f"{PACKAGE}.cli.send", f"{PACKAGE}.cli.capture")),
     "first_painting": (("mux",), (f"{PACKAGE}.frontend.follow",)),
     "front_end": (("mux", "first_painting"), (f"{PACKAGE}.frontend.app",)),
+    "late": (("mux", "first_painting", "front_end"), tuple(f"{PACKAGE}.{name}" for name in (
+        "config.command_table", "config.formats", "config.loader", "config.parser", "frontend.borders", "frontend.command_line",
+        "frontend.copymode.actions", "frontend.copymode.controller", "frontend.copymode.keys", "frontend.copymode.motions",
+        "frontend.copymode.search", "frontend.resize_keys", "frontend.spawn_commands", "input.key_names", "protocol.screen_cells"))),
     "host": ((), (f"{PACKAGE}.host.window", f"{PACKAGE}.host.windows")),
 }
+
+# A bundle begins with the length of its head in so many bytes; a head has no more bytes than these.
+WORD, MOST_HEAD = 8, 1 << 20
 
 ModuleType, ModuleSpec = type(sys), type(sys.__spec__)
 
@@ -52,7 +60,7 @@ def load(name):
     gc.disable()
     try:
         modules = modules_in(name)
-        for module, source, _, code in modules or ():
+        for module, source, code in modules or ():
             if module not in sys.modules:
                 begin(module, source, code)
     finally:
@@ -63,18 +71,48 @@ def load(name):
 
 
 def modules_in(name):
-    """Return the modules of a bundle: the name, source, stamp and code of each; None if it is not there, or a source has changed."""
+    """Return the modules of a bundle: the name, source and code of each; None if it is not there, or a source has changed."""
     try:
-        with open(path_of(name), "rb", 0) as file:
-            magic, folder, modules = marshal.loads(file.read())
-        if (magic, folder) != (MAGIC_NUMBER, FOLDER):
-            return None
-        for _, source, stamp, _ in modules:
-            if stamp_of(source) != stamp:
-                return None
+        end = os.open(path_of(name), os.O_RDONLY | os.O_CLOEXEC)
+        try:
+            return with_codes(end, head_of(end))
+        finally:
+            os.close(end)
     except (OSError, ValueError, EOFError, TypeError):
         return None
-    return modules
+
+
+def head_of(end):
+    """Return the names, sources and stamps of an open bundle, and where the code begins; ValueError if a source has changed."""
+    length = int.from_bytes(os.pread(end, WORD, 0), "big")
+    magic, folder, modules = marshal.loads(os.pread(end, min(length, MOST_HEAD), WORD))
+    if (magic, folder) != (MAGIC_NUMBER, FOLDER) or any(stamp_of(source) != stamp for _, source, stamp in modules):
+        raise ValueError("a bundle of other sources")
+    return modules, WORD + length
+
+
+def with_codes(end, head):
+    """Return the modules of an open bundle with their code."""
+    modules, begin = head
+    codes = marshal.loads(os.pread(end, os.fstat(end).st_size - begin, begin))
+    return [(name, source, code) for (name, source, _), code in zip(modules, codes)]
+
+
+def opened(name):
+    """Return an open bundle and what `head_of` returns; None if there is none. It stays what it is, whatever becomes of its file."""
+    if sys.dont_write_bytecode:
+        return None
+    for _ in range(2):
+        try:
+            end = os.open(path_of(name), os.O_RDONLY | os.O_CLOEXEC)
+            try:
+                return end, head_of(end)
+            except BaseException:
+                os.close(end)
+                raise
+        except (OSError, ValueError, EOFError, TypeError):
+            write(name)
+    return None
 
 
 def begin(name, source, code):
@@ -104,9 +142,10 @@ def write(name):
         return
     made = f"{path_of(name)}.{os.getpid()}"
     try:
-        data = marshal.dumps((MAGIC_NUMBER, FOLDER, made_of(name)))
+        found = made_of(name)
+        head = marshal.dumps((MAGIC_NUMBER, FOLDER, [one[:3] for one in found]))
         with open(made, "wb") as file:
-            file.write(data)
+            file.write(len(head).to_bytes(WORD, "big") + head + marshal.dumps([code for _, _, _, code in found]))
         os.replace(made, path_of(name))
     except (OSError, SyntaxError):
         if os.path.exists(made):

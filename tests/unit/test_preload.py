@@ -6,14 +6,14 @@ import sys
 from unittest import mock
 
 from aids import Case
-from roam_live.common import build_guard
-from roam_live.common.build_guard import BuildGuard
-from roam_live.frontend import status_line
+from roam_live.common import late_modules
+from roam_live.common.late_modules import LateModules
+from roam_live.frontend import bindings, status_line
 from roam_live.frontend.commands import REPLACED
 from roam_live.frontend.copymode import controller
 from test_app import Fronts
 
-LIVE = pathlib.Path(build_guard.__file__).resolve().parents[2]
+LIVE = pathlib.Path(late_modules.__file__).resolve().parents[2]
 
 # So many modules of roam the words of mux load, a front end before it shows something, and in all before a key is typed.
 MOST = {"roam_live.cli.attaching": 45, "roam_live.frontend.follow": 65, "roam_live.frontend.app": 105}
@@ -59,21 +59,24 @@ class Modules(Case):
                 self.assertEqual({"collections.abc", "typing"} & set(at_once(path)), set(), name)
 
 
-class Guarded(Case):
-    """Imports of another build."""
+class Late(Case):
+    """Imports of a process that was there before another build."""
 
-    def test_guard(self):
-        """A module of roam isn't imported once another build is in its place; those of others are, and so is all behind it."""
-        built = self.patch_of(build_guard, "identity", return_value="1 a")
-        guard = BuildGuard()
-        guard.begin()
-        self.assertIs(sys.meta_path[0], guard)
-        self.assertIsNone(guard.find_spec("roam_live.any"))
+    def test_refused(self):
+        """Without a bundle a module of roam isn't imported once another build is in its place; those of others are, and so is all behind
+        it."""
+        built = self.patch_of(late_modules, "identity", return_value="1 a")
+        self.patch_of(late_modules.roam_bundle, "opened", return_value=None)
+        late = LateModules()
+        late.begin()
+        self.assertIs(sys.meta_path[0], late)
+        self.assertIsNone(late.find_spec("roam_live.any"))
         built.return_value = "1 b"
         self.assertRaises(ImportError, __import__, "roam_live.cli.none")
-        self.assertIsNone(guard.find_spec("shlex"))
-        guard.end()
-        self.assertNotIn(guard, sys.meta_path)
+        self.assertIsNone(late.find_spec("shlex"))
+        late.end()
+        late.end()
+        self.assertNotIn(late, sys.meta_path)
 
 
 class Gone(Fronts):
@@ -87,6 +90,13 @@ class Gone(Fronts):
             self.type(b"\x02[x")
         self.assertEqual((self.front.display.row.told, self.front.left), (REPLACED, None))
         self.assertIn(b"char 78\n", client.recv(9999))
+
+    def test_keys(self):
+        """Where there is no bundle the keys behind the prefix are read before that may be."""
+        self.front.late.begin = lambda: None
+        with mock.patch.object(bindings, "DEFAULTS", {}) as known:
+            self.front.begin_late()
+            self.assertIn("d", known)
 
     def test_moment(self):
         """So is what is done at a moment, or as something comes; copy mode that is half open is closed."""

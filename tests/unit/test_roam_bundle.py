@@ -42,6 +42,30 @@ import roam_live.common.other
 assert roam_live.common.other.shown is text.shown
 """
 
+# Removes the tools below a front end, and imports what it has for later.
+LATE = """
+import os, shutil, sys
+sys.path.insert(0, sys.argv[1])
+import roam_bundle
+for name in ("mux", "first_painting", "front_end"):
+    roam_bundle.load(name)
+from roam_live.frontend import app
+from roam_live.common.late_modules import LateModules
+late = LateModules()
+late.begin()
+shutil.rmtree(sys.argv[1])
+from roam_live.frontend.copymode.controller import Copying
+from roam_live.frontend.bindings import defaults
+print("late", "d" in defaults())
+assert not late.codes and not late.depth and Copying.__module__ in late.sources
+assert sys.modules[Copying.__module__].__file__.endswith("copymode/controller.py")
+try:
+    import roam_live.relay.near
+except ImportError:
+    print("refused")
+late.end()
+"""
+
 
 class BundleFiles(Case):
     """The bundles of a small tree."""
@@ -111,6 +135,12 @@ class BundleFiles(Case):
         """Where no bundle can be written the modules are imported."""
         (self.tools / "__pycache__").write_text("", encoding="ascii")
         self.assertEqual((self.brought("mux"), self.brought("mux")), (0, 0))
+
+    def test_late(self):
+        """What a front end imports later is that of its own build, though roam was removed; what no bundle has is refused then."""
+        self.tools = self.made_folder() / "live"
+        shutil.copytree(TOOLS, self.tools, ignore=shutil.ignore_patterns("__pycache__"))
+        self.assertEqual(self.run_python("-c", LATE, str(self.tools)).split(), ["late", "True", "refused"])
 
     def test_same_output(self):
         """mux says the same by bundles and without."""

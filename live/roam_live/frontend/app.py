@@ -3,12 +3,12 @@ from __future__ import annotations
 
 import time
 
-from roam_live.common.build_guard import BuildGuard
 from roam_live.common.errors import all_done
 from roam_live.common.io import read
+from roam_live.common.late_modules import LateModules
 from roam_live.common.process import unwoken
 from roam_live.common.signals import signal
-from roam_live.frontend.bindings import Keymap
+from roam_live.frontend.bindings import Keymap, defaults
 from roam_live.frontend.connection import PROBES, SIZES, Connecting
 from roam_live.frontend.first_painting import LEAVING, FirstPainting
 from roam_live.frontend.interpreter import Interpreter
@@ -29,6 +29,9 @@ if TYPE_CHECKING:
 
     from roam_live.frontend.command_line import CommandRunner
     from roam_live.protocol.session_interface import AnySession
+
+# So many seconds after it began a front end opens what it imports later.
+LATE = 0.2
 
 # So many seconds each of several clients has at least for what was typed before a person left.
 LEAST_WAIT = 0.1
@@ -51,7 +54,7 @@ class FrontEnd:
         self.status = 0
         self.command_runner: CommandRunner | None = None
         self.wakeup, self.display = first.wakeup, first.display
-        self.guard = BuildGuard()
+        self.late = LateModules()
         self.watchdog = HostWatchdog(session, self.loop, lambda line: self.display.row.tell(line, LOSS_TOLD))
         self.keyboard = Interpreter(ModeStack(Keymap()), self.display, self.loop, lambda: self.views.view.commands, lambda: self.windows)
         # The name of a session without its window, which changes.
@@ -208,10 +211,16 @@ class FrontEnd:
             self.loop.later("left", LAST_WAIT, lambda: None)
         return self.views.hands_over() and self.loop.clock() < self.left_at + LAST_WAIT
 
+    def begin_late(self) -> None:
+        """Have what is imported later be there, whatever becomes of roam's files. The keys behind the prefix need some of it in any case."""
+        self.late.begin()
+        if not self.late.bundle:
+            defaults()
+
     def run(self) -> int:
         """Follows the session until the person leaves or it ends, and tells the status."""
         try:
-            self.guard.begin()
+            self.loop.later("late", LATE, self.begin_late)
             self.ask_colours()
             self.settings.tell(advice(self.settings.prefix))
             self.settings.run_file()
@@ -229,4 +238,4 @@ class FrontEnd:
         whatever hangs behind that is ended by a signal."""
         outer, left = self.display.outer, self.left
         all_done(self.views.commands.left, lambda: outer.begin_leave(left and left + UNPASTED * self.views.hands_over()), self.part,
-                 outer.end_leave, self.guard.end, lambda: unwoken(*LEAVING))
+                 outer.end_leave, self.late.end, lambda: unwoken(*LEAVING))

@@ -9,6 +9,9 @@ from roam_live.common.process import program
 # The commit of the build that is installed over the first one.
 NEWER = "feedfeedfeed"
 
+# An installed roam has bundles of its modules, which Python isn't told to leave alone here.
+BUNDLES = {"PYTHONDONTWRITEBYTECODE": ""}
+
 
 def install(prefix, commit=""):
     """Installs the tree below a prefix, as another build if a commit is named."""
@@ -47,7 +50,7 @@ def installed(folder):
     os.environ.pop("ROAM", None)
     prefix = folder / "prefix"
     install(prefix)
-    outer = Outer([str(prefix / "bin/roam"), "mux", SESSION])
+    outer = Outer([str(prefix / "bin/roam"), "mux", SESSION], environment=BUNDLES)
     check("an installed roam shows a shell", outer.shows("$ ") and outer.status("[1] 1:"), outer.rows)
     told = run(prefix, "ls")
     check("ls says nothing of the build", told[0] == 0 and "runs roam" not in told[1], told)
@@ -61,7 +64,7 @@ def installed(folder):
     goes_on(outer, 1)
     outer.type(b"\x02c")
     check("a window is opened", comes(lambda: "2:" in outer.rows()[-1]), outer.rows)
-    other = Outer([str(prefix / "bin/roam"), "mux", "attach", SESSION])
+    other = Outer([str(prefix / "bin/roam"), "mux", "attach", SESSION], environment=BUNDLES)
     check("a terminal attaches by the new build", other.shows("$ ") and comes(lambda: "2:" in other.rows()[-1]), other.rows)
     other.type(b"\x02d")
     check("and leaves", other.ends() and other.is_restored(), other.rows)
