@@ -95,8 +95,9 @@ class Stamp(Case):
         write(self.clone / "crates/roam/out/roam", PROGRAM)
         write(self.clone / "crates/roam/out/current", "")
         # What looks at files, and what builds, say so.
-        for name in ("find", "make", "rt"):
+        for name in ("find", "rt"):
             write(self.clone / f"bin/{name}", f"#!/bin/sh\necho {name} >> {self.clone}/called\n")
+        write(self.clone / "tools/build", f"#!/bin/sh\necho build:$1:$2 >> {self.clone}/called\n[ $1 != --check ] || [ -e {self.clone}/built ]\n")
         self.age("crates.txt", "crates/roam/src", "crates/roam/specs", "crates/roam/proofs", "crates/roam/src/lib.rt")
 
     def age(self, *names):
@@ -122,9 +123,12 @@ class Stamp(Case):
         self.assertEqual(self.called("mux", "ls"), ["find"])
 
     def test_none(self):
-        """Without a stamp make looks, whatever the words are, and the next call needs none."""
+        """Without a stamp tools/build looks, whatever the words are, and builds what is stale; the next call needs neither."""
         (self.clone / "crates/roam/out/current").unlink()
-        self.assertEqual(self.called("mux", "ls"), ["make", "make"])
+        self.assertEqual(self.called("mux", "ls"), ["build:--check:roam", "build:roam:"])
+        (self.clone / "crates/roam/out/current").unlink()
+        write(self.clone / "built", "")
+        self.assertEqual(self.called("mux", "ls"), ["build:--check:roam"])
         self.age("crates/roam/specs")
         self.assertEqual(self.called("mux", "ls"), [])
 

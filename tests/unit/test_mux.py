@@ -628,7 +628,7 @@ class Words(Mux):
         for words in (("ls", "--help"), ("ls", "-h"), ("help", "ls")):
             before = len(self.text.getvalue())
             self.assertEqual(self.mux(*words), 0)
-            self.assertTrue(self.text.getvalue()[before:].startswith("usage: mux ls [-h]\n\nls lists the sessions"))
+            self.assertTrue(self.text.getvalue()[before:].startswith("usage: mux ls [-h]\n\nList the sessions.\n"))
 
     def test_unknown_variables(self):
         """An unknown variable is named in one printable line on standard error, with the one that it is near to; up to four are."""
