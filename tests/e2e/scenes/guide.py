@@ -171,7 +171,6 @@ def scripts(all_):
     all_.does("roam mux buffer list work", "TEXT")
     all_.does("roam mux buffer show work", "TEXT")
     all_.does("roam mux buffer show work > copied.txt; cat copied.txt", "TEXT")
-    all_.does("printf 'test' | roam mux buffer set work")
     all_.does("printf '\\033]52;c;dGVzdA==\\a'")
     all_.does("roam mux buffer paste work.2")
     all_.does("roam mux paste work < FILE")
