@@ -1,6 +1,6 @@
 """roam_bundle.py: loads many modules at once, from one file of compiled code. Run as a script it writes these files, as installers do.
 
-Python's import takes some 2,500 bytecodes and five system calls for each module, which is most of what a front end takes to be there. A
+Python's import takes some 2,500 bytecodes and five system calls for each module, most of the cost of starting a front end. A
 bundle has the code of modules in the order of their imports, in `__pycache__` beside this file. It is used while each source is as it was;
 otherwise the modules are imported as ever, and the bundle is written anew. If Python is told to write no bytecode there are no bundles.
 
@@ -18,10 +18,9 @@ signal(SIGINT, SIG_DFL)
 FOLDER = os.path.dirname(os.path.realpath(__file__))
 PACKAGE = "roam_live"
 
-# For each bundle, the bundles that are loaded before it, and the modules that it is for; it has these with what they import at once, but for
-# what is in those before. They have what the words of mux need that go to a session, what `ls` and what words that ask a session need besides
-# (by the module of `roam_live.cli` that does them), what a front end needs to show a window, the rest of a front end, what that imports as
-# it is first used, and a pty host.
+# For each bundle, the bundles that are loaded before it, and its root modules. It has the roots and all modules that they import at once,
+# except those of the bundles before. `mux` is for all words that go to a session, `all_sessions` for `ls`, `asking` for words that ask a
+# session, `first_painting` and `front_end` for a front end, `late` for its imports on first use, and `host` for a pty host.
 ROOTS = {
     "mux": ((), (f"{PACKAGE}.cli.mux", f"{PACKAGE}.cli.attaching")),
     "all_sessions": (("mux",), (f"{PACKAGE}.cli.all_sessions", f"{PACKAGE}.session.survey")),
@@ -47,7 +46,7 @@ def path_of(name):
 
 
 def stamp_of(source):
-    """Return what changes with a source: its time and its size."""
+    """Return the time and size of a source, which change with it."""
     found = os.stat(source)
     return found.st_mtime_ns, found.st_size
 
@@ -56,7 +55,7 @@ def load(name):
     """Load the modules of a bundle that are not there yet, or leave them to be imported. Without a bundle of that name nothing is done."""
     if name not in ROOTS or sys.dont_write_bytecode:
         return
-    # What is made here stays, so that nobody has to look through it for garbage, now or later.
+    # The garbage collector need not look at these modules, now or later: they stay.
     gc.disable()
     try:
         modules = modules_in(name)
@@ -99,7 +98,7 @@ def with_codes(end, head):
 
 
 def opened(name):
-    """Return an open bundle and what `head_of` returns; None if there is none. It stays what it is, whatever becomes of its file."""
+    """Return an open bundle and what `head_of` returns; None if there is none. It stays the same if its file is replaced."""
     if sys.dont_write_bytecode:
         return None
     for _ in range(2):
@@ -163,7 +162,7 @@ def made_of(name):
 
 
 def add_all(names, found):
-    """Add modules, each behind its packages and behind what it imports at once, unless they are there."""
+    """Add modules, each behind its packages and its imports, unless they are there."""
     import ast
 
     for name in names:
@@ -179,8 +178,8 @@ def add_all(names, found):
 
 
 def compiled(tree, source):
-    """Return the code of a module, without docstrings. What it imports from `__future__` is a flag of the compiler, and no module at run
-    time."""
+    """Return the code of a module, without docstrings. An import from `__future__` becomes a flag of the compiler, and loads no module at
+    run time."""
     import ast
     import __future__
 
@@ -197,7 +196,7 @@ def source_of(name):
 
 
 def imports_of(tree):
-    """Return the names that a module imports at once, of modules or of what is in them."""
+    """Return the names that a module imports at once: modules, or names in them."""
     import ast
 
     names = []

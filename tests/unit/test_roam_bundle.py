@@ -1,4 +1,4 @@
-"""The bundles of modules: what they have, when they are used, and what becomes of one that can't be."""
+"""How roam_bundle.py loads modules: what its files have, when they are used, and what becomes of one that can't be."""
 import os
 import shutil
 import subprocess
@@ -67,8 +67,8 @@ late.end()
 """
 
 
-class BundleFiles(Case):
-    """The bundles of a small tree."""
+class ModuleBundles(Case):
+    """Those of a small tree."""
 
     def setUp(self):
         self.tools = self.made_folder() / "live"

@@ -9,8 +9,8 @@ TYPE_CHECKING = False
 if TYPE_CHECKING:
     from roam_live.cli.words import Argument, Word
 
-# The columns of the help if neither COLUMNS nor a terminal tells any, the column in which what arguments do begins at most, and how far their
-# names are indented.
+# The width of the help if neither COLUMNS nor a terminal gives one, the last column in which the text of an argument may begin, and the
+# indent of its name.
 COLUMNS = 80
 MOST_BEGIN = 24
 INDENT = 2
@@ -80,7 +80,7 @@ def usage(program: str, arguments: tuple[Argument, ...], width: int) -> list[str
 
 
 def section(title: str, rows: list[tuple[str, str]], begin: int, width: int) -> list[str]:
-    """Return a title and rows of a name and what that does, which begins in a column."""
+    """Return a title and rows of a name and a text, which begins in a column."""
     lines = ["", f"{title}:"]
     for name, text in rows:
         told = wrapped(text, max(width - begin, 11))
@@ -92,7 +92,7 @@ def section(title: str, rows: list[tuple[str, str]], begin: int, width: int) -> 
 
 
 def help_of(program: str, name: str, word: Word) -> str:
-    """Return the help of a word, where mux is called so."""
+    """Return the help of a word. `program` is the name by which mux was called."""
     width = width_here()
     others = [(str(more["metavar"]), str(more.get("help", ""))) for names, more in word.arguments if not names[0].startswith("-")]
     options = [(HELP_NAMES, HELP_TEXT)]

@@ -44,15 +44,15 @@ class FilePath(str):
         return os.path.isdir(self)
 
     def stat(self) -> os.stat_result:
-        """Return what the system says of the file."""
+        """Return the result of stat(2) of the file."""
         return os.stat(self)
 
     def iterdir(self) -> Iterator[FilePath]:
-        """Yield the paths of what is in the folder."""
+        """Yield the paths of the entries of the folder."""
         return iter([self / name for name in os.listdir(self)])
 
     def read_bytes(self) -> bytes:
-        """Return what is in the file, by as few system calls as that takes."""
+        """Return the bytes of the file, by as few system calls as possible."""
         end = os.open(self, os.O_RDONLY | os.O_CLOEXEC)
         try:
             chunks = []

@@ -16,7 +16,7 @@ BLANK = " \t\n\r"
 
 
 class ScannerSettings:
-    """What the scanner is told of a reader: as `json.loads` has it."""
+    """The settings of the scanner, as `json.loads` has them."""
 
     strict = True
     object_hook = object_pairs_hook = None

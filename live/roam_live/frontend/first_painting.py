@@ -1,5 +1,5 @@
 """Shows a window on a person's terminal before the rest of the front end is loaded: the terminal is taken, the client process is asked for
-what it is to show, and what it paints is written. The front end goes on with all of that."""
+the window, and its painting is written. The front end goes on with the terminal and the connection."""
 from __future__ import annotations
 
 import time
@@ -26,7 +26,7 @@ LEAVING = (signal.SIGTERM, signal.SIGHUP, signal.SIGINT)
 class FirstPainting:
     """A person's terminal, and the connection to the client process of the window that is shown there first.
 
-    `says` takes the lines by which the display asks the client for something. Whoever goes on with the display sets it.
+    `says` takes the lines by which the display asks the client for something. The front end sets it when it goes on with the display.
     """
 
     def __init__(self, session: AnySession, is_read_only: bool, prefix: str, prediction: str, is_whole: bool = False,
@@ -39,24 +39,24 @@ class FirstPainting:
         self.display = Display(self.loop, lambda line: self.says(line))
         self.display.part.is_row_hidden = text_of("status") == "off"
         self.display.row.name_keys(prefix, is_read_only)
-        # What the client reported so far, without what it painted.
+        # The client's records so far, without the bytes of paintings.
         self.records: list[DisplayRecord] = []
 
     def begin(self) -> None:
-        """Take the terminal, and ask the client for what is to be shown, if there is one."""
+        """Take the terminal, and ask the client for the window, if there is one."""
         self.display.outer.enter()
         self.display.outer.put()
         try:
             self.link.connect()
         except OSError:
-            # Why, and what becomes of that, is the front end's.
+            # The front end tries again, and reports why it failed.
             return
         self.display.begin()
         self.display.know(NO_SIZE, "", self.is_whole)
         self.link.send()
 
     def show(self, seconds: float) -> None:
-        """Write what the client paints, once it does in so many seconds."""
+        """Wait up to so many seconds for a painting, and write it."""
         end = time.monotonic() + seconds
         while self.link.peer and self.display.part.is_stale and not self.display.notice:
             if not ready(self.link, READ, end - time.monotonic()):

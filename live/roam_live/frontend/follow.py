@@ -21,7 +21,7 @@ PAINTS = 0.05
 
 def follow(session: AnySession, is_read_only: bool, prefix: str, prediction: str,
            is_new: Callable[[Places | None], bool] = lambda places: False, is_whole: bool = False) -> int:
-    """Have a person follow a session at this terminal, and return the status. Predictions are shown always, where that helps, or never. A
+    """Have a person follow a session at this terminal, and return the status. Predictions are shown always, if that helps, or never. A
     session that is new, which may be known a moment later, gets this terminal's size, whatever that is. It may be shown whole, if there is
     room for its own status row."""
     try:
