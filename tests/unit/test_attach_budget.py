@@ -14,7 +14,7 @@ from roam_live.common import tty
 from roam_live.common.process import TOOLS
 
 # Most bytecodes and system calls of an attach until the first painting is written, and until the last row has all that is reported. Python
-# 3.11 takes 47,000 and 550, and 94,000 and 710; other versions have other bytecodes.
+# 3.11 takes 54,000 and 610, and 101,000 and 770; other versions have other bytecodes.
 MOST_PAINTED = 60000, 650
 MOST_LABELLED = 115000, 850
 

@@ -17,9 +17,9 @@ EVENTS, BEFORE = 10, 3
 SETTLES = 0.05
 
 # Most calls of Python, bytecodes and system calls of a key with its echo, and of a painting of 200 bytes, with what comes of them in
-# SETTLES seconds. Python 3.11 takes 143, 2,950 and 8, and 87, 1,640 and 4; other versions have other bytecodes.
-MOST_KEY = 150, 3000, 9
-MOST_PAINTING = 100, 1900, 5
+# SETTLES seconds. Python 3.11 takes 139, 2,995 and 6, and 55, 1,295 and 3; other versions have other bytecodes.
+MOST_KEY = 150, 3000, 7
+MOST_PAINTING = 65, 1450, 4
 
 # So many windows are listed in the last row beside the one that is shown.
 MANY = 12
