@@ -123,11 +123,12 @@ def frozen(folder):
 def moved(folder):
     """A front end goes on where its files are moved away: copy mode, a command and the settings are there."""
     shutil.copytree(LIVE, folder / "tree/live", ignore=shutil.ignore_patterns("__pycache__"))
-    outer = Outer([str(folder / "tree/live/mux"), "other"])
+    # Python may write the bundles that a front end keeps open.
+    outer = Outer([str(folder / "tree/live/mux"), "other"], environment={"PYTHONDONTWRITEBYTECODE": ""})
     outer.shows("$ ")
     outer.type(b"seq 1 50\r")
     outer.shows("50")
-    # It imports what it may need for half a second.
+    # The front end opens its bundle 0.2 s after its start.
     time.sleep(1)
     (folder / "tree").rename(folder / "moved")
     for keys, text in ((b"\x02[", "copy mode"), (b"/4", "4"), (b"\rq", "[1] 1:"), (b"\x02:display-message moved\r", "moved"),
