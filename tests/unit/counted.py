@@ -68,7 +68,7 @@ def begin_traced(words, environment, terminal):
         given = os.open(os.devnull, os.O_RDWR) if terminal is None else terminal
         for end in range(3):
             os.dup2(given, end)
-        LIBC.ptrace(TRACEME, 0, None, None)
+        ptrace(TRACEME, 0)
         os.kill(os.getpid(), signal.SIGSTOP)
         os.execvpe(words[0], words, environment)
     finally:
@@ -98,6 +98,14 @@ def system_calls(words, environment, terminal=None, until=b""):
             with contextlib.suppress(OSError):
                 os.kill(process, signal.SIGKILL)
                 os.waitpid(process, 0)
+
+
+def can_trace():
+    """Return True if the system lets a process trace its child; a container may forbid ptrace(2)."""
+    try:
+        return system_calls(["true"], dict(os.environ)) > 0
+    except OSError:
+        return False
 
 
 # ---- bytecodes

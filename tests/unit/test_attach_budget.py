@@ -8,7 +8,7 @@ import threading
 import time
 
 from aids import Case
-from counted import bytecodes_of, plain_environment, system_calls, tool_words
+from counted import bytecodes_of, can_trace, plain_environment, system_calls, tool_words
 from played_session import LABELLED, PAINTED, PlayedSession
 from roam_live.common import tty
 from roam_live.common.process import TOOLS
@@ -61,11 +61,14 @@ class Budget(Case):
         return slave
 
     def demand(self, words, most, until=b"", terminal=None):
-        """Sees that words take no more than so many bytecodes and system calls until a text is written, at best."""
-        found = []
+        """Check the bytecodes and system calls that words take until a text is written, at best.
+
+        System calls count as 0 if the system forbids to trace them.
+        """
+        found, is_traced = [], can_trace()
         for _ in range(TRIES):
             counts = bytecodes_of(self.folder / "counts", self.tools, words, self.known, until, terminal, time.monotonic() + WAIT)
-            calls = system_calls(tool_words(self.tools, "mux", *words), self.known, terminal, until)
+            calls = system_calls(tool_words(self.tools, "mux", *words), self.known, terminal, until) if is_traced else 0
             found.append((counts.bytecodes, calls))
             if found[-1][0] <= most[0] and found[-1][1] <= most[1]:
                 return

@@ -4,6 +4,8 @@ import importlib.util
 import io
 import os
 import pathlib
+import signal
+import subprocess
 import sys
 
 from aids import Case
@@ -31,18 +33,15 @@ class Proof:
     """A proof that has ended with a status."""
 
     def __init__(self, status):
-        self.returncode, self.is_ended = status, False
+        self.ended_with, self.is_stopped = status, False
 
-    def poll(self):
-        """The status, at once."""
-        return self.returncode
+    def status(self):
+        """Return the status, at once."""
+        return self.ended_with
 
-    def terminate(self):
-        """It is ended."""
-        self.is_ended = True
-
-    def wait(self):
-        """Nothing is left to wait for."""
+    def stop(self):
+        """Note the call."""
+        self.is_stopped = True
 
 
 class Reading(Case):
@@ -182,7 +181,7 @@ class Built(Case):
         build.start_ready()
         proof = build.running["low"][0]
         build.stop()
-        self.assertTrue(proof.is_ended)
+        self.assertTrue(proof.is_stopped)
 
 
 class Told(Case):
@@ -194,11 +193,77 @@ class Told(Case):
         stream.fileno = lambda: 9
         self.patch_of(tool.os, "isatty", lambda descriptor: is_terminal)
         line = tool.Line(stream)
-        line.tell("one")
-        line.tell("two")
+        line.report("one")
+        line.report("two")
         line.end()
+        line.report("three")
         return stream.getvalue()
 
     def test_shown(self):
-        """A terminal has one line that is rewritten; a file has all."""
-        self.assertEqual((self.shown(True), self.shown(False)), ("\r\x1b[Kone\r\x1b[Ktwo\n", "one\ntwo\n"))
+        """A terminal has one line that is rewritten until the end of that; a file has all."""
+        self.assertEqual((self.shown(True), self.shown(False)), ("\r\x1b[Kone\r\x1b[Ktwo\nthree\n", "one\ntwo\nthree\n"))
+
+    def test_gone(self):
+        """A terminal that is gone doesn't end a build."""
+        stream = io.StringIO()
+        stream.fileno = lambda: 9
+        self.patch_of(tool.os, "isatty", lambda descriptor: True)
+        self.patch_of(stream, "write", self.fail_to_write)
+        tool.Line(stream).report("one")
+
+    @staticmethod
+    def fail_to_write(text):
+        """Fail as a write to a terminal that was hung up."""
+        raise OSError(5, "Input/output error")
+
+
+class Processes(Case):
+    """The processes of a build."""
+
+    def test_group(self):
+        """The prover that a proof started ends with it."""
+        words = ["sh", "-c", "sleep 60 & echo started; wait"]
+        process = subprocess.Popen(words, stdout=subprocess.PIPE, start_new_session=True)
+        self.addCleanup(process.stdout.close)
+        process.stdout.readline()
+        proof = tool.Proof(process)
+        self.assertIsNone(proof.status())
+        proof.stop()
+        self.assertEqual(proof.status(), -signal.SIGTERM)
+        # The other process of the group holds the pipe until it ends.
+        self.assertEqual(process.stdout.read(), b"")
+
+    def behind(self, failing=()):
+        """Return a build in the background, which writes a line for each proof to a file."""
+        folder = self.made_folder()
+        started = folder / "started"
+        started.touch()
+
+        def prove(name, threads):
+            with open(started, "a", encoding="utf-8") as file:
+                file.write(f"{name} {os.getpid()}\n")
+            return Proof(1 if name in failing else 0)
+
+        plan = tool.Plan.of(CRATES, ["show", "roam"], ["low", "small", "show", "left", "right", "roam"])
+        lock = open(folder / "lock", "a+", encoding="utf-8")
+        self.addCleanup(lock.close)
+        line = tool.Line(open(folder / "line", "w", encoding="utf-8"))
+        self.addCleanup(line.stream.close)
+        build = tool.Build(plan, 1, prove, line.report)
+        return tool.Behind(build, "show", lock, line, folder / "log"), folder
+
+    def test_behind(self):
+        """The call returns at the first goal; all proofs are children of one process, whose number the lock has."""
+        behind, folder = self.behind()
+        self.assertEqual(behind.start(), 0)
+        os.waitpid(int((folder / "lock").read_text(encoding="utf-8")), 0)
+        lines = [line.split() for line in (folder / "started").read_text(encoding="utf-8").splitlines()]
+        self.assertEqual([name for name, _ in lines], ["low", "small", "show", "left", "right", "roam"])
+        self.assertEqual({pid for _, pid in lines}, {(folder / "lock").read_text(encoding="utf-8").strip()})
+
+    def test_behind_failed(self):
+        """The call fails with the first goal."""
+        behind, folder = self.behind(failing=("small",))
+        self.assertEqual(behind.start(), 1)
+        _, status = os.waitpid(int((folder / "lock").read_text(encoding="utf-8")), 0)
+        self.assertEqual(os.waitstatus_to_exitcode(status), 1)
