@@ -1,4 +1,5 @@
--- An aspect by a mask: the digits of a flag or of a colour are cleared and others put there, and the number says the style that shows it.
+-- An aspect by a mask: it clears the digits of a flag or of a colour and puts others there. The number is then that of the style with this
+-- aspect.
 use Rattle.std.proofs.Common.{◌≡◌, ℕ, ◌+◌, ◌-◌, ◌*◌, ◌/◌, ◌%◌, ◌^◌, ◌<◌, ◌≤◌, Bool, true, false, refl, sym, ap, subst, ◌∙◌, arith, leb-true, mod-lt, cond, suc, eqb, leb}
 use Rattle.std.proofs.lemmas.Bool.{ne_eqb, le-leb}
 use Rattle.std.specs.Int.Bits.{bit_and}
@@ -12,7 +13,7 @@ use Rattle.roam_cells.specs.Aspects.{Flag, Bold, Faint, Italic, Underline, Blink
 use Rattle.roam_cells.specs.Inks.{InkValue, IsInkNumber, colour_of, digit, digit_back, digits_back, flags_of, ink_numbered, is_odd, number_of, style_of}
 use Rattle.roam_cells.proofs.Digits.{ink_back}
 
--- ---- what a mask of digits beside each other takes
+-- ---- the digits that a mask of adjacent digits keeps
 
 and_part : (n k j : ℕ) → bit_and n ((2 ^ j - 1) * 2 ^ k) ≡ n / 2 ^ k % 2 ^ j * 2 ^ k
 and_part n k j =

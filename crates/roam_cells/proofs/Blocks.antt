@@ -72,7 +72,7 @@ none c kinds.EmojiModifier h = cc
 none c kinds.Emoji h = cc
 none c kinds.Single h = cc
 
--- ---- what a character of no ASCII takes
+-- ---- the width of a character outside ASCII
 
 char_alone : (c : ℕ) → 0xA0 ≤ c → char_width false c ≡ Some (of_kind false c (kind c)).0
 unfolding char_width alone

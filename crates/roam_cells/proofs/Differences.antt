@@ -1,4 +1,4 @@
--- Numbers differ in no binary digit exactly where they are one.
+-- Numbers differ in no binary digit exactly if they are equal.
 use Rattle.std.proofs.Common.{◌≡◌, ℕ, sym, ap, ◌∙◌, arith}
 use Rattle.std.specs.Prelude.{bit_or, bit_xor}
 use Rattle.std.specs.Int.Bits.{xor_assoc, xor_self, xor_zero_l, xor_zero_r}

@@ -1,4 +1,4 @@
--- Binary digits: a flag put in front is the last digit, and half of the number is what was there before.
+-- Binary digits: a flag put in front is the last digit, and half of the number is the number before.
 use Rattle.std.proofs.Common.{◌≡◌, ℕ, ◌+◌, ◌-◌, ◌*◌, ◌/◌, ◌%◌, ◌<◌, ◌≤◌, Bool, true, false, ◌==◌, eqb, leb, cond, refl, ap, ◌∙◌, arith}
 use Rattle.std.proofs.lemmas.Bool.{ne_eqb, lt-leb}
 use Rattle.roam_cells.specs.declared.styles.Style.{Style}

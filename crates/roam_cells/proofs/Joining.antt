@@ -51,7 +51,7 @@ like false c x h = (refl, h, refl)
 pub with_point_like : (c : ℕ) (x : Glyph) → is_right_half x ≡ false → (is_wide (with_point c x) ≡ is_wide x) × (is_right_half (with_point c x) ≡ false) × (right_of (with_point c x) ≡ right_of x)
 with_point_like c x h = like (is_cell_text (x.points ++ c ∷ [])) c x h
 
--- what a cell of other points in the same style and guard is
+-- the cell of other points in the same style and guard
 pub joined_of : (given wanted : List ℕ) (style : Style) (guard : Bool) (x : Glyph) → given ≡ wanted → style ≡ x.style → guard ≡ x.guarded
     → cond (is_cell_text wanted) (Some (record x { points = wanted })) None ≡ cond (is_cell_text given) (Some (record { points = given; style = style; guarded = guard })) None
 joined_of given wanted style guard x p q r =

@@ -1,4 +1,4 @@
--- Lists as screens: what stands at a place of a table, and when a list is one.
+-- Lists as screens: the element at each place of a table, and the condition for a list to be one.
 use Rattle.std.proofs.Common.{◌≡◌, ℕ, zero, suc, ◌+◌, ◌-◌, ◌*◌, ◌/◌, ◌%◌, ◌<◌, ◌≤◌, List, inl, inr, map, length, get_or, replicate, sym, ap, ◌∙◌, arith, length-append}
 use Rattle.std.specs.List.{range_with_len}
 use Rattle.std.proofs.lemmas.List.{places, same_lists, get_or_append_left, get_or_default, get_or-append_right}

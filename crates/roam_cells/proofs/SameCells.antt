@@ -1,4 +1,4 @@
--- The test on two cells answers yes exactly where they are one.
+-- The test on two cells is true exactly if they are equal.
 use Rattle.std.proofs.Common.{◌≡◌, ℕ, Bool, true, false, eqb, ◌&&◌, List, [], ◌∷◌, refl, sym, ap, ◌∙◌}
 use Rattle.std.proofs.lemmas.Bool.{and_parts, eqb-true, eq-eqb, false≢true, false_from_ne_true}
 use Rattle.std.specs.Prelude.{IsTrue, ◌↔◌}
@@ -93,7 +93,7 @@ same_glyph a b e = ap (same a) (sym e) ∙ glyph_again a
 pub other_glyph : (a b : Glyph) → ¬ (a ≡ b) → same a b ≡ false
 other_glyph a b h = false_from_ne_true (same a b) (λ e. h (glyph_same a b e))
 
--- what answers yes exactly where two are one is such a test
+-- a function that is true exactly for equal arguments is such a test
 pub tells : {X : Type 0} (f : X → X → Bool) → ((x y : X) → f x y ≡ true → x ≡ y) → ((x : X) → f x x ≡ true) → (b : Bool) (x y : X) → IsTrue b ↔ (x ≡ y) → b ≡ f x y
 tells f to from true x y h = sym (ap (λ z. f x z) (sym (h.0 refl)) ∙ from x)
 tells f to from false x y h = sym (false_from_ne_true (f x y) (λ e. false≢true (h.1 (to x y e))))

@@ -4,7 +4,7 @@ use Rattle.std.proofs.lemmas.Bool.{false≢true, and_from}
 use mathlib.Core.Bool.{beq}
 use Rattle.roam_cells.specs.declared.styles.Style.{Style}
 
--- ---- tests that all hold
+-- ---- tests that are all true
 
 both : (a b : Bool) → (a && b) ≡ true → (a ≡ true) × (b ≡ true)
 both true b h = (refl, h)

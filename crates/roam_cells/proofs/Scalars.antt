@@ -16,6 +16,6 @@ each_scalar xs a b c k h =
           ]
     ]
 
--- where each of three is one, each of the first n is
+-- if each of three is one, each of the first n is
 pub all_scalars : (n : ℕ) (xs : List ℕ) → length xs ≡ 3 → IsScalar (get_or xs 0 0) → IsScalar (get_or xs 1 0) → IsScalar (get_or xs 2 0) → All IsScalar (take n xs)
 all_scalars n xs three a b c = All-take IsScalar n xs (All-from_get_or IsScalar xs 0 (λ k h. each_scalar xs a b c k (omega (arith, three, h))))

@@ -1,4 +1,4 @@
--- Words of cells: what is put together is what is read.
+-- Words of cells: reading a word gives the parts that it was made of.
 use Rattle.std.proofs.Common.{◌≡◌, ℕ, ◌+◌, ◌-◌, ◌*◌, ◌/◌, ◌%◌, ◌<◌, inl, inr, Bool, true, false, ◌==◌, nat_lt, List, take, drop, replicate, sym, ap, ◌∙◌, arith}
 use Rattle.std.proofs.lemmas.Bool.{false≢true, cases_lt}
 use Rattle.std.proofs.lemmas.Bool.Decides.{nat_tests}
@@ -14,7 +14,7 @@ use Rattle.roam_cells.proofs.Digits.{odd_digit}
 pub wide_says : (wide : Bool) (d n w : ℕ) → d ≡ digit wide → w / 4 ≡ d + 2 * n → wide_in w ≡ wide
 wide_says wide d n w e f = ap is_odd (f ∙ ap (λ k. k + 2 * n) e) ∙ odd_digit wide n
 
--- what keeps so many code points, their width and an ink
+-- the fields that keep so many code points, their width and an ink
 pub kept_as : (p : ℕ) (points : List ℕ) (count n w : ℕ) (wide : Bool) → places p ≡ points → All IsScalar (places p)
     → drop count points ≡ replicate (3 - count) 0 → wide ≡ is_wide_text (take count points) → is_text (take count points) ≡ true → IsInkNumber n
     → count_in w ≡ count → wide_in w ≡ wide → w / 8 ≡ n → IsKept (record { points = p; word = w })
@@ -27,7 +27,7 @@ kept_as p points count n w wide are scalars rest width text ink said says shows 
       ink = rw shows ink;
     }
 
--- what is shown by what keeps them
+-- the cell that such fields show
 pub shown_as : (p : ℕ) (points : List ℕ) (count n w : ℕ) (ink : InkValue) → places p ≡ points → count_in w ≡ count → w / 8 ≡ n → ink_numbered n ≡ ink
     → glyph_of (record { points = p; word = w }) ≡ record { points = take count points; style = ink.style; guarded = ink.guarded }
 shown_as p points count n w ink are said shows is i =
@@ -47,7 +47,7 @@ means_below a b h = grind (arith, nat_tests)
 below_means : (a b : ℕ) → a < b → nat_lt a b ≡ true
 below_means a b h = grind (arith, nat_tests)
 
--- a word says no width of two where its last three digits are below 4
+-- a word has no width of two if its last three digits are below 4
 pub narrow_says : (w : ℕ) → nat_lt (w % 8) 4 ≡ true → wide_in w ≡ false
 unfolding is_odd
 narrow_says w h =
@@ -64,7 +64,7 @@ says_narrow w h =
           absurd (false≢true (sym h ∙ ap (λ k. k == 1) one))
     ]
 
--- what shows the same is the same
+-- fields that show the same are equal
 pub fields_same : (a b : Inside) → IsKept a → IsKept b → glyph_of a ≡ glyph_of b → a ≡ b
 fields_same a b h k e = sym (inside_back a h) ∙ ap inside_of e ∙ inside_back b k
 

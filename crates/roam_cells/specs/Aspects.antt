@@ -1,4 +1,5 @@
--- What SGR sets of an ink (ECMA-48, 8.3.117) without the rest being read: some digits of its number are cleared, and others put there.
+-- The aspects that SGR sets of an ink (ECMA-48, 8.3.117), without the rest being read: it clears some digits of its number and puts others
+-- there.
 use Rattle.std.specs.Prelude.{ℕ, ◌*◌, Bool, true, false, nat_le}
 use Rattle.roam_cells.specs.Glyph.{default_style}
 use Rattle.roam_cells.specs.Inks.{digit, number_of}

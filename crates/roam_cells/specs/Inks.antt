@@ -1,4 +1,4 @@
--- How a cell keeps its style and its guard as one number: the last nine binary digits are the guard and the flags, and each colour is 25.
+-- A cell's style and guard as one number: the last nine binary digits are the guard and the flags, and each colour has 25.
 use Rattle.std.specs.Prelude.{◌≡◌, ℕ, suc, ◌+◌, ◌-◌, ◌*◌, ◌/◌, ◌%◌, ◌<◌, ◌≤◌, Bool, true, false, ◌==◌, nat_le, if◌then◌else◌}
 use Rattle.std.proofs.Common.{◌⊎◌, inl, inr, refl, ap, ◌∙◌, arith}
 use Rattle.std.proofs.lemmas.Bool.{cases_eq, cases_lt, ne_eqb, le-leb, lt-leb}
@@ -7,7 +7,7 @@ use Rattle.roam_cells.specs.declared.styles.Colour.{Colour}
 use Rattle.roam_cells.specs.declared.styles.Colour.TheVariants.{Default, Index, Rgb}
 use Rattle.roam_cells.specs.declared.inks.Ink.TheInside.{Inside}
 
--- what a character is written with: its style (SGR, ECMA-48 8.3.117), and whether it is guarded (DECSCA, VT220 Programmer Reference)
+-- the ink of a character: its style (SGR, ECMA-48 8.3.117) and its guard (DECSCA, VT220 Programmer Reference)
 pub record InkValue : Type 0 where
   pub style : Style
   pub guarded : Bool
@@ -56,7 +56,7 @@ style_of flags foreground background =
       background = colour_of background;
     }
 
--- what a number says: the guard is the last digit, the flags stand before it, then the foreground, then the background
+-- the ink of a number: the last digit is the guard, and before it come the flags, the foreground and the background
 unfoldable pub ink_numbered : ℕ → InkValue
 ink_numbered n = record { style = style_of (n % 512 / 2) (n / 512 % 33554432) (n / 512 / 33554432); guarded = is_odd n }
 
@@ -76,7 +76,7 @@ pub record IsInkNumber (n : ℕ) : Type 0 where
   pub foreground : n / 512 % 33554432 ≤ 16777472
   pub background : n / 512 / 33554432 ≤ 16777472
 
--- what an ink shows is what its number says
+-- an ink shows the style and guard of its number
 abbrev pub ink_of : Inside → InkValue
 ink_of a = ink_numbered a.number
 
@@ -88,7 +88,7 @@ IsInk a = IsInkNumber a.number
 abbrev pub inside_of : InkValue → Inside
 inside_of v = record { number = number_of_ink v }
 
--- ---- the number comes back from what it says
+-- ---- the number comes back from its ink
 
 -- a number is odd or even
 odd_or_even : (n : ℕ) → (n % 2 ≡ 1) ⊎ (n % 2 ≡ 0)

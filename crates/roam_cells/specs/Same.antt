@@ -1,4 +1,4 @@
--- Whether two cells are one, as a test that computes.
+-- Equality of two cells, as a test that computes.
 use Rattle.std.specs.Prelude.{ℕ, Bool, true, false, ◌&&◌, ◌==◌, List, [], ◌∷◌}
 use mathlib.Core.Bool.{beq}
 use Rattle.roam_cells.specs.Glyph.{Glyph}

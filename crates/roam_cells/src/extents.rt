@@ -1,6 +1,6 @@
 //! Extents: how far an erasure reaches.
 
-/// What ED and EL erase: from the cursor to the end, from the start to the cursor, or all; the cursor's place too.
+/// The extent of ED and EL: from the cursor to the end, from the start to the cursor, or all; the cursor's place is included.
 #[derive(Clone, Copy)]
 pub enum Extent {
     ToEnd,

@@ -10,7 +10,7 @@ use std::marker::Model;
 #[derive(Clone, Copy)]
 pub struct Ink {
     // Its binary digits from the last: the guard, the eight flags from bold to strike, 25 of the foreground and 25 of the background. A
-    // colour is 0 for the terminal's own, n + 1 for the index n, and from 257 on a mixture, blue in the last eight digits.
+    // colour is 0 for the default, n + 1 for the index n, and from 257 on a mixture, with blue in the last eight digits.
     number: u64,
 }
 
@@ -143,7 +143,7 @@ impl Ink {
         self.number / 2
     }
 
-    /// Whether it is guarded.
+    /// Returns true if it is guarded.
     #[tactic(auto, unfolding(crate::specs::Inks::ink_numbered))]
     #[inline]
     pub fn guard(&self) -> bool
@@ -264,8 +264,8 @@ impl Ink {
         }
     }
 
-    /// The same ink in another aspect, whose mask and digits these are: digits of its number are cleared and others put there, so that
-    /// aspects stand in a table and are set without a branch.
+    /// Returns the ink with another aspect, by the mask and digits of that: digits of its number are cleared and others put there. So
+    /// aspects come from a table and are set without a branch.
     #[inline]
     pub fn with_digits(self, mask: u64, digits: u64) -> Self
         requires aspect { (a : Aspect) × (is_aspect a ≡ true) × (mask ≡ mask_of a) × (digits ≡ digits_of a) }
@@ -277,7 +277,7 @@ impl Ink {
         }
     }
 
-    /// Whether two inks are one: in style and guard.
+    /// Returns true if two inks are equal in style and guard.
     #[inline]
     pub fn is_same(&self, other: &Self) -> bool
         ensures same { IsTrue result ↔ (self.now ≡ other.now) }
@@ -287,7 +287,7 @@ impl Ink {
 }
 
 impl Style {
-    /// A number that says the style: two styles are one exactly where their numbers are.
+    /// Returns a number of the style: two styles are equal exactly if their numbers are.
     #[inline]
     pub fn number(self) -> u64
         ensures style { style_numbered result ≡ self }

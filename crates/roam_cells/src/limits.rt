@@ -11,7 +11,7 @@ pub const LEAST_COLUMNS: u16 = 4;
 /// The most columns of a screen.
 pub const MOST_COLUMNS: u16 = 500;
 
-/// Whether a screen may have this size, in rows and columns.
+/// Returns true if a screen may have this size, in rows and columns.
 pub fn is_size(rows: u16, cols: u16) -> bool
     ensures size { IsTrue result ↔ IsSize rows cols }
 {

@@ -3,7 +3,7 @@ use Rattle.std.specs.Prelude.{ℕ, ◌-◌, ◌==◌, ◌&&◌, nat_le, if◌the
 use Rattle.roam_charset.specs.declared.charsets.Charset.{Charset}
 use Rattle.roam_charset.specs.declared.charsets.Charset.TheVariants.{Ascii, UnitedKingdom, DecSpecialGraphics}
 
--- what DEC Special Graphics has at 5/15, and at 6/0 to 7/14 (VT220 Programmer Reference, chapter 2)
+-- the characters of DEC Special Graphics at 5/15, and at 6/0 to 7/14 (VT220 Programmer Reference, chapter 2)
 abbrev pub special_graphics : List ℕ
 special_graphics =
     0x0020 ∷ 0x25C6 ∷ 0x2592 ∷ 0x2409 ∷ 0x240C ∷ 0x240D ∷ 0x240A ∷ 0x00B0

@@ -15,7 +15,7 @@ pub enum Charset {
     DecSpecialGraphics,
 }
 
-// What DEC Special Graphics has at 5/15 to 7/14 (VT220 Programmer Reference, chapter 2).
+// The characters of DEC Special Graphics at 5/15 to 7/14 (VT220 Programmer Reference, chapter 2).
 static SPECIAL_GRAPHICS: [char; 32] = [
     '\u{0020}', '\u{25C6}', '\u{2592}', '\u{2409}', '\u{240C}', '\u{240D}', '\u{240A}', '\u{00B0}',
     '\u{00B1}', '\u{2424}', '\u{240B}', '\u{2518}', '\u{2510}', '\u{250C}', '\u{2514}', '\u{253C}',
@@ -33,8 +33,8 @@ fn special_graphic(c: char) -> char
 }
 
 impl Charset {
-    /// The character that stands in this set at the code of an ASCII character; every other character is itself
-    /// (VT220 Programmer Reference, chapter 2).
+    /// Returns the character of this set at the code of an ASCII character; every other character is itself (VT220 Programmer Reference,
+    /// chapter 2).
     #[tactic(auto, unfolding(crate::specs::Charsets::mapped_by))]
     pub fn map(self, c: char) -> char
         ensures mapped { result ≡ mapped_by self c }

@@ -1,9 +1,10 @@
-//! Graphic character sets: which character a code stands for.
+//! Graphic character sets: the character of each code.
 //!
-//! The model is that of ECMA-35 (ISO 2022) and the VT220: four code elements G0 to G3, to each of which a set is
-//! designated; one of them invoked by a locking shift, and another for one character by a single shift. Deviations of
-//! this project's profile: sets of 94 characters alone, invoked for the codes 2/1 to 7/14 (a GR shift isn't taken), and
-//! a single shift is spent by any printed character, also by one that no set touches.
+//! The model is that of ECMA-35 (ISO 2022) and the VT220. A set is designated to each of four code elements G0 to G3. A locking shift
+//! invokes one of them, and a single shift another one for one character.
+//!
+//! This project's profile deviates in two points. It has sets of 94 characters only, invoked for the codes 2/1 to 7/14; a GR shift has no
+//! effect. Any printed character ends a single shift, even one that no set changes.
 #![tactic(auto)]
 
 pub mod charsets;

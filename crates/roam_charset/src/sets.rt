@@ -89,8 +89,8 @@ impl Sets {
         }
     }
 
-    /// What a printed character shows, by the set of the single shift that waits, else by that of the locking shift.
-    /// A single shift is spent, also by a character that no set touches.
+    /// Returns the character shown for a printed one, by the set of the pending single shift, else by that of the locking shift. Any
+    /// character ends a single shift, even one that no set changes.
     #[inline]
     pub fn map(&mut self, c: char) -> char
         ensures mapped { result ≡ mapped_by (in_use self.old) c }
@@ -104,7 +104,7 @@ impl Sets {
         set.map(c)
     }
 
-    /// Whether printed characters show themselves: ASCII is invoked, and no single shift waits.
+    /// Returns true if printed characters show themselves: ASCII is invoked, and no single shift is pending.
     pub fn is_ascii(&self) -> bool
         ensures ascii { IsTrue result ↔ ((set_in self.now.locked self.now ≡ Charset.Ascii) × (self.now.single ≡ None)) }
     {

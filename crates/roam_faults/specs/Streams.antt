@@ -1,4 +1,4 @@
--- What the answer to a read or a write tells of a stream, and the lines that its bytes are.
+-- The state of a stream by the answer to a read or a write, and the lines of its bytes.
 use Rattle.std.specs.Prelude.{◌≡◌, ◌≢◌, ◌⊎◌, ℕ, List, [], ◌∷◌, ◌++◌, Result, Ok, Err}
 use Rattle.std.specs.List.{All, flat_map}
 use Rattle.std.specs.IoError.{error_kind}
@@ -9,7 +9,7 @@ use Rattle.std.specs.declared.io.ErrorKind.TheVariants.{Interrupted, WouldBlock}
 abbrev pub IsForNow : Error → Type 0
 IsForNow error = (error_kind error ≡ WouldBlock) ⊎ (error_kind error ≡ Interrupted)
 
--- A stream that answers so is over: a read into a buffer with room gave nothing, a write of some bytes took none, or it has failed.
+-- A stream with this answer is over: a read into a buffer with room gave nothing, a write of some bytes took none, or it has failed.
 abbrev pub IsStreamEnd : Result ℕ Error → Type 0
 IsStreamEnd (Ok n) = n ≡ 0
 IsStreamEnd (Err error) = IsForNow error → ⊥
@@ -24,7 +24,7 @@ ended_line line = line ++ 0x0A ∷ []
 abbrev pub IsOneLine : List ℕ → Type 0
 IsOneLine line = All (λ byte. byte ≢ 0x0A) line
 
--- what was read is lines, each with its end, and a line that is begun
+-- the bytes read are lines, each with its end, and a line that is begun
 pub record AreLines (log : List ℕ) (lines : List (List ℕ)) (begun : List ℕ) : Type 0 where
   pub is : log ≡ flat_map ended_line lines ++ begun
   pub each : All IsOneLine lines

@@ -2,7 +2,7 @@
 use roam_cells::Fault;
 use thiserror::Error;
 
-/// Why a run of the program failed; its text stands after `roam: ` on standard error.
+/// The reason for which a run of the program failed; its text follows `roam: ` on standard error.
 #[derive(Clone, Copy, Debug, PartialEq, Eq, Error)]
 pub enum RunFault {
     /// The terminal refused.

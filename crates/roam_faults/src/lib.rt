@@ -1,6 +1,6 @@
-//! What a run of the program fails by, whichever of its commands it is, and how it ends.
+//! The errors of a run of the program, whichever of its commands it is, and its exit status.
 //!
-//! It stands low, on the cores' refusals alone, so that no command and the command line stand on one another.
+//! This crate depends on the cores' errors alone, so that no command depends on the command line.
 #![tactic(auto)]
 
 mod ends;

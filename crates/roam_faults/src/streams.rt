@@ -1,19 +1,19 @@
-//! What the answer to a read or a write tells of a stream.
+//! The state of a stream by the answer to a read or a write.
 ghost use Rattle.std.specs.Prelude.{◌↔◌, IsTrue};
 ghost use Rattle.roam_faults.specs.Streams.{IsForNow, IsStreamEnd};
 
 use std::io;
 use std::io::ErrorKind;
 
-/// Whether a read or a write that failed so may go well later.
+/// Returns true if a read or a write that failed with this error may succeed later.
 pub fn is_for_now(error: &io::Error) -> bool
     ensures for_now { IsTrue result ↔ IsForNow error.now }
 {
     matches!(error.kind(), ErrorKind::WouldBlock | ErrorKind::Interrupted)
 }
 
-/// Whether a stream is over that answers so: a read into a buffer with room gave nothing, a write of some bytes took none, or it has
-/// failed by more than that nothing goes at this moment.
+/// Returns true if a stream with this answer is over: a read into a buffer with room gave nothing, a write of some bytes took none, or it
+/// failed with another error than one that passes.
 pub fn is_stream_end(answer: &io::Result<usize>) -> bool
     ensures end { IsTrue result ↔ IsStreamEnd answer.now }
 {

@@ -1,4 +1,4 @@
--- What keys send, at worked rows.
+-- The bytes of keys, at worked rows.
 use Rattle.std.proofs.Common.{◌≡◌, true, false, List, [], ◌∷◌, map, refl}
 use Rattle.roam_keys.specs.declared.keys.Key.{Key}
 use Rattle.roam_keys.specs.declared.keys.Key.TheVariants.{F15, Pad7, PadEnter, Pf3, Prev, Return, Up}

@@ -1,4 +1,4 @@
--- What a key sends (VT220 Programmer Reference, chapter 3: the codes of the keyboard).
+-- The bytes that a key sends (VT220 Programmer Reference, chapter 3: the codes of the keyboard).
 use Rattle.std.specs.Prelude.{ℕ, List, [], ◌∷◌, ◌++◌, codes, if◌then◌else◌}
 use Rattle.std.specs.Char.{encode_utf8}
 use Rattle.roam_keys.specs.declared.keys.Key.{Key}

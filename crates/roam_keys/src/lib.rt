@@ -1,4 +1,4 @@
-//! Keys, and what they send to a program.
+//! Keys, and the bytes that they send to a program.
 #![tactic(auto)]
 
 pub mod keys;

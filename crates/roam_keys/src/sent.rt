@@ -1,4 +1,4 @@
-//! What a key sends: the codes of the VT220's keyboard under its modes.
+//! The bytes that a key sends: the codes of the VT220's keyboard under its modes.
 ghost use Rattle.std.specs.Prelude.{◌≡◌, ◌+◌, ◌≤◌, ◌++◌, [], ◌∷◌, length, if◌then◌else◌};
 ghost use Rattle.roam_keys.specs.Sent.{cursor_key, keypad_key, numbered_sequence, return_key, bytes_of_key, single_shift};
 

@@ -1,4 +1,4 @@
--- What the kit's decoder answers tells whether some bytes are base64.
+-- Bytes are base64 exactly if the kit's decoder decodes them.
 use Rattle.std.proofs.Common.{◌≡◌, ℕ, List, true, false, sym, ap}
 use Rattle.std.specs.Prelude.{Ok, Err, is_some}
 use Rattle.std.specs.Result.{result_ok}

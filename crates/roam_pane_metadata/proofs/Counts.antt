@@ -1,9 +1,9 @@
--- What is new of what is said is counted, however much is read.
+-- News is counted, however much is read.
 use Rattle.std.proofs.Common.{◌≡◌, ◌≤◌, ℕ, ◌∙◌, arith, sym}
 use Rattle.roam_pane_metadata.specs.Texts.{Said}
 use Rattle.roam_pane_metadata.specs.Emissions.{IsCounted}
 
--- what is between two numbers that are the same
+-- a number between two equal ones
 between : (a b c : ℕ) → a ≤ b → b ≤ c → c ≡ a → b ≡ a
 between a b c low high same = omega (arith, low, high, same)
 

@@ -1,4 +1,4 @@
--- What functions do one after the other: whether a frame is open, and what is asked.
+-- The effects of functions one after the other: an open update, and the questions.
 use Rattle.std.proofs.Common.{◌≡◌, Bool, List, [], ◌∷◌, ◌++◌, refl, ap, sym, ◌∙◌, append_assoc}
 use Rattle.std.specs.List.{flat_map, fold}
 use Rattle.roam_text.specs.declared.functions.Function.{Function}

@@ -1,4 +1,4 @@
--- What bytes ask and utter that come after others.
+-- The questions and emissions of bytes behind others.
 use Rattle.std.proofs.Common.{◌≡◌, ◌+◌, ℕ, false, List, [], ◌∷◌, ◌++◌, map, length, ap, ◌∙◌}
 use Rattle.std.specs.List.{flat_map}
 use Rattle.std.proofs.lemmas.List.{append-nil, map-append}
@@ -56,7 +56,7 @@ spoken-grow before more =
 
 -- ---- questions
 
--- what bytes ask, and those behind them
+-- the questions of bytes, and of those behind them
 pub asked-behind : (before xs ys : List ℕ) → asked_after before (xs ++ ys) ≡ asked_after before xs ++ asked_after (before ++ xs) ys
 asked-behind = later-behind by_functions by_strings
 
@@ -68,7 +68,7 @@ pub none-asked : (before run : List ℕ) → by_functions (before ++ run) ≡ by
     → asked_after before run ≡ []
 none-asked = none-later by_functions by_strings functions-grow strings-grow
 
--- what a byte adds to both is what it asks
+-- a byte's questions are those that it adds to both lists
 pub asked-by : (bytes : List ℕ) (b : ℕ) (fs ss : List Query) → by_functions (bytes ++ b ∷ []) ≡ by_functions bytes ++ fs
     → by_strings (bytes ++ b ∷ []) ≡ by_strings bytes ++ ss → asked_next bytes b ≡ fs ++ ss
 asked-by = next-is by_functions by_strings
@@ -87,7 +87,7 @@ queries-counted = both-counted by_functions by_strings functions-grow strings-gr
 pub emitted-behind : (before xs ys : List ℕ) → emitted_after before (xs ++ ys) ≡ emitted_after before xs ++ emitted_after (before ++ xs) ys
 emitted-behind = later-behind resets_of spoken_of
 
--- what a byte adds to both is uttered
+-- a byte's emissions are those that it adds to both lists
 pub emitted-by : (bytes : List ℕ) (b : ℕ) (fs ss : List Emission) → resets_of (bytes ++ b ∷ []) ≡ resets_of bytes ++ fs
     → spoken_of (bytes ++ b ∷ []) ≡ spoken_of bytes ++ ss → emissions_of (bytes ++ b ∷ []) ≡ emissions_of bytes ++ (fs ++ ss)
 emitted-by bytes b fs ss f s =

@@ -1,4 +1,4 @@
--- What is kept stays that of the control strings for which there was memory, and of each reset.
+-- The kept texts stay those of the control strings for which there was memory, and of each reset.
 use Rattle.std.proofs.Common.{◌≡◌, ◌≤◌, ℕ, true, cond, List, [], ◌∷◌, ◌++◌, map, length, Option, None, Some, refl, sym, ap, ◌∙◌, arith, subst}
 use Rattle.std.specs.Prelude.{nat_le}
 use Rattle.std.specs.List.{fold}
@@ -34,7 +34,7 @@ pub said-more : (kept : List Emission) (u : Emission) (from : Said)
 said-more [] u from = refl
 said-more (t ∷ kept) u from = said-more kept u (after_emission from t)
 
--- where no string ended nothing more is uttered
+-- nothing more is emitted if no string ended
 pub keeps-same : (v : TextsView) (emitted : List Emission) (begun : Option OpenString) → Keeps v emitted begun
     → Keeps v (emitted ++ []) begun
 keeps-same v emitted begun k = subst (λ l. Keeps v l begun) (sym (append-nil emitted)) k
@@ -55,7 +55,7 @@ le-yes a b h = grind (arith, nat_tests)
 text-says : (text : List ℕ) (s : Said) → length text ≤ longest_text → with_text text s ≡ with_either (title_in text) (clip_in text) s
 text-says text s few = ap (λ b. cond b (with_either (title_in text) (clip_in text) s) s) (le-yes (length text) longest_text few)
 
--- what was told is what the string says, or it is left out
+-- the reported text is that of the string, or it is left out
 module _ (emitted : List Emission) (all : Strings) (text : List ℕ) (e : StringEnd) (begun : IsCommand all.begun text) where
   abbrev string : ControlString
   string = record { kind = SystemCommand; text = text; ending = e }
@@ -93,7 +93,7 @@ module _ (emitted : List Emission) (all : Strings) (text : List ℕ) (e : String
   keeps-told v (Clip clip) k few tells = keeps-in v k few (with_clip (Some clip.items) v.said)
       (sym (ap (λ o. with_either o (clip_in text) v.said) tells.1 ∙ ap (λ o. with_clip o v.said) tells.2))
 
--- where nothing was collected nothing is told
+-- nothing is reported if nothing was collected
 quiet-told : (told : Told) (collecting : Collecting) (text : List ℕ) (s : Said) → Tells told collecting text → (collecting ≡ Text → ⊥) → with_told told s ≡ s
 quiet-told NothingTold collecting text s tells never = refl
 quiet-told NoMemoryTold collecting text s tells never = refl

@@ -1,4 +1,4 @@
--- What comes of functions and of strings, in the order of the bytes: none is lost, and none doubled.
+-- The results of functions and of strings, in the order of the bytes: none is lost, and none doubled.
 use Rattle.std.proofs.Common.{◌≡◌, ◌+◌, ℕ, List, [], ◌∷◌, ◌++◌, length, length-append, drop, refl, sym, ap, ◌∙◌, arith, append_assoc}
 use Rattle.std.proofs.lemmas.List.{append-nil}
 use Rattle.std.proofs.Math.Seq.{drop-append_seam, drop-length}
@@ -8,7 +8,7 @@ none-more : {A : Type 0} (xs : List A) → length xs ≡ 0 → xs ≡ []
 none-more [] none = refl
 none-more (x ∷ xs) none = absurd (omega (arith, none))
 
--- what grows twice and is what it was didn't grow
+-- a list that grows twice and stays equal did not grow
 grew-none : {A : Type 0} (xs a b mid : List A) → mid ≡ xs ++ a → mid ++ b ≡ xs → mid ≡ xs
 grew-none xs a b mid is back =
     let one : length mid ≡ length xs + length a = ap length is ∙ length-append xs a in
@@ -19,7 +19,7 @@ none-behind : {A : Type 0} (xs ys : List A) → ys ≡ xs → behind xs ys ≡ [
 none-behind xs ys same = ap (λ l. drop (length xs) l) same ∙ drop-length xs
 
 module _ {A : Type 0} (fs ss : List ℕ → List A) where
-  -- what bytes add, and those behind them
+  -- the additions of bytes, and of those behind them
   pub later-behind : (before xs ys : List ℕ)
       → later_in_order fs ss before (xs ++ ys) ≡ later_in_order fs ss before xs ++ later_in_order fs ss (before ++ xs) ys
   later-behind before [] ys = ap (λ l. later_in_order fs ss l ys) (sym (append-nil before))
@@ -33,7 +33,7 @@ module _ {A : Type 0} (fs ss : List ℕ → List A) where
   pub byte-behind : (bytes : List ℕ) (b : ℕ) → in_order fs ss (bytes ++ b ∷ []) ≡ in_order fs ss bytes ++ next_in_order fs ss bytes b
   byte-behind bytes b = later-behind [] bytes (b ∷ []) ∙ ap (λ l. in_order fs ss bytes ++ l) (append-nil (next_in_order fs ss bytes b))
 
-  -- what a byte adds to both is what it adds
+  -- a byte's additions are those that it adds to both lists
   pub next-is : (bytes : List ℕ) (b : ℕ) (f s : List A) → fs (bytes ++ b ∷ []) ≡ fs bytes ++ f → ss (bytes ++ b ∷ []) ≡ ss bytes ++ s
       → next_in_order fs ss bytes b ≡ f ++ s
   next-is bytes b f s ef es =

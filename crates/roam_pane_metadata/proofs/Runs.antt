@@ -45,7 +45,7 @@ sequence-or-nothing : (n : ℕ) (piece : List ℕ) → (0 < n → IsPlainSequenc
 sequence-or-nothing zero piece plain = silent-nothing
 sequence-or-nothing (suc n) piece plain = sequence-silent (take (suc n) piece) (plain (omega arith))
 
--- what says nothing, still bytes after it, and a plain control sequence after these
+-- silent bytes, still bytes after them, and a plain control sequence after these
 pub silent-on : (at still sequence : ℕ) (piece : List ℕ) → SaysNothing (take at piece) → AreStill (take still (drop at piece))
     → (0 < sequence → IsPlainSequence (take sequence (drop (at + still) piece))) → SaysNothing (take (at + still + sequence) piece)
 silent-on at still sequence piece before quiet plain =
@@ -54,11 +54,11 @@ silent-on at still sequence piece before quiet plain =
     (subst SaysNothing (sym (take-add at still piece)) (silent-joined (take at piece) (take still (drop at piece)) before (still-silent (take still (drop at piece)) quiet)))
     (sequence-or-nothing sequence (drop (at + still) piece) plain))
 
--- what is lent from a place on is all of the rest
+-- all of the rest is lent from a place on
 rest-lent : (xs : List ℕ) (at : ℕ) → take (length xs - at) (drop at xs) ≡ drop at xs
 rest-lent xs at = take_all (length xs - at) (drop at xs) (omega (arith, length-drop at xs))
 
--- the same, of what is lent
+-- the same, for the lent bytes
 pub silent-lent : (at still sequence : ℕ) (piece : List ℕ) → SaysNothing (take at piece)
     → AreStill (take still (take (length piece - at) (drop at piece)))
     → (0 < sequence → IsPlainSequence (take sequence (take (length piece - (at + still)) (drop (at + still) piece))))
@@ -77,7 +77,7 @@ within-lent at still sequence piece few first later =
     let q : length (take (length piece - (at + still)) (drop (at + still) piece)) ≡ length (drop (at + still) piece) = ap length (rest-lent piece (at + still)) in
     omega (arith, few, first, later, a, b, p, q)
 
--- a run of what is lent ends within the piece
+-- a run of the lent bytes ends within the piece
 pub run-within : (at run : ℕ) (piece : List ℕ) → at ≤ length piece → run ≤ length (take (length piece - at) (drop at piece)) → at + run ≤ length piece
 run-within at run piece few most =
     let a = length-drop at piece in

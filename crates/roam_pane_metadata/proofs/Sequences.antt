@@ -170,9 +170,9 @@ module _ (last : Kind) (code : ℕ) (tail : List Sign) (final : IsFinal last) wh
         left = ap (λ t. cond t (rest_while in_control_sequence (map character body ++ end)) (character b ∷ (map character body ++ end))) (goes k b n) ∙ more.left;
       }
 
--- ---- what it says
+-- ---- its meaning
 
--- what is no number of a parameter makes it be ignored
+-- a byte that is no number of a parameter makes it ignored
 abbrev PlainHeader : Option Header → Type 0
 PlainHeader None = ⊤
 PlainHeader (Some h) = (h.mark ≡ None) × (h.inter ≡ [])

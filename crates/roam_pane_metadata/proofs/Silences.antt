@@ -231,7 +231,7 @@ all-quiet (suc n) bs few still = ⊎_elim
     (first-quiet bs (still-first bs still (finished-some bs ends)), all-quiet n (drop (decoded bs).size bs) (omega (arith, few, less)) (still-drop (decoded bs).size bs still)))
     (cases_Bool (is_unfinished bs))
 
--- what is unfinished of still bytes
+-- the unfinished end of still bytes
 still-unfinished : (bs : List ℕ) → AreStill bs → AreStill (unfinished_part bs)
 still-unfinished bs still =
     let tail = unfinished-tail bs in
@@ -299,7 +299,7 @@ no-second-bell a = grind (arith, nat_tests)
 no-second-lead : (a : ℕ) → second a 0xC2 ≡ false
 no-second-lead a = grind (arith, nat_tests)
 
--- a byte that isn't still cuts what is unfinished
+-- a byte that isn't still cuts the unfinished end
 not-still-cuts : (m : ℕ) → is_still m ≡ false → (t : List ℕ) → is_unfinished t ≡ true → (more : List ℕ)
     → SaySame (settled_part (t ++ m ∷ more)) (settled_part (m ∷ more))
 not-still-cuts m h t u more =
@@ -312,7 +312,7 @@ not-still-cuts m h t u more =
     (λ is. subst Same (sym (eqb-true m 0xC2 is)) (cut-same 0xC2 no-second-lead refl [] (0xC2 ∷ []) lead t u more)) o)
     (which (m == 0x1B) (m == 0x07) (m == 0xC2) h)
 
--- what is unfinished of still bytes says nothing
+-- the unfinished end of still bytes is silent
 unfinished-silent : (more t : List ℕ) → is_unfinished t ≡ true → AreStill t → SaySame (settled_part (t ++ more)) (settled_part more)
 unfinished-silent [] t u still =
     subst (λ l. SaySame (settled_part l) (settled_part [])) (sym (append-nil t))

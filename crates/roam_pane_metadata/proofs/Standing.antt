@@ -1,4 +1,4 @@
--- What stands for bytes stands for them and those that come.
+-- A value that models some bytes models them and the next ones.
 use Rattle.std.proofs.Common.{◌≡◌, ◌<◌, ◌+◌, ◌-◌, ℕ, Bool, false, List, [], ◌∷◌, ◌++◌, map, length, take, drop, Option, refl, sym, ap, ◌∙◌, append_assoc, subst}
 use Rattle.std.specs.List.{flat_map, fold}
 use Rattle.std.specs.Option.{option_to_list}
@@ -39,7 +39,7 @@ fold-after (f ∷ fs) more s = fold-after fs more (heard s f)
 log-append : (xs ys : List ℕ) → log_of (xs ++ ys) ≡ log_of xs ++ log_of ys
 log-append xs ys = map-append Byte xs ys
 
--- what a character did ends these strings
+-- the effect of a character ends these strings
 step-gives : (step : StringStep) (all : Strings) → (after_step step all).ended ≡ all.ended ++ ended_by step all.begun
 step-gives Nothing all = sym (append-nil all.ended)
 step-gives (Opened kind) all = sym (append-nil all.ended)
@@ -139,13 +139,13 @@ module _ (b : MetadataView) (bytes run : List ℕ) (silent : SaysNothing run) (s
   strings-same : strings_by (log_of (bytes ++ run)) ≡ strings_by (log_of bytes)
   strings-same = strings-now (bytes ++ run) read reads-on ∙ sym (strings-now bytes read stands.same)
 
-  -- what is passed over utters nothing
+  -- a skipped run emits nothing
   emissions-same : emissions_of (bytes ++ run) ≡ emissions_of bytes
   emissions-same =
       none-emitted bytes run (resets-now (bytes ++ run) read reads-on ∙ sym (resets-now bytes read stands.same))
       (ap (λ (s : Strings). map Says s.ended) strings-same)
 
-  -- what is passed over asks nothing
+  -- a skipped run asks nothing
   queries-same : queries_of (bytes ++ run) ≡ queries_of bytes
   queries-same =
       asked-behind [] bytes run

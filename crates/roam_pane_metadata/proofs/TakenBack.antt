@@ -1,4 +1,4 @@
--- ESC c is uttered as a reset, the last, whatever stands unfinished before it; no title stands then.
+-- ESC c is emitted as a reset, the last one, in whatever state; there is no title then.
 use Rattle.std.proofs.Common.{◌≡◌, ◌<◌, ℕ, Bool, true, false, List, [], ◌∷◌, ◌++◌, map, drop, None, refl, sym, ap, ◌∙◌, arith, append_assoc, subst}
 use Rattle.std.specs.List.{flat_map}
 use Rattle.std.proofs.lemmas.List.{append-nil, append_cancel_left, map-append}
@@ -60,7 +60,7 @@ replaced-ends-none (InControlString kind true) t = refl
 replaced-ends-none (InControlString kind false) t = refl
 replaced-ends-none (AfterEscape kind) t = refl
 
--- where a reader of control strings stands after some signs
+-- the phase of a reader of control strings after some signs
 record Phased (known : List Sign) : Type 0 where
   phase : StringPhase
   before : List ControlString
@@ -171,7 +171,7 @@ reset-emitted bytes =
     ∙ ap (λ l. l ++ y.0) (first ∙ ap (λ l. emissions_of bytes ++ l) (append-nil x.0))
     ∙ append_assoc (emissions_of bytes) x.0 y.0 ∙ ap (λ l. emissions_of bytes ++ l) both
 
--- ---- no title stands then
+-- ---- there is no title then
 
 part-of-none : (kept all : List Emission) → IsPartOf kept all → all ≡ [] → kept ≡ []
 part-of-none kept all nothing_left e = refl
@@ -198,7 +198,7 @@ reset-untitles metadata bytes stands =
     let last = last-kept stands.texts.kept (emissions_of all) stands.texts.part (emissions_of bytes) (reset-emitted bytes) in
     ap (λ (s : Said). s.title) (stands.texts.said ∙ ap said_of last.1 ∙ said-more last.0 TakesBack nothing_said)
 
--- ---- the strings among what is uttered are those of the bytes
+-- ---- the strings among the emissions are those of the bytes
 
 strings-only : (said : List ControlString) → flat_map string_in (map Says said) ≡ said
 strings-only [] = refl

@@ -1,4 +1,4 @@
--- What is kept of questions, and of the control string that is open, which may be one.
+-- The kept questions, and the open control string, which may be one.
 use Rattle.std.specs.Prelude.{ℕ, ◌≡◌, ◌-◌, Bool, true, false, List, length, drop, min, take, Option, None, Some}
 use Rattle.roam_text.specs.declared.strings.StringKind.{StringKind}
 use Rattle.roam_text.specs.declared.strings.StringKind.TheVariants.{SystemCommand}

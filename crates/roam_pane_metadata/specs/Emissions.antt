@@ -1,4 +1,4 @@
--- What a program utters, in its order: control strings, and the reset that takes a title back.
+-- The emissions of a program, in order: control strings, and the reset that removes a title.
 use Rattle.std.specs.Prelude.{ℕ, ◌≡◌, ◌≤◌, ◌<◌, Bool, true, false, List, [], ◌∷◌, map, None, is_some, cond}
 use Rattle.std.specs.List.{flat_map, fold}
 use Rattle.roam_text.specs.declared.functions.Function.{Function}
@@ -25,23 +25,23 @@ abbrev pub reset_if : Bool → List Emission
 reset_if true = TakesBack ∷ []
 reset_if false = []
 
--- what a control function utters: RIS is a reset, and others are nothing
+-- the emissions of a control function: RIS is a reset, and others are nothing
 abbrev pub emitted_by : Function → List Emission
 emitted_by f = reset_if (is_reset f)
 
--- what the control functions of some bytes utter
+-- the emissions of the control functions of some bytes
 abbrev pub resets_of : List ℕ → List Emission
 resets_of bytes = flat_map emitted_by (functions_of (map Byte bytes))
 
--- what their control strings utter
+-- the emissions of their control strings
 abbrev pub spoken_of : List ℕ → List Emission
 spoken_of bytes = map Says (strings_of (map Byte bytes))
 
--- what the program uttered that wrote these bytes: both, in the order in which they were written
+-- the emissions of the program that wrote these bytes: both kinds, in the order in which they were written
 abbrev pub emissions_of : List ℕ → List Emission
 emissions_of bytes = in_order resets_of spoken_of bytes
 
--- what bytes utter that come after some
+-- the emissions of bytes behind others
 abbrev pub emitted_after : List ℕ → List ℕ → List Emission
 emitted_after before more = later_in_order resets_of spoken_of before more
 
@@ -50,21 +50,21 @@ abbrev pub string_in : Emission → List ControlString
 string_in (Says string) = string ∷ []
 string_in TakesBack = []
 
--- RIS resets the title to what it was at first: there is none (ECMA-48 8.3.105). One that it takes away is counted as another would be; a
--- text for the clipboard has gone to it, and isn't taken back
+-- RIS resets the title to its first value: there is none (ECMA-48 8.3.105). A removed title is counted as another one. A text for the
+-- clipboard stays, since it was delivered.
 abbrev pub without_title : Said → Said
 without_title s = record s { title = None; titles = cond (is_some s.title) (counted s.titles) s.titles }
 
--- what is said after an utterance
+-- the stored texts after an emission
 abbrev pub after_emission : Said → Emission → Said
 after_emission s (Says string) = said_by s string
 after_emission s TakesBack = without_title s
 
--- what is said by some utterances
+-- the stored texts after some emissions
 abbrev pub said_of : List Emission → Said
 said_of emitted = fold after_emission nothing_said emitted
 
--- who compares counts finds what is new: no count falls, and where one is what it was so is what it counts, up to the most that is counted
+-- A comparison of counts finds news: no count falls, and if one is equal so is the counted value, up to the largest count.
 pub record IsCounted (old new : Said) : Type 0 where
   pub titles : old.titles ≤ new.titles
   pub title : new.titles ≡ old.titles → new.titles < most_counted → new.title ≡ old.title

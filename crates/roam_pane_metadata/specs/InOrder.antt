@@ -1,16 +1,16 @@
--- What comes of the control functions of some bytes and what comes of their control strings, in the order of the bytes.
+-- The results of control functions and of control strings of some bytes, in the order of the bytes.
 use Rattle.std.specs.Prelude.{ℕ, List, [], ◌∷◌, ◌++◌, length, drop}
 
--- what the longer of two lists has more
+-- the elements that the longer of two lists has more
 abbrev pub behind : {A : Type 0} → List A → List A → List A
 behind before all = drop (length before) all
 
--- what a byte adds that comes after some: it ends a control function, or a control string, or neither
+-- the additions of a byte behind some others: it ends a control function, or a control string, or neither
 abbrev pub next_in_order : {A : Type 0} → (List ℕ → List A) → (List ℕ → List A) → List ℕ → ℕ → List A
 next_in_order of_functions of_strings before b =
     behind (of_functions before) (of_functions (before ++ b ∷ [])) ++ behind (of_strings before) (of_strings (before ++ b ∷ []))
 
--- what bytes add that come after some, byte after byte
+-- the additions of bytes behind some others, byte after byte
 abbrev pub later_in_order : {A : Type 0} → (List ℕ → List A) → (List ℕ → List A) → List ℕ → List ℕ → List A
 later_in_order of_functions of_strings before [] = []
 later_in_order of_functions of_strings before (b ∷ more) =

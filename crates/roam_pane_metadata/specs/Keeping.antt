@@ -1,4 +1,4 @@
--- What is kept of what was uttered: the control strings for which there was memory, and each reset.
+-- The kept emissions: the control strings for which there was memory, and each reset.
 use Rattle.std.specs.Prelude.{ℕ, ◌≡◌, ◌≢◌, ◌≤◌, ◌<◌, ⊤, ◌⊎◌, List, [], length, Option, None, Some}
 use Rattle.roam_text.specs.declared.strings.StringKind.{StringKind}
 use Rattle.roam_text.specs.declared.strings.StringKind.TheVariants.{SystemCommand}
@@ -12,7 +12,7 @@ use Rattle.roam_pane_metadata.specs.declared.keeping.Told.TheVariants.{Nothing a
 use Rattle.roam_pane_metadata.specs.Texts.{Said, clip_in, longest_text, title_in, with_clip, with_title}
 use Rattle.roam_pane_metadata.specs.Emissions.{Emission, IsPartOf, said_of}
 
--- what was said, and what is collected of the control string that is open
+-- the stored texts, and the collected text of the open control string
 pub record TextsView : Type 0 where
   pub said : Said
   pub collecting : Collecting
@@ -27,23 +27,23 @@ IsOther (Some s) = s.kind ≢ SystemCommand
 abbrev pub IsCommand : Option OpenString → List ℕ → Type 0
 IsCommand begun text = begun ≡ Some (record { kind = SystemCommand; text = text })
 
--- what is collected of the open string: its whole text; or nothing of a string that is longer than any that counts; or nothing of a string
--- for which memory was refused
+-- The collected text of the open string: its whole text; nothing of a string that is longer than any that counts; or nothing of a string
+-- for which memory was refused.
 abbrev pub Collects : Collecting → List ℕ → Option OpenString → Type 0
 Collects Nothing text begun = IsOther begun
 Collects Text text begun = IsCommand begun text × (length text ≤ longest_text)
 Collects TooLong text begun = (whole : List ℕ) × IsCommand begun whole × (longest_text < length whole)
 Collects NoMemory text begun = (whole : List ℕ) × IsCommand begun whole
 
--- what is said is that of what was kept of what was uttered: the control strings for which there was memory, and each reset; and what is
--- collected is the text of the string that is open
+-- The stored texts are those of the kept emissions: the control strings for which there was memory, and each reset. The collected text is
+-- that of the open string.
 pub record Keeps (v : TextsView) (emitted : List Emission) (begun : Option OpenString) : Type 0 where
   pub kept : List Emission
   pub part : IsPartOf kept emitted
   pub said : v.said ≡ said_of kept
   pub open_text : Collects v.collecting v.text begun
 
--- the control strings that a character ended, by what it did
+-- the control strings that a character ended, by its effect
 abbrev pub ended_by : StringStep → Option OpenString → List ControlString
 ended_by (Ended ending) begun = ended_so ending begun
 ended_by step begun = []
@@ -53,7 +53,7 @@ abbrev pub collecting_of : StringKind → Collecting
 collecting_of SystemCommand = Text
 collecting_of kind = Nothing
 
--- what is said with what was told
+-- the stored texts with a reported one
 abbrev pub with_told : Told → Said → Said
 with_told NothingTold s = s
 with_told (Title title) s = with_title (Some title.items) s
@@ -64,15 +64,15 @@ with_told NoMemoryTold s = s
 abbrev pub IsSilent : List ℕ → Type 0
 IsSilent text = (title_in text ≡ None) × (clip_in text ≡ None)
 
--- the meaning of the collected text: nothing, if nothing was collected or the text is silent; a title; a text for the clipboard; or, if memory
--- was refused for the text or for its meaning, that
+-- The meaning of the collected text: nothing, if nothing was collected or the text is silent; a title; a text for the clipboard; or, if
+-- memory was refused for the text or for its meaning, that.
 abbrev pub Tells : Told → Collecting → List ℕ → Type 0
 Tells NothingTold collecting text = (collecting ≢ NoMemory) × (collecting ≡ Text → IsSilent text)
 Tells NoMemoryTold collecting text = (collecting ≡ Text) ⊎ (collecting ≡ NoMemory)
 Tells (Title title) collecting text = (collecting ≡ Text) × (title_in text ≡ Some title.items)
 Tells (Clip clip) collecting text = (collecting ≡ Text) × (title_in text ≡ None) × (clip_in text ≡ Some clip.items)
 
--- a string that was open has ended: what it says is said, if there was memory for it, and nothing is collected any more
+-- an open string has ended: its text is stored, if there was memory for it, and nothing is collected any more
 pub record Ends (old new : TextsView) : Type 0 where
   pub told : Told
   pub tells : Tells told old.collecting old.text

@@ -1,4 +1,4 @@
--- What stands beside a pane's terminal.
+-- The metadata of a pane's terminal.
 use Rattle.std.specs.Prelude.{ℕ, ◌≡◌, Bool, List, ◌++◌, map}
 use Rattle.roam_text.specs.Log.{Byte}
 use Rattle.roam_text.specs.Strings.{strings_by}
@@ -11,7 +11,7 @@ use Rattle.roam_pane_metadata.specs.Emissions.{resets_of, emissions_of}
 use Rattle.roam_pane_metadata.specs.Queries.{by_functions, frame_of, queries_of}
 use Rattle.roam_pane_metadata.specs.Asking.{AskedView, HeadView, Heads, Recalls}
 
--- two readers of bytes, what was set, what was said, and what was asked
+-- two readers of bytes, the settings, the stored texts, and the questions
 pub record MetadataView : Type 0 where
   pub reader : View
   pub strings : StringView
@@ -21,7 +21,7 @@ pub record MetadataView : Type 0 where
   pub head : HeadView
   pub asked : AskedView
 
--- whatever comes after some bytes says and asks what it does after others
+-- bytes behind these say and ask the same as behind the others
 pub record ReadsSame (bytes read : List ℕ) : Type 0 where
   pub settings : settings_of bytes ≡ settings_of read
   pub strings : strings_by (map Byte bytes) ≡ strings_by (map Byte read)
@@ -32,9 +32,8 @@ pub record ReadsSame (bytes read : List ℕ) : Type 0 where
 abbrev pub ReadsAs : List ℕ → List ℕ → Type 0
 ReadsAs bytes read = (more : List ℕ) → ReadsSame (bytes ++ more) (read ++ more)
 
--- it has read these bytes: what is set is what they set, what is said is what those control strings of theirs say for which there was
--- memory, less what their resets took back of it, what was asked is what they asked, all of it, and its readers were given bytes after
--- which all that comes says and asks the same
+-- It has read these bytes. The settings and the questions are all of theirs. The stored texts are those of their control strings for which
+-- there was memory, less the titles that resets removed. Its readers were given bytes after which all later ones say and ask the same.
 pub record Stands (metadata : MetadataView) (bytes : List ℕ) : Type 0 where
   pub read : List ℕ
   pub reader : ReaderStands metadata.reader (map Byte read)

@@ -1,5 +1,5 @@
--- What a program asks of its terminal that its screen can't answer: colours, whether a mode is set, and the terminal's name (xterm's
--- control sequences and operating system commands; DECRQM of the VT510).
+-- Questions of a program that its screen can't answer: colours, the state of a mode, and the terminal's name (xterm's control sequences and
+-- operating system commands; DECRQM of the VT510).
 use Rattle.std.specs.Prelude.{ℕ, ◌==◌, ◌&&◌, Bool, true, false, cond, if◌then◌else◌, List, [], ◌∷◌, ◌++◌, map, Option, None, Some}
 use Rattle.std.specs.List.{flat_map, fold}
 use Rattle.std.specs.Option.{option_to_list}
@@ -44,13 +44,13 @@ frame_of bytes = fold frame_after false (functions_of (map Byte bytes))
 
 -- ---- questions by control functions
 
--- what a control sequence asks: whether a private mode is set (DECRQM, CSI ? n $ p); the name (XTVERSION, CSI > q)
+-- the question of a control sequence: the state of a private mode (DECRQM, CSI ? n $ p), or the name (XTVERSION, CSI > q)
 abbrev pub query_form_of : Option ℕ → List ℕ → ℕ → QueryForm
 query_form_of (Some mark) [] last = cond (mark == 0x3E && last == 0x71) Name Nothing
 query_form_of (Some mark) (b ∷ []) last = cond (mark == 0x3F && (b == 0x24 && last == 0x70)) Mode Nothing
 query_form_of mark inter last = Nothing
 
--- of a mode, where pastes are bracketed or not and a frame is open or not: 2004 and 2026 alone
+-- the question about a mode, by bracketed paste and an open update: 2004 and 2026 only
 abbrev pub mode_asked : Bool → Bool → ℕ → Option Query
 mode_asked paste frame n = if n == 2004 then Some (Pastes paste) else if n == 2026 then Some (Frames frame) else None
 
@@ -60,20 +60,20 @@ asked Mode (n ∷ []) paste frame = mode_asked paste frame n
 asked Name (n ∷ []) paste frame = cond (n == 0) (Some Version) None
 asked query_form params paste frame = None
 
--- the questions of a function, where this is set
+-- the questions of a function under these settings
 abbrev pub asked_by : Settings → Bool → Function → List Query
 asked_by s frame (Csi mark params inter last) =
     option_to_list (asked (query_form_of mark inter.items last) params.items s.bracketed_paste frame)
 asked_by s frame f = []
 
--- those of some functions, each where those before it have set what they set
+-- the questions of some functions, each under the settings of those before it
 abbrev pub asked_in : Settings → Bool → List Function → List Query
 asked_in s frame [] = []
 asked_in s frame (f ∷ fs) = asked_by s frame f ++ asked_in (heard s f) (frame_after frame f) fs
 
 -- ---- questions by control strings
 
--- a colour: 10 is that of text, 11 that of what is behind it
+-- a colour: 10 is that of text, 11 that of the background
 abbrev pub colour_asked : ℕ → Bool → Option Query
 colour_asked digit bell =
     if digit == 0x30 then Some (Foreground bell) else if digit == 0x31 then Some (Background bell) else None
@@ -107,14 +107,14 @@ by_functions bytes = asked_in fresh_settings false (functions_of (map Byte bytes
 abbrev pub by_strings : List ℕ → List Query
 by_strings bytes = flat_map asked_by_string (strings_of (map Byte bytes))
 
--- what a byte asks that comes after some: it ends a control function, or a control string, or neither
+-- the questions of a byte behind some others: it ends a control function, or a control string, or neither
 abbrev pub asked_next : List ℕ → ℕ → List Query
 asked_next before b = next_in_order by_functions by_strings before b
 
--- what bytes ask that come after some, byte after byte
+-- the questions of bytes behind some others, byte after byte
 abbrev pub asked_after : List ℕ → List ℕ → List Query
 asked_after before more = later_in_order by_functions by_strings before more
 
--- what the program asked that wrote these bytes
+-- the questions of the program that wrote these bytes
 abbrev pub queries_of : List ℕ → List Query
 queries_of bytes = in_order by_functions by_strings bytes

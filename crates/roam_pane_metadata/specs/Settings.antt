@@ -1,4 +1,4 @@
--- What a program's functions set beside its screen (xterm's control sequences; DECSCUSR of the VT510).
+-- The settings of a program's functions outside its screen (xterm's control sequences; DECSCUSR of the VT510).
 use Rattle.std.specs.Prelude.{ℕ, ◌+◌, ◌==◌, ◌||◌, ◌&&◌, Bool, true, false, cond, nat_lt, min, if◌then◌else◌, List, [], ◌∷◌, map, Option, None, Some}
 use Rattle.std.specs.List.{fold}
 use Rattle.roam_text.specs.declared.functions.Function.{Function}
@@ -56,7 +56,7 @@ mode_set on s n =
     if n == 1049 then record s { alternate_screen = on } else
     s
 
--- what is asked of modifyOtherKeys, 4 among the resources: 1 or 2, or its initial value, 0; without any number all resources have that
+-- the request about modifyOtherKeys, 4 among the resources: 1 or 2, or its initial value, 0; without any number all resources get that
 -- (XTMODKEYS of xterm)
 abbrev pub keys_asked : List ℕ → ℕ → ℕ
 keys_asked [] before = before
@@ -73,7 +73,7 @@ abbrev pub shape_asked : List ℕ → ℕ → ℕ
 shape_asked [] before = before
 shape_asked (n ∷ more) before = cond (nat_lt n 7) n before
 
--- what a control sequence asks for, by its private marker, its intermediate bytes and its final byte
+-- the request of a control sequence, by its private marker, its intermediate bytes and its final byte
 abbrev pub wish_of : Option ℕ → List ℕ → ℕ → Wish
 wish_of (Some mark) [] last =
     if (mark == 0x3F && last == 0x68) then SetModes else
@@ -84,7 +84,7 @@ wish_of (Some mark) [] last =
 wish_of None (b ∷ []) last = if (b == 0x20 && last == 0x71) then Shape else if (b == 0x21 && last == 0x70) then SoftReset else Nothing
 wish_of mark inter last = Nothing
 
--- what is set once it is granted, with these parameters
+-- the settings after a request with these parameters
 abbrev pub granted : Wish → List ℕ → Settings → Settings
 granted Nothing params s = s
 granted SetModes params s = fold (mode_set true) s params
@@ -104,7 +104,7 @@ abbrev pub keypad_after : List ℕ → ℕ → Bool → Bool
 keypad_after [] last before = if last == 0x3D then true else if last == 0x3E then false else before
 keypad_after inter last before = before
 
--- what a function sets; most set nothing
+-- the settings after a function; most change nothing
 abbrev pub heard : Settings → Function → Settings
 heard s (C0 b) = cond (b == 7) (record s { bells = counted s.bells }) s
 heard s (Esc inter last) =
@@ -113,6 +113,6 @@ heard s (Esc inter last) =
 heard s (Csi mark params inter last) = granted (wish_of mark inter.items last) params.items s
 heard s f = s
 
--- what the program has set that wrote these bytes
+-- the settings of the program that wrote these bytes
 abbrev pub settings_of : List ℕ → Settings
 settings_of bytes = fold heard fresh_settings (functions_of (map Byte bytes))

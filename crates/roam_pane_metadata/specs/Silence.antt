@@ -10,7 +10,7 @@ use Rattle.roam_pane_metadata.specs.Settings.{heard}
 use Rattle.roam_pane_metadata.specs.Emissions.{emitted_by}
 use Rattle.roam_pane_metadata.specs.Queries.{asked_in, frame_after}
 
--- the characters of some bytes that stand where no character, sequence or string is unfinished, with their kinds
+-- the characters of some bytes with their kinds, if no character, sequence or string is unfinished before them
 abbrev pub signs_from : List ℕ → List Sign
 signs_from bytes = map character (settled_part bytes)
 
@@ -22,7 +22,7 @@ pub record SaySame (a b : List ℕ) : Type 0 where
   pub frame : (f : Bool) → fold frame_after f (functions (map character a)) ≡ fold frame_after f (functions (map character b))
   pub asked : (s : Settings) (f : Bool) → asked_in s f (functions (map character a)) ≡ asked_in s f (functions (map character b))
 
--- bytes that say and ask nothing: whatever comes after them says and asks what it would without them
+-- silent bytes: whatever follows them says and asks the same as without them
 abbrev pub SaysNothing : List ℕ → Type 0
 SaysNothing run = (more : List ℕ) → SaySame (settled_part (run ++ more)) (settled_part more)
 

@@ -1,4 +1,4 @@
--- What a program's control strings say beside its screen: the title, and the text for the clipboard (xterm's operating system commands).
+-- The texts of a program's control strings: the title, and the text for the clipboard (xterm's operating system commands).
 use Rattle.std.specs.Prelude.{ℕ, ◌==◌, ◌||◌, ◌&&◌, Bool, true, false, cond, nat_lt, nat_le, if◌then◌else◌, List, [], ◌∷◌, length, take, Option, None, Some, is_some}
 use Rattle.std.specs.List.{filter}
 use Rattle.base64.specs.Engines.{standard}
@@ -35,7 +35,7 @@ is_shown category = true
 abbrev pub is_printable : ℕ → Bool
 is_printable c = is_shown (general_category c)
 
--- the title that a text is for: 0 or 2, a semicolon, and its characters, of which the first printable ones count (OSC 0 and 2)
+-- the title of a text: 0 or 2, a semicolon, and its characters, of which the first printable ones count (OSC 0 and 2)
 abbrev pub title_in : List ℕ → Option (List ℕ)
 title_in (number ∷ separator ∷ rest) =
     cond ((number == 0x30 || number == 0x32) && separator == 0x3B) (Some (take longest_title (filter is_printable rest))) None
@@ -50,7 +50,7 @@ are_ascii (c ∷ rest) = nat_lt c 0x80 && are_ascii rest
 unfoldable pub is_base64 : List ℕ → Bool
 is_base64 bytes = is_some (decoded_of standard bytes)
 
--- a text, where it is base64 that isn't too long
+-- a text, if it is base64 and not too long
 abbrev pub clip_if_base64 : List ℕ → Option (List ℕ)
 clip_if_base64 text = cond (nat_le (length text) longest_clip && are_ascii text) (cond (is_base64 text) (Some text) None) None
 
@@ -95,11 +95,11 @@ abbrev pub with_either : Option (List ℕ) → Option (List ℕ) → Said → Sa
 with_either None clip s = with_clip clip s
 with_either (Some title) clip s = with_title (Some title) s
 
--- what a text of an operating system command says; one that is too long says nothing
+-- the effect of the text of an operating system command; one that is too long has none
 abbrev pub with_text : List ℕ → Said → Said
 with_text text s = cond (nat_le (length text) longest_text) (with_either (title_in text) (clip_in text) s) s
 
--- what a control string says; others than operating system commands say nothing
+-- the effect of a control string; only operating system commands have one
 abbrev pub said_with : StringKind → List ℕ → Said → Said
 said_with SystemCommand text s = with_text text s
 said_with kind text s = s

@@ -33,7 +33,7 @@ impl Model for Asked {
     ghost view = { λ a. record { count = a.count; last = a.last.items } };
 }
 
-// A question is kept, in place of the oldest where there are as many as are kept.
+// Keeps a question, in place of the oldest if there are as many as are kept.
 fn keep(last: &mut ArrayVec<Query, MOST_KEPT>, query: Query)
     ensures kept { (queries : List QueryOf) → last.old.items ≡ newest most_kept queries
         → last.new.items ≡ newest most_kept (queries ++ query ∷ []) }
@@ -81,7 +81,7 @@ impl Asked {
     }
 }
 
-/// Whether an operating system command is open, and its first characters.
+/// True if an operating system command is open, and its first characters.
 #[derive(Drop)]
 pub struct Head {
     is_command: bool,
@@ -120,11 +120,11 @@ impl Head {
         ensures added { (text : List ℕ) → self.old.text ≡ take 5 text → self.new.text ≡ take 5 (text ++ c ∷ []) }
         ensures command { self.new.is_command ≡ self.old.is_command }
     {
-        // What comes behind the first five is no part of a question.
+        // Characters behind the first five belong to no question.
         let _ = self.text.try_push(c);
     }
 
-    // None is open any more; answers what it asked, if it counts.
+    // Closes the command, and returns its question if it counts.
     fn end(&mut self, by_bell: bool) -> Option<Query>
         ensures closed { self.new.is_command ≡ false }
         ensures other { self.old.is_command ≡ false → result ≡ None }
@@ -139,7 +139,7 @@ impl Head {
         }
     }
 
-    /// A character did so to the control strings; answers what the string asked that it ended, if it ended one.
+    /// Takes the effect of a character on the control strings; returns the question of the string that it ended, if any.
     pub fn take(&mut self, step: StringStep) -> Option<Query>
         ensures heads { (all : Strings) → Heads self.old all.begun → Heads self.new (after_step step all).begun }
         ensures asked { (all : Strings) → Heads self.old all.begun → flat_map asked_by_string (after_step step all).ended

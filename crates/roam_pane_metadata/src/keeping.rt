@@ -11,7 +11,7 @@ use roam_text::{StringKind, StringStep};
 use std::alloc::{AllocError, Global};
 use std::marker::Model;
 
-/// What is collected of the control string that is open.
+/// The collected text of the open control string.
 #[derive(Clone, Copy)]
 pub enum Collecting {
     /// Nothing: none is open, or one that says nothing here.
@@ -24,7 +24,7 @@ pub enum Collecting {
     NoMemory,
 }
 
-/// What a control string said.
+/// The meaning of a control string.
 #[derive(Drop)]
 pub enum Told {
     Nothing,
@@ -35,7 +35,7 @@ pub enum Told {
     NoMemory,
 }
 
-// What a text says. Refuses want of memory.
+// Returns the meaning of a text. `AllocError` if there is no memory.
 fn read_text(alloc: Global, text: &[char]) -> Result<Told, AllocError>
     ensures tells { IfOk result (λ told. Tells told Collecting.Text text.now) }
 {
@@ -90,7 +90,7 @@ fn add(collecting: Collecting, text: &mut Vec<char>, c: char) -> Collecting
     }
 }
 
-/// What was said, and what is collected of the control string that is open.
+/// The stored texts, and the collected text of the open control string.
 #[derive(Drop)]
 pub struct Texts {
     alloc: Global,
@@ -211,7 +211,7 @@ impl Texts {
         self.clips = self.clips.saturating_add(1);
     }
 
-    // What was told is said.
+    // Stores a reported text.
     fn keep(&mut self, told: Told)
         ensures said { self.new ≡ record self.old { said = with_told told self.old.said } }
         ensures counted { IsCounted self.old.said self.new.said }
@@ -223,7 +223,7 @@ impl Texts {
         }
     }
 
-    // There is no title any more, which counts where there was one.
+    // Removes the title, and counts that if there was one.
     fn take_title_back(&mut self)
         ensures said { self.new ≡ record self.old { said = without_title self.old.said } }
         ensures counted { IsCounted self.old.said self.new.said }

@@ -12,8 +12,8 @@ ghost use Rattle.roam_pane_metadata.specs.Emissions.{TakesBack, after_emission, 
 ghost use Rattle.roam_pane_metadata.specs.Metadata.{MetadataView, Stands};
 ghost use Rattle.roam_pane_metadata.specs.Silence.{AreStill, SaysNothing};
 
-/// RIS, ESC 63, resets all that a program sets, whatever stands unfinished before it; the bells that rang are still told (ECMA-48,
-/// 8.3.105). It is uttered after all that was uttered before it, and no title stands then; all else that was said stays.
+/// RIS, ESC 63, resets all settings of a program, whatever is unfinished before it; the bells that rang are still reported (ECMA-48,
+/// 8.3.105). It is emitted behind all earlier emissions, and there is no title then. All other texts stay.
 pub fn a_reset_resets()
     ensures reset { (bytes : List ℕ) → settings_of (bytes ++ 0x1B ∷ 0x63 ∷ []) ≡ reset_settings (settings_of bytes) }
     ensures uttered { (bytes : List ℕ) → emissions_of (bytes ++ 0x1B ∷ 0x63 ∷ []) ≡ emissions_of bytes ++ TakesBack ∷ [] }
@@ -31,7 +31,7 @@ pub fn a_soft_reset_resets_the_keypad_alone()
         → emitted_by (Csi None (record { items = params }) (record { items = 0x21 ∷ [] }) 0x70) ≡ [] }
 {}
 
-/// Bytes without ESC, BEL and C2 say nothing, where nothing is unfinished before them, though a character be unfinished after them.
+/// Bytes without ESC, BEL and C2 are silent, if nothing is unfinished before them, even if a character is unfinished after them.
 pub fn still_bytes_say_nothing()
     ensures silent { (bytes : List ℕ) → AreStill bytes → SaysNothing bytes }
 {}
@@ -41,15 +41,14 @@ pub fn bells_only_grow()
     ensures grow { (bytes more : List ℕ) → (settings_of bytes).bells ≤ (settings_of (bytes ++ more)).bells }
 {}
 
-/// Each question of a control function and each of a control string is one of the bytes' questions, and nothing else is; those of a front
-/// come first.
+/// The questions of the bytes are those of the control functions and of the control strings, and nothing else. Those of a front come first.
 pub fn each_query_is_asked_once()
     ensures once { (bytes : List ℕ) → length (queries_of bytes) ≡ length (by_functions bytes) + length (by_strings bytes) }
     ensures front { (bytes more : List ℕ) → queries_of (bytes ++ more) ≡ queries_of bytes ++ asked_after bytes more }
 {}
 
-/// The control strings among what the bytes utter are those of the bytes, in their order, and beside them there is a reset for each RIS
-/// alone; what a front utters comes first.
+/// The control strings among the emissions are those of the bytes, in order; all other emissions are resets, one for each RIS. The
+/// emissions of a front come first.
 pub fn each_string_is_emitted_once()
     ensures strings { (bytes : List ℕ) → flat_map string_in (emissions_of bytes) ≡ strings_of (map Byte bytes) }
     ensures once { (bytes : List ℕ) → length (emissions_of bytes) ≡ length (resets_of bytes) + length (spoken_of bytes) }

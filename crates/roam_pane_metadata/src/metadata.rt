@@ -1,4 +1,4 @@
-//! What stands beside a pane's terminal.
+//! The metadata of a pane's terminal.
 ghost use Rattle.std.specs.Prelude.{◌≡◌, ◌≤◌, ◌++◌, ◌∷◌, [], List, ℕ, length, min, take, IsTrue};
 ghost use Rattle.std.specs.List.{flat_map, fold};
 ghost use Rattle.std.specs.Option.{option_map, option_to_list};
@@ -18,15 +18,15 @@ use roam_text::{Dispatched, Reader, StringReader};
 use std::alloc::Global;
 use std::marker::Model;
 
-/// What a program's bytes say beside its screen. It is fed the pieces that the pane's terminal is fed, and refuses nothing: a text for
-/// which there is no memory says nothing, and all else stays right.
+/// The metadata of a program's bytes. It is fed the pieces that the pane's terminal is fed, and can't fail: a text for which there is no
+/// memory is ignored, and all else stays right.
 #[derive(Drop)]
 pub struct Metadata {
     reader: Reader,
     strings: StringReader,
     settings: Settings,
     texts: Texts,
-    // Whether a frame is open: 2026.
+    // True if a synchronized update is open: 2026.
     frame: bool,
     head: Head,
     asked: Asked,
@@ -48,7 +48,7 @@ impl Model for Metadata {
     } };
 }
 
-// What is set after what a byte completed.
+// Returns the settings after the function of a byte.
 fn heard_by(settings: Settings, dispatched: Dispatched, reader: &Reader) -> Settings
     ensures heard { result ≡ fold heard settings (functions_by dispatched reader.now.parameters reader.now.intermediates) }
 {
@@ -63,7 +63,7 @@ fn heard_by(settings: Settings, dispatched: Dispatched, reader: &Reader) -> Sett
     }
 }
 
-// Whether a byte completed RIS.
+// Returns true if a byte completed RIS.
 fn is_reset_by(dispatched: Dispatched, reader: &Reader) -> bool
     ensures reset { reset_if result
         ≡ flat_map emitted_by (functions_by dispatched reader.now.parameters reader.now.intermediates) }
@@ -76,7 +76,7 @@ fn is_reset_by(dispatched: Dispatched, reader: &Reader) -> bool
     }
 }
 
-// Whether a frame is open after what a byte completed.
+// Returns true if an update is open after the function of a byte.
 fn frame_by(frame: bool, dispatched: Dispatched, reader: &Reader) -> bool
     ensures frame { result ≡ fold frame_after frame (functions_by dispatched reader.now.parameters reader.now.intermediates) }
 {
@@ -91,7 +91,7 @@ fn frame_by(frame: bool, dispatched: Dispatched, reader: &Reader) -> bool
     }
 }
 
-// What the function asks that a byte completed, if it completed one.
+// Returns the question of the function that a byte completed, if there is one.
 fn query_by(
     settings: &Settings,
     frame: bool,
@@ -117,7 +117,7 @@ impl Metadata {
     ghost use Rattle.roam_pane_metadata.specs.Metadata.{Stands};
     ghost use Rattle.roam_pane_metadata.specs.Silence.{SaysNothing};
 
-    /// What stands beside a program that has written nothing.
+    /// Returns the metadata of a program that has written nothing.
     pub fn new(alloc: Global) -> Metadata
         ensures stands { Stands result [] }
         ensures fresh { result.settings ≡ fresh_settings }
@@ -134,7 +134,7 @@ impl Metadata {
         }
     }
 
-    /// What the program has set, and how many bells it rang.
+    /// Returns the settings of the program, and its count of bells.
     pub fn settings(&self) -> Settings
         ensures settings { result ≡ self.now.settings }
         ensures told { (bytes : List ℕ) → Stands self.now bytes → result ≡ settings_of bytes }
@@ -206,8 +206,7 @@ impl Metadata {
         self.asked.note(later);
     }
 
-    // How many bytes at the front of a piece can be passed over: they say nothing, and all that comes after them says the same without
-    // them.
+    // Returns how many bytes at the front of a piece can be skipped: they are silent, and all bytes behind them say the same without them.
     fn passed(&self, piece: &[u8]) -> usize
         ensures within { result ≤ length piece.now }
         ensures stands { (bytes : List ℕ) → Stands self.now bytes → Stands self.now (bytes ++ take result piece.now) }
@@ -219,7 +218,7 @@ impl Metadata {
         }
     }
 
-    /// Reads a piece of what the program wrote, after the pieces before it.
+    /// Reads a piece of the program's output, after the pieces before it.
     pub fn feed(&mut self, piece: &[u8])
         ensures stands { (bytes : List ℕ) → Stands self.old bytes → Stands self.new (bytes ++ piece.now) }
         ensures counted { IsCounted self.old.texts.said self.new.texts.said }

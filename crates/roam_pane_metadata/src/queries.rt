@@ -1,4 +1,4 @@
-//! What a program asks of its terminal that its screen can't answer.
+//! Questions of a program that its screen can't answer.
 ghost use Rattle.std.specs.Prelude.{◌≡◌};
 ghost use Rattle.std.specs.List.{fold};
 ghost use Rattle.std.specs.Option.{option_to_list};
@@ -8,27 +8,27 @@ ghost use Rattle.roam_pane_metadata.specs.Queries.{asked, asked_by, colour_asked
 use crate::settings::{Settings, Wish, wish_of};
 use roam_text::{Dispatch, StringEnd};
 
-/// What a program asks of its terminal.
+/// A question of a program to its terminal.
 #[derive(Clone, Copy, Default)]
 pub enum Query {
     /// The colour of text that has none of its own, OSC 10; whether BEL ended it, by which the answer ends too.
     Foreground { by_bell: bool },
     /// The colour behind text, OSC 11.
     Background { by_bell: bool },
-    /// Whether a frame is open, DECRQM of 2026; whether one was.
+    /// DECRQM of 2026: is an update open? With the state at that time.
     Frames { is_set: bool },
-    /// Whether pastes come between brackets, DECRQM of 2004; whether they did.
+    /// DECRQM of 2004: are pastes bracketed? With the state at that time.
     Pastes { is_set: bool },
     /// The terminal's name, XTVERSION.
     #[default]
     Version,
 }
 
-/// What a control sequence asks.
+/// The form of a control sequence's question.
 #[derive(Clone, Copy)]
 pub enum QueryForm {
     Nothing,
-    /// Whether a private mode is set, DECRQM.
+    /// The state of a private mode, DECRQM.
     Mode,
     /// The terminal's name, XTVERSION.
     Name,
@@ -62,7 +62,7 @@ fn frame_granted(wish: Wish, params: &[u16], frame: bool) -> bool
     }
 }
 
-/// Whether a frame is open after a function, of which the reader lends parameters and intermediate bytes.
+/// Returns true if an update is open after a function, whose parameters and intermediate bytes the reader lends.
 pub fn frame_after(frame: bool, dispatch: Dispatch, params: &[u16], inter: &[u8]) -> bool
     ensures frame { result ≡ frame_after frame (function_of dispatch params.now inter.now) }
 {
@@ -103,7 +103,7 @@ fn asked(query_form: QueryForm, params: &[u16], paste: bool, frame: bool) -> Opt
     }
 }
 
-/// The question of a function, of which the reader lends parameters and intermediate bytes, where this is set.
+/// Returns the question of a function under these settings; the reader lends its parameters and intermediate bytes.
 pub fn asked_by(
     settings: &Settings,
     frame: bool,
@@ -144,7 +144,7 @@ pub fn query_in(by_bell: bool, text: &[char]) -> Option<Query>
     }
 }
 
-/// Whether BEL ended a control string.
+/// Returns true if BEL ended a control string.
 pub fn is_bell(ending: StringEnd) -> bool
     ensures bell { result ≡ is_bell ending }
 {

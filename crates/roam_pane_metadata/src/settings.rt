@@ -1,4 +1,4 @@
-//! What a program's functions set beside its screen.
+//! The settings of a program's functions outside its screen.
 ghost use Rattle.std.specs.Prelude.{◌≡◌, List, ℕ, [], ◌∷◌};
 ghost use Rattle.std.specs.List.{fold};
 ghost use Rattle.roam_text.specs.Dispatched.{function_of};
@@ -13,36 +13,36 @@ pub enum Tracking {
     Off,
     /// 1000: buttons that are pressed and released.
     Buttons,
-    /// 1002: motion while a button is held, too.
+    /// 1002: motion while a button is pressed, too.
     Drags,
     /// 1003: all motion, too.
     Motion,
 }
 
-/// What a program has set beside its screen, and how many bells it rang.
+/// The settings of a program outside its screen, and its count of bells.
 #[derive(Clone, Copy)]
 pub struct Settings {
     /// Which reports of the mouse it asks for: 1000, 1002, 1003.
     pub tracking: Tracking,
-    /// Whether it asks for them in the form that SGR has: 1006.
+    /// True if it asks for reports in SGR form: 1006.
     pub sgr_reports: bool,
-    /// Whether it asks to be told of the focus: 1004.
+    /// True if it asks for reports of the focus: 1004.
     pub focus_reports: bool,
-    /// Whether it asks for pastes between brackets: 2004.
+    /// True if it asks for bracketed paste: 2004.
     pub bracketed_paste: bool,
-    /// Whether it shows the alternate screen: 47, 1047, 1049.
+    /// True if it shows the alternate screen: 47, 1047, 1049.
     pub alternate_screen: bool,
-    /// Whether it asks for the application codes of the keypad: DECKPAM. DECKPNM, DECSTR and RIS reset it.
+    /// True if it asks for the application codes of the keypad: DECKPAM. DECKPNM, DECSTR and RIS reset it.
     pub application_keypad: bool,
-    /// What it asks of modifyOtherKeys: 0, 1 or 2 (xterm, XTMODKEYS).
+    /// The value of modifyOtherKeys: 0, 1 or 2 (xterm, XTMODKEYS).
     pub other_keys: u8,
-    /// The shape of the cursor, 0 to 6, 0 where it asks for none (DECSCUSR).
+    /// The shape of the cursor, 0 to 6, 0 if it asks for none (DECSCUSR).
     pub shape: u8,
     /// How many bells it rang, all of them, up to 2^64 - 1.
     pub bells: u64,
 }
 
-/// What a control sequence asks for beside the screen.
+/// The request of a control sequence outside the screen.
 #[derive(Clone, Copy)]
 pub enum Wish {
     Nothing,
@@ -60,7 +60,7 @@ pub enum Wish {
     SoftReset,
 }
 
-/// What a program has set that has written nothing.
+/// Returns the settings of a program that has written nothing.
 pub fn fresh_settings() -> Settings
     ensures fresh { result ≡ fresh_settings }
 {
@@ -195,7 +195,7 @@ fn granted(wish: Wish, params: &[u16], settings: Settings) -> Settings
     }
 }
 
-// Whether the keypad sends application codes after an escape sequence.
+// Returns true if the keypad sends application codes after an escape sequence.
 fn keypad_after(inter: &[u8], last: u8, before: bool) -> bool
     ensures keypad { result ≡ keypad_after inter.now last before }
 {
@@ -224,7 +224,7 @@ fn ring(settings: Settings) -> Settings
     }
 }
 
-/// Whether a function is RIS, of which the reader lends the intermediate bytes.
+/// Returns true if a function is RIS; the reader lends its intermediate bytes.
 pub fn is_reset(dispatch: Dispatch, inter: &[u8]) -> bool
     ensures reset { (params : List ℕ) → result ≡ is_reset (function_of dispatch params inter.now) }
 {
@@ -234,7 +234,7 @@ pub fn is_reset(dispatch: Dispatch, inter: &[u8]) -> bool
     }
 }
 
-/// What is set after a function, of which the reader lends parameters and intermediate bytes.
+/// Returns the settings after a function; the reader lends its parameters and intermediate bytes.
 pub fn heard(settings: Settings, dispatch: Dispatch, params: &[u16], inter: &[u8]) -> Settings
     ensures heard { result ≡ heard settings (function_of dispatch params.now inter.now) }
 {

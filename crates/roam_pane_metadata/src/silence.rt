@@ -73,8 +73,8 @@ fn still_run(piece: &[u8]) -> usize
     near + far_run(&piece[near..])
 }
 
-// How many bytes a whole control sequence at the front takes that has neither a private marker nor an intermediate byte, as all SGR; 0
-// where none stands there.
+// Returns the length of a whole control sequence at the front that has neither a private marker nor an intermediate byte, as all SGR; 0 if
+// there is none.
 #[inline]
 fn plain_sequence(piece: &[u8]) -> usize
     ensures within { result ≤ length piece.now }
@@ -94,8 +94,8 @@ fn plain_sequence(piece: &[u8]) -> usize
     }
 }
 
-/// How many bytes at the front of a piece say nothing, where no character, sequence or string is unfinished before them: whatever comes
-/// after them says what it would say without them.
+/// Returns how many bytes at the front of a piece are silent, if no character, sequence or string is unfinished before them: bytes behind
+/// them say the same without them.
 pub fn silent_run(piece: &[u8]) -> usize
     ensures within { result ≤ length piece.now }
     ensures silent { SaysNothing (take result piece.now) }

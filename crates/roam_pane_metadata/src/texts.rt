@@ -1,4 +1,4 @@
-//! What a program's control strings say beside its screen.
+//! The texts of a program's control strings.
 ghost use Rattle.std.specs.Prelude.{◌≡◌, true, IfOk, take};
 ghost use Rattle.std.specs.List.{filter};
 ghost use Rattle.std.specs.Option.{option_map};
@@ -82,7 +82,7 @@ fn are_ascii(text: &[char]) -> bool
     true
 }
 
-// Whether bytes are base64. Refuses want of memory.
+// Returns true if bytes are base64. `AllocError` if there is no memory.
 fn is_base64(alloc: Global, bytes: &[u8]) -> Result<bool, AllocError>
     ensures base64 { IfOk result (λ is. is ≡ is_base64 bytes.now) }
 {

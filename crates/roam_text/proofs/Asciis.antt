@@ -57,7 +57,7 @@ pub ascii-joined : (xs ys : List ℕ) → AreAscii xs → AreAscii ys → AreAsc
 ascii-joined [] ys below more = more
 ascii-joined (x ∷ xs) ys below more = (below.0, ascii-joined xs ys below.1 more)
 
--- what is lent from a place on is all of the rest
+-- all of the rest is lent from a place on
 rest-lent : (xs : List ℕ) (a : ℕ) → take (length xs - a) (drop a xs) ≡ drop a xs
 rest-lent xs a = take_all (length xs - a) (drop a xs) (omega (arith, length-drop a xs))
 

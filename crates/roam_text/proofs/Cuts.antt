@@ -122,11 +122,11 @@ module _ (log : List Item) where
         ∙ sym (ap (λ l. l ++ functions more) functions-later);
   }
 
-  -- what was known gives what the log gave, and perhaps a U+FFFD
+  -- a known front gives the functions of the log, and perhaps a U+FFFD
   known-by : (b : Bool) → (t : Bool) × (functions (signs log ++ map character (replaced_if b)) ≡ functions_of log ++ printed_if 0xFFFD t)
   known-by true = functions-graphic-after 0xFFFD (signs log)
   known-by false = (false, ap functions (append-nil (signs log)) ∙ sym (append-nil (functions_of log)))
 
-  -- what the log gave, perhaps a U+FFFD, and the reset
+  -- the functions of the log, perhaps a U+FFFD, and the reset
   pub functions-reset : (t : Bool) × (functions_of later ≡ (functions_of log ++ printed_if 0xFFFD t) ++ reset ∷ [])
   functions-reset = let known = known-by is_cut in (known.0, functions-later ∙ ap (λ l. l ++ reset ∷ []) known.1)

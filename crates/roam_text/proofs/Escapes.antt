@@ -1,4 +1,4 @@
--- ESC begins anew, whatever came before it: the signs in front of it give what they gave, and no more.
+-- ESC starts anew, whatever came before: the signs in front of it give the same as without it.
 use Rattle.std.proofs.Common.{◌≡◌, ℕ, zero, suc, ◌+◌, ◌≤◌, Bool, true, false, cond, List, [], ◌∷◌, ◌++◌, length, Option, Some, refl, sym, ap, ◌∙◌, arith, append_assoc}
 use Rattle.std.specs.List.{flat_map}
 use Rattle.roam_text.specs.declared.kinds.Kind.{Kind}
@@ -12,7 +12,7 @@ use Rattle.roam_text.specs.EscapeSequences.{in_escape_sequence, escape_sequence,
 use Rattle.roam_text.specs.Functions.{front, functions}
 use Rattle.roam_text.proofs.Fronts.{front-le, functions-nil, functions-step}
 
--- what ends a front ends it, whatever follows
+-- the end of a front does not depend on the signs behind it
 pub front_while-end : (last : Sign) (tail : List Sign) (p : Sign → Bool) → p last ≡ false → (xs : List Sign)
     → front_while p (xs ++ last ∷ tail) ≡ front_while p xs
 front_while-end last tail p e [] = ap (λ b. cond b (last ∷ front_while p tail) []) e

@@ -1,4 +1,4 @@
--- Two or three bytes, of which the first begins a character of as many, tell by themselves what they decode to.
+-- Two or three bytes decode without further bytes if the first begins a character of that length.
 use Rattle.std.proofs.Common.{◌≡◌, ℕ, ◌<◌, ◌≤◌, false, List, ◌++◌, length, take, drop, slice_index, sym, ap, ◌∙◌, arith, ⊎_elim}
 use Rattle.std.proofs.lemmas.Bool.{cases_Bool}
 use Rattle.std.proofs.lemmas.Bool.Decides.{nat_tests}

@@ -13,7 +13,7 @@ use Rattle.roam_text.proofs.Logs.{signs-byte, bytes_of-byte, signs_after-size, b
 use Rattle.roam_text.proofs.Growth.{signs-append}
 use Rattle.roam_text.proofs.StringMoves.{strings-step, step-ended, begun_in, ended_by, text_by, character-comes, nothing-comes, step-is}
 
--- what is known of some signs, where a reader stands in a phase after them
+-- the known strings of some signs, if a reader is in a phase after them
 record Known (known : List Sign) (phase : StringPhase) (all : Strings) : Type 0 where
   before : List ControlString
   text : List ℕ
@@ -167,7 +167,7 @@ module _ (reader : StringView) (log : List Item) (r c : ℕ) (follows : Follows 
 
 -- ---- the strings of a front are a front of the strings
 
--- what is known after more signs, and what they added
+-- the known strings after more signs, and those that they added
 record Grown (known : List Sign) (first : List ControlString) : Type 0 where
   phase : StringPhase
   all : Strings
@@ -211,7 +211,7 @@ module _ (first : List ControlString) where
 nothing-known : Known [] Ground no_strings
 nothing-known = record { before = []; text = []; knows = λ rest. refl; is = refl }
 
--- what is ended of signs that are known
+-- the ended strings of known signs
 grown-ended : (known : List Sign) (first : List ControlString) (g : Grown known first) → (strings known).ended ≡ first ++ g.later
 grown-ended known first g =
     ap (λ (s : Strings). s.ended) (all-is known g.phase g.after.before g.after.text g.after.knows ∙ sym g.after.is) ∙ g.ended

@@ -1,4 +1,4 @@
--- What each character does to the control strings to come.
+-- The effect of each character on the control strings to come.
 use Rattle.std.proofs.Common.{◌≡◌, ℕ, zero, suc, ◌+◌, ◌≤◌, Bool, true, false, cond, nat_lt, List, [], ◌∷◌, ◌++◌, length, Option, None, Some, refl, sym, ap, ◌∙◌, arith, append_assoc, subst}
 use Rattle.std.specs.Prelude.{⊤, ◌==◌, ◌&&◌}
 use Rattle.std.proofs.lemmas.Bool.{eqb-true}
@@ -52,7 +52,7 @@ strings-step s xs =
     let less = front-le s xs in
     ap (followed_by (front_strings s xs)) (strings_from-same (length xs) (length (front s xs).left) (front s xs).left (omega arith) (omega arith))
 
--- ---- what is left doesn't depend on what was said
+-- ---- the kept parts do not depend on the strings before
 
 control-left : (h : Option Header) (xs : List Sign) → (end_control_sequence h xs).left ≡ (end_control_sequence None xs).left
 control-left h [] = refl
@@ -264,7 +264,7 @@ nothing-comes InControlSequence t = strings-nil
 nothing-comes (InControlString kind bell) t = ap (λ l. followed_by (open_alone kind l) (strings [])) (append-nil t) ∙ ap (followed_by (open_alone kind t)) strings-nil
 nothing-comes (AfterEscape kind) t = ap (λ s. followed_by (open_alone kind t) (followed_by no_strings s)) strings-nil
 
--- ---- what a caller makes of a step
+-- ---- the result of a step for its caller
 
 module _ (before : List ControlString) where
   abbrev pub here : StringPhase → List ℕ → Strings

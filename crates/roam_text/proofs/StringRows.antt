@@ -58,7 +58,7 @@ an_esc_behind_which_nothing_has_come_yet_leaves_it_open : strings_by (map Byte (
 unfolding strings strings_from gained_characters settled_part settled_from is_unfinished
 an_esc_behind_which_nothing_has_come_yet_leaves_it_open = refl
 
--- what stands between ESC and 5C breaks it off
+-- a character between ESC and 5C cancels the string
 what_stands_between_esc_and_5c_breaks_it_off : strings_by (map Byte (0x1B ∷ 0x5D ∷ 0x30 ∷ 0x1B ∷ 0x00 ∷ 0x5C ∷ []))
     ≡ record { ended = []; begun = None }
 unfolding strings strings_from gained_characters settled_part settled_from is_unfinished

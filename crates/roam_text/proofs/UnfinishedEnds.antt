@@ -23,14 +23,14 @@ front-unfinished bs p = ⊎_elim
     absurd (omega (arith, length-append bs p.more)))
     (cases_Bool (is_unfinished bs))
 
--- a byte that may stand second after a first one
+-- a byte that may come second after a first one
 abbrev next_byte : ℕ → ℕ
 next_byte b = if b == 0xE0 then 0xA0 else if b == 0xF0 then 0x90 else 0x80
 
 next-may : (b : ℕ) → b ≤ 0xF4 → second b (next_byte b) ≡ true
 next-may b high = grind (arith, nat_tests)
 
--- what has come of an unfinished character of one to three bytes
+-- the bytes so far of an unfinished character of one to three bytes
 data IsBegun (n b c d : ℕ) : Type 0 where
   one : n ≡ 1 → 0xC2 ≤ b → b ≤ 0xF4 → IsBegun n b c d
   two : n ≡ 2 → 0xE0 ≤ b → b ≤ 0xF4 → second b c ≡ true → IsBegun n b c d

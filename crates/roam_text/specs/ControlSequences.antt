@@ -1,4 +1,4 @@
--- Control sequences: what stands between CSI and the final byte (ECMA-48 5.4).
+-- Control sequences: the characters between CSI and the final byte (ECMA-48 5.4).
 use Rattle.std.specs.Prelude.{ℕ, ◌+◌, ◌-◌, ◌*◌, Bool, true, false, cond, nat_lt, ◌&&◌, min, List, [], ◌∷◌, ◌++◌, length, map, take, Option, None, Some}
 use Rattle.std.specs.List.{flat_map}
 use Rattle.roam_text.specs.declared.kinds.Kind.{Kind}
@@ -63,7 +63,7 @@ abbrev pub kinds_while : (Kind → Bool) → List Kind → List Kind
 kinds_while p [] = []
 kinds_while p (k ∷ rest) = cond (p k) (k ∷ kinds_while p rest) []
 
--- what is after that front
+-- the kinds behind that front
 abbrev pub kinds_after : (Kind → Bool) → List Kind → List Kind
 kinds_after p [] = []
 kinds_after p (k ∷ rest) = cond (p k) (kinds_after p rest) (k ∷ rest)
@@ -80,17 +80,17 @@ codes [] = []
 codes (Intermediate b ∷ rest) = b ∷ codes rest
 codes (k ∷ rest) = codes rest
 
--- the intermediate bytes, where there is nothing else and there are at most two (this project's profile)
+-- the intermediate bytes, if there is nothing else and there are at most two (this project's profile)
 abbrev pub intermediates : List Kind → Option (List ℕ)
 intermediates ks = cond (all_inter ks && nat_lt (length ks) 3) (Some (codes ks)) None
 
--- what a control sequence says before its final byte: private marker, parameters, intermediate bytes (ECMA-48 5.4)
+-- the part of a control sequence before its final byte: private marker, parameters, intermediate bytes (ECMA-48 5.4)
 pub record Header : Type 0 where
   pub mark : Option ℕ
   pub params : List ℕ
   pub inter : List ℕ
 
--- the whole, where the intermediate bytes are in order
+-- the whole header, if the intermediate bytes are in order
 abbrev pub with_inter : Option ℕ → List ℕ → Option (List ℕ) → Option Header
 with_inter mark params None = None
 with_inter mark params (Some inter) = Some (record { mark = mark; params = params; inter = inter })
@@ -99,13 +99,13 @@ with_inter mark params (Some inter) = Some (record { mark = mark; params = param
 unfoldable pub first_sixteen : List ℕ → List ℕ
 first_sixteen params = take 16 params
 
--- what is said after a private marker, or without one
+-- the header after a private marker, or without one
 abbrev pub header_after : Option ℕ → List Kind → Option Header
 header_after mark body =
     with_inter mark (first_sixteen (map capped_value (digits_of_parameters (kinds_while is_numeric body))))
     (intermediates (kinds_after is_numeric body))
 
--- a private marker comes first of all (ECMA-48 5.4.1); none where the sequence is recognised without effect
+-- a private marker comes first of all (ECMA-48 5.4.1); none if the sequence is recognised without effect
 abbrev pub header : List Kind → Option Header
 header (PrivateMarker b ∷ body) = header_after (Some b) body
 header body = header_after None body
@@ -115,7 +115,8 @@ abbrev pub control_sequence_function : Option Header → ℕ → List Function
 control_sequence_function None b = []
 control_sequence_function (Some h) b = Csi h.mark (record { items = h.params }) (record { items = h.inter }) b ∷ []
 
--- a final byte, or CAN or SUB, which cancel the sequence (VT220); what is no part of it ends it and is read anew (this project's profile)
+-- A final byte ends the sequence; CAN and SUB cancel it (VT220). Any other character that does not belong to it ends it and is read anew
+-- (this project's profile).
 abbrev pub end_control_sequence : Option Header → List Sign → Front
 end_control_sequence h [] = record { gives = []; left = [] }
 end_control_sequence h (Character (Cancel b) c ∷ rest) = record { gives = []; left = rest }

@@ -5,7 +5,7 @@ use Rattle.roam_text.specs.declared.kinds.Kind.TheVariants.{Bell, Cancel, Escape
 use Rattle.roam_text.specs.Log.{Sign, Character, Resize}
 use Rattle.roam_text.specs.Inside.{Front, front_while, rest_while, size_functions}
 
--- inside a control string, which ends at ST, CAN, SUB or ESC, and at BEL where bell is true (ECMA-48 5.6; the VT220's and xterm's ends)
+-- inside a control string, which ends at ST, CAN, SUB or ESC, and at BEL if bell is true (ECMA-48 5.6; the ends of the VT220 and xterm)
 abbrev pub in_control_string : Bool → Sign → Bool
 in_control_string bell (Resize r c) = true
 in_control_string bell (Character (Cancel b) c) = false

@@ -1,4 +1,4 @@
--- What a dispatched byte gives, with the parameters and intermediate bytes that the reader lends.
+-- The functions of a dispatched byte, with the parameters and intermediate bytes that the reader lends.
 use Rattle.std.specs.Prelude.{ℕ, Bool, true, false, List, [], ◌∷◌, Option, None, Some}
 use Rattle.roam_text.specs.declared.functions.Function.{Function}
 use Rattle.roam_text.specs.declared.functions.Function.TheVariants.{Print as FunctionPrint, C0 as FunctionC0, C1 as FunctionC1, Esc as FunctionEsc, Csi as FunctionCsi}
@@ -21,7 +21,7 @@ abbrev pub functions_with : Option Dispatch → List ℕ → List ℕ → List F
 functions_with None params inter = []
 functions_with (Some d) params inter = function_of d params inter ∷ []
 
--- the function that a parser answered, with what it keeps of the sequence
+-- the function that a parser returned, with the kept parts of its sequence
 abbrev pub answer_functions : Option Dispatch → Parser → List Function
 answer_functions d p = functions_with d p.sequence.params.items p.sequence.inter.items
 
@@ -30,7 +30,7 @@ abbrev pub replacement : Bool → List Function
 replacement true = FunctionPrint 0xFFFD ∷ []
 replacement false = []
 
--- the functions of what a byte dispatched
+-- the functions of a dispatched value
 abbrev pub functions_by : Dispatched → List ℕ → List ℕ → List Function
 functions_by Nothing params inter = []
 functions_by (One d) params inter = function_of d params inter ∷ []

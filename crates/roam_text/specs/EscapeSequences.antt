@@ -11,7 +11,7 @@ use Rattle.roam_text.specs.Inside.{Front, front_while, rest_while, acts}
 use Rattle.roam_text.specs.ControlStrings.{control_string}
 use Rattle.roam_text.specs.ControlSequences.{body_of, intermediates, behind, control_sequence}
 
--- a C1 control, or what it introduces (ECMA-48 5.3)
+-- a C1 control, or the sequence or string that it introduces (ECMA-48 5.3)
 abbrev pub c1_control : Kind → List Sign → Front
 c1_control StringOpening rest = control_string false rest
 c1_control CommandOpening rest = control_string true rest
@@ -39,7 +39,8 @@ abbrev pub upper_final : Option (List ℕ) → ℕ → List Sign → Front
 upper_final (Some []) b rest = c1_control (kind_of (b + 64)) rest
 upper_final inter b rest = record { gives = escape_sequence_function inter b; left = rest }
 
--- a final byte of 30 to 7E, or CAN or SUB, which cancel the sequence; what is no part of it ends it and is read anew
+-- A final byte of 30 to 7E ends the sequence; CAN and SUB cancel it. Any other character that does not belong to it ends it and is read
+-- anew.
 abbrev pub end_escape_sequence : Option (List ℕ) → List Sign → Front
 end_escape_sequence inter [] = record { gives = []; left = [] }
 end_escape_sequence inter (Character (Cancel b) c ∷ rest) = record { gives = []; left = rest }

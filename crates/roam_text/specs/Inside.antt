@@ -1,11 +1,12 @@
--- What acts at once inside a sequence, and the front of signs that belongs to one (VT220 Programmer Reference; this project's profile).
+-- Controls that act at once inside a sequence, and the front of signs that belongs to one (VT220 Programmer Reference; this project's
+-- profile).
 use Rattle.std.specs.Prelude.{Bool, cond, List, [], ◌∷◌}
 use Rattle.roam_text.specs.declared.kinds.Kind.TheVariants.{C0Control, Bell}
 use Rattle.roam_text.specs.declared.functions.Function.{Function}
 use Rattle.roam_text.specs.declared.functions.Function.TheVariants.{C0, Size}
 use Rattle.roam_text.specs.Log.{Sign, Character, Resize}
 
--- what a front of the signs gives, and the signs after that front (this project's profile)
+-- the functions of a front of the signs, and the signs behind that front (this project's profile)
 pub record Front : Type 0 where
   pub gives : List Function
   pub left : List Sign
@@ -15,7 +16,7 @@ abbrev pub front_while : (Sign → Bool) → List Sign → List Sign
 front_while p [] = []
 front_while p (s ∷ rest) = cond (p s) (s ∷ front_while p rest) []
 
--- what is after that front
+-- the signs behind that front
 abbrev pub rest_while : (Sign → Bool) → List Sign → List Sign
 rest_while p [] = []
 rest_while p (s ∷ rest) = cond (p s) (rest_while p rest) (s ∷ rest)

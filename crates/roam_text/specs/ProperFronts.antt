@@ -1,4 +1,4 @@
--- The proper beginnings of characters: what an unfinished end of some bytes is.
+-- The proper beginnings of characters: each unfinished end of some bytes is one.
 use Rattle.std.specs.Prelude.{◌≡◌, ℕ, ◌<◌, List, ◌++◌, length}
 use Rattle.bstr.specs.Utf8.{decoded, good}
 

@@ -1,4 +1,4 @@
--- What the control strings of the signs to come will be, where a reader of them stands in some phase.
+-- The control strings that the signs to come will add, by the phase of their reader.
 use Rattle.std.specs.Prelude.{ℕ, ◌≡◌, ◌+◌, ◌==◌, Bool, true, false, cond, List, [], ◌++◌, None}
 use Rattle.roam_text.specs.declared.kinds.Kind.{Kind}
 use Rattle.roam_text.specs.declared.kinds.Kind.TheVariants.{C0Control, Bell, Cancel, Escape, Intermediate, Digit, Colon, Separator, PrivateMarker, Upper, Delete, StringOpening, CommandOpening, SequenceIntroducer, StringTerminator}
@@ -32,7 +32,7 @@ late_escape_strings rest = strings (end_escape_sequence None (rest_while in_esca
 abbrev pub sequence_strings : List Sign → Strings
 sequence_strings rest = strings (end_control_sequence None (rest_while in_control_sequence rest)).left
 
--- the strings to come in this phase, where this text of an open one has come
+-- the strings to come in this phase, if this text of an open string was read
 abbrev pub strings_in : StringPhase → List ℕ → List Sign → Strings
 strings_in Ground text rest = strings rest
 strings_in (InEscapeSequence true) text rest = escape_strings rest
@@ -61,7 +61,7 @@ moved_from_ground CommandOpening c = moved_by_c1 CommandOpening c
 moved_from_ground SequenceIntroducer c = moved_by_c1 SequenceIntroducer c
 moved_from_ground k c = quietly Ground
 
--- after a final byte of 40 to 5F of an escape sequence, bare where it has no intermediate byte
+-- the move after a final byte of 40 to 5F of an escape sequence, bare if it has no intermediate byte
 abbrev pub moved_by_upper : Bool → ℕ → StringMove
 moved_by_upper true b = moved_by_c1 (kind_of (b + 64)) (b + 64)
 moved_by_upper false b = quietly Ground
@@ -96,7 +96,7 @@ moved_in_control_string kind bell StringTerminator c = record { phase = Ground; 
 moved_in_control_string kind true Bell c = record { phase = Ground; step = Ended EndBell }
 moved_in_control_string kind bell k c = record { phase = InControlString kind bell; step = Added c }
 
--- where no other string was opened the one that was open is broken off
+-- the open string is cancelled, unless another one was opened
 abbrev pub broken_off : StringStep → StringStep
 broken_off (Opened kind) = Opened kind
 broken_off step = BrokenOff
@@ -118,7 +118,7 @@ moved (AfterEscape kind) k c = moved_after_escape k c
 abbrev pub moved_by : StringPhase → ℕ → StringMove
 moved_by phase c = moved phase (kind_of c) c
 
--- what a reader of control strings keeps
+-- the state of a reader of control strings
 pub record StringView : Type 0 where
   pub pending : List ℕ
   pub phase : StringPhase
@@ -127,15 +127,15 @@ pub record StringView : Type 0 where
 abbrev pub behind_strings : List ControlString → Strings → Strings
 behind_strings first s = record { ended = first ++ s.ended; begun = s.begun }
 
--- the reader has read this log: it keeps the unfinished character, and knows what the signs to come will add to the strings before it and
--- to the text that has come of an open one
+-- The reader has read this log. It keeps the unfinished character, and determines the additions of the signs to come to the strings and to
+-- the text of an open one.
 pub record Follows (reader : StringView) (log : List Item) : Type 0 where
   pub pending : reader.pending ≡ unfinished_part (bytes_of log)
   pub before : List ControlString
   pub text : List ℕ
   pub to_come : (rest : List Sign) → strings (signs log ++ rest) ≡ behind_strings before (strings_in reader.phase text rest)
 
--- the reader of a log is between characters and outside all sequences and strings: what comes is read as if nothing had come before
+-- the reader of a log is between characters and outside all sequences and strings: later bytes are read as if there were none before
 pub record NoStringOpen (log : List Item) : Type 0 where
   pub whole : unfinished_part (bytes_of log) ≡ []
   pub to_come : (rest : List Sign) → strings (signs log ++ rest) ≡ behind_strings (strings_of log) (strings rest)

@@ -1,5 +1,5 @@
--- Control strings: which of them count, and with what text (ECMA-48 5.6). How far each goes is told by the rule by which the reader skips
--- it (ControlStrings), and what follows a string by the fronts of the reader (Functions).
+-- The control strings that count, and their texts (ECMA-48 5.6). ControlStrings says how far each goes, and Functions how the signs behind
+-- it are read.
 use Rattle.std.specs.Prelude.{ℕ, ◌+◌, ◌==◌, zero, suc, Bool, true, false, cond, if◌then◌else◌, List, [], ◌∷◌, ◌++◌, length, Option, None, Some}
 use Rattle.roam_text.specs.declared.kinds.Kind.{Kind}
 use Rattle.roam_text.specs.declared.kinds.Kind.TheVariants.{Bell, Escape, Upper, StringOpening, CommandOpening, StringTerminator}
@@ -27,7 +27,7 @@ string_kind c =
     if c == 0x9F then ApplicationProgram else
     DeviceControl
 
--- a control string that counts: what opened it, its characters, and how it ended (ECMA-48 5.6)
+-- a control string that counts: its introducer, its characters, and its end (ECMA-48 5.6)
 pub record ControlString : Type 0 where
   pub kind : StringKind
   pub text : List ℕ
@@ -55,12 +55,12 @@ one_string kind text ending = record { ended = record { kind = kind; text = text
 abbrev pub open_alone : StringKind → List ℕ → Strings
 open_alone kind text = record { ended = []; begun = Some (record { kind = kind; text = text }) }
 
--- ESC ends a string, which counts where 5C is the next character: the two are ST (ECMA-48 5.3)
+-- ESC ends a string, which counts if 5C is the next character: the two are ST (ECMA-48 5.3)
 abbrev pub after_escape : StringKind → List ℕ → List ℕ → Strings
 after_escape kind text [] = open_alone kind text
 after_escape kind text (c ∷ rest) = cond (c == 0x5C) (one_string kind text EscapedTerminator) no_strings
 
--- what ended a string with this text: at BEL, ST and ESC with 5C it counts, at CAN, SUB and another ESC it doesn't
+-- the end of a string with this text: it counts after BEL, ST, and ESC with 5C, and not after CAN, SUB or any other ESC
 abbrev pub string_end : StringKind → List ℕ → List Sign → Strings
 string_end kind text [] = open_alone kind text
 string_end kind text (Character Bell c ∷ rest) = one_string kind text EndBell
@@ -68,7 +68,7 @@ string_end kind text (Character StringTerminator c ∷ rest) = one_string kind t
 string_end kind text (Character Escape c ∷ rest) = after_escape kind text (characters rest)
 string_end kind text (s ∷ rest) = no_strings
 
--- the rest of a string of which this text has come, and which BEL ends too where bell is true
+-- the rest of a string whose text so far is this; BEL ends it too if bell is true
 abbrev pub string_from : Bool → StringKind → List ℕ → List Sign → Strings
 string_from bell kind text rest =
     string_end kind (text ++ characters (front_while (in_control_string bell) rest)) (rest_while (in_control_string bell) rest)
@@ -133,7 +133,7 @@ abbrev pub ended_so : StringEnd → Option OpenString → List ControlString
 ended_so ending None = []
 ended_so ending (Some s) = record { kind = s.kind; text = s.text; ending = ending } ∷ []
 
--- the strings after what a character did
+-- the strings after one step
 abbrev pub after_step : StringStep → Strings → Strings
 after_step Nothing s = s
 after_step (Opened kind) s = record { ended = s.ended; begun = Some (record { kind = kind; text = [] }) }
@@ -141,6 +141,6 @@ after_step (Added c) s = record { ended = s.ended; begun = with_character c s.be
 after_step (Ended ending) s = record { ended = s.ended ++ ended_so ending s.begun; begun = None }
 after_step BrokenOff s = record { ended = s.ended; begun = None }
 
--- the strings after what a byte did
+-- the strings after the steps of a byte
 abbrev pub after_steps : StringSteps → Strings → Strings
 after_steps steps s = after_step steps.later (after_step steps.first s)

@@ -10,8 +10,8 @@ use crate::functions::REPLACEMENT;
 use crate::strings::{StringPhase, StringStep, StringSteps, moved};
 use std::marker::Model;
 
-/// Reads the bytes that a program writes to its terminal, one at a time, and tells what each does to the control strings among them
-/// (ECMA-48, section 5.6). It keeps none of their text, takes no memory and refuses nothing.
+/// Reads the bytes that a program writes to its terminal, one at a time, and reports their effect on control strings (ECMA-48, section
+/// 5.6). It keeps no text, takes no memory and can't fail.
 #[derive(Drop)]
 pub struct StringReader {
     decoder: Decoder,
@@ -52,7 +52,7 @@ impl StringReader {
         moved.step
     }
 
-    /// Reads one byte, and tells what it did to the control strings: a caller keeps the kind and the characters of the one that is open.
+    /// Reads one byte, and returns its effect on the control strings. A caller keeps the kind and the characters of the open one.
     #[inline]
     pub fn next(&mut self, byte: u8) -> StringSteps
         ensures follows { (log : List Item) → Follows self.old log → Follows self.new (log ++ Byte byte ∷ []) }
@@ -76,7 +76,7 @@ impl StringReader {
         }
     }
 
-    /// Whether the next byte is read as if none had come before: no character, sequence or string is unfinished.
+    /// Returns true if the next byte is read as if none had come before: no character, sequence or string is unfinished.
     #[inline]
     pub fn is_at_rest(&self) -> bool
         ensures rests { IsTrue result → (log : List Item) → Follows self.now log → NoStringOpen log }

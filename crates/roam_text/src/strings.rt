@@ -1,5 +1,5 @@
-//! The control strings of a pane's bytes, which the terminal skips (ECMA-48, 5.6): a reader of its own, beside that of the functions, so
-//! that a terminal, which needs none of them, pays for none.
+//! The control strings of a pane's bytes, which the terminal skips (ECMA-48, 5.6). They have a reader of their own, so that a terminal,
+//! which needs none of them, pays for none.
 ghost use Rattle.std.specs.Prelude.{◌≡◌};
 ghost use Rattle.roam_text.specs.Strings.{string_kind};
 ghost use Rattle.roam_text.specs.StringPhases.{moved_by, moved_by_c1, moved_from_ground, moved_by_upper, moved_in_escape_sequence, moved_in_control_sequence, moved_in_control_string, moved_after_escape, broken_off};
@@ -32,11 +32,11 @@ pub enum StringEnd {
     EscapedTerminator,
 }
 
-/// What a character did to the control strings.
+/// The effect of a character on the control strings.
 #[derive(Clone, Copy)]
 pub enum StringStep {
     Nothing,
-    /// One of this kind was opened; what was open before it doesn't count.
+    /// A string of this kind was opened; an open one before it doesn't count.
     Opened(StringKind),
     /// The one that is open has this character more.
     Added(char),
@@ -46,7 +46,7 @@ pub enum StringStep {
     BrokenOff,
 }
 
-/// What a byte did to the control strings, by the characters that it settled, at most two.
+/// The effects of a byte on the control strings, by the characters that it settled, at most two.
 #[derive(Clone, Copy)]
 pub struct StringSteps {
     pub first: StringStep,
@@ -62,9 +62,9 @@ pub enum StringPhase {
     InEscapeSequence { bare: bool },
     /// After CSI.
     InControlSequence,
-    /// After the opening of a control string, which BEL ends too where `bell` is true.
+    /// After the opening of a control string, which BEL ends too if `bell` is true.
     InControlString { kind: StringKind, bell: bool },
-    /// After an ESC that ended such a string: it counts where 5C follows.
+    /// After an ESC that ended such a string: it counts if 5C follows.
     AfterEscape { kind: StringKind },
 }
 
@@ -88,7 +88,7 @@ fn string_kind(code: u32) -> StringKind
     }
 }
 
-// A phase, where the character did nothing.
+// Returns a phase for a character that had no effect.
 #[inline]
 fn quietly(phase: StringPhase) -> StringMove
     ensures phase { result.phase ≡ phase }

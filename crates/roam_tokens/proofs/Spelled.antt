@@ -67,7 +67,7 @@ no_number most text h = by (is_number most (digits_value 10 (without_leading_plu
         (without_leading_plus text)) both.0 both.1)
     by false e = refl
 
--- what is no text is no number
+-- bytes that are no text are no number
 pub no_text : {S E : Type 0} (most : ℕ) (text : List ℕ) (r : Result S E) (P : S → Type 0) (Q : E → Type 0) → most < 2 ^ 64
     → None ≡ result_ok r → MatchResult r P (λ e. (¬ (IsUtf8 text)) × Q e) → number_in most text ≡ None
 no_text most text (Ok s) P Q small none h = absurd cc
@@ -78,7 +78,7 @@ no_text most text (Err e) P Q small none h =
       small,
     ))))))
 
--- what doesn't parse is no number
+-- text that doesn't parse is no number
 pub no_parse : {E : Type 0} (most : ℕ) (text : List ℕ) (r : Result ℕ E) → most < 2 ^ 64 → None ≡ result_ok r
     → ParsesUnsigned 64 10 text r → number_in most text ≡ None
 no_parse most text r small none parses =

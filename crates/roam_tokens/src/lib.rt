@@ -1,5 +1,4 @@
-//! How numbers and ids are written in the lines of acts and scripts and in the words of the command line, and where a line is cut into
-//! words.
+//! Spelling of numbers and ids in the lines of acts and scripts and on the command line, and the first word of a line.
 #![tactic(auto)]
 
 mod numbers;

@@ -7,8 +7,8 @@ use itoa::Buffer;
 /// How many digits an id may have.
 const DIGITS: usize = 16;
 
-/// The number that a text writes in decimals, up to the greatest one allowed; a number has one spelling, so a plus or a leading zero makes
-/// none.
+/// Returns the number that a text spells in decimals, up to the greatest one allowed. A number has one spelling: a plus or a leading zero
+/// makes it none.
 pub fn number(text: &[u8], most: u64) -> Option<u64>
     ensures number { result ≡ number_in most text.now }
     ensures most { IfSome result (λ n. n ≤ most) }
@@ -22,7 +22,7 @@ pub fn number(text: &[u8], most: u64) -> Option<u64>
     }
 }
 
-/// The id that one to sixteen hexadecimal digits in either case write; none where a text is something else.
+/// Returns the id that one to sixteen hexadecimal digits of either case spell, and `None` for any other text.
 pub fn id(text: &[u8]) -> Option<u64>
     ensures id { result ≡ id_in text.now }
 {

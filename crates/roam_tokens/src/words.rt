@@ -10,7 +10,7 @@ fn space_in(text: &[u8]) -> Option<usize>
     text.iter().position(|byte| *byte == b' ')
 }
 
-/// What stands before the first space, and what follows it.
+/// Returns the bytes before the first space and those behind it, and `None` without a space.
 pub fn first_word(text: &[u8]) -> Option<(&[u8], &[u8])>
     ensures word { MatchOption result (first_word text.now ≡ None) (λ p. first_word text.now ≡ Some (p.0.now, p.1.now)) }
 {

@@ -214,7 +214,7 @@ module _ (s : Screenshot) (h : IsScreenshot s) where
               (both.0, ap is_wide (is (c - 1) (omega (arith, q))) ∙ both.1);
         }
 
-    -- what is true of the cell that stands at each place
+    -- a property of the cell at each place
     each : (P : Glyph → Type 0) → ((r c : ℕ) → P (at r c)) → (k : ℕ) → k < length cells → P (get_or cells k blank)
     each P there k p =
         let place = place_of part.rows part.cols k (omega (arith, p, length-table part.rows part.cols at)) in
@@ -286,7 +286,7 @@ module _ (s : Screenshot) (h : IsScreenshot s) where
           let zero : k ≡ 0 = omega (arith, one) in
           ap (λ (j : ℕ). get_or row (j * part.cols + c) blank) zero ∙ ap (λ (j : ℕ). get_or row j blank) (omega arith) ∙ stands c q
 
-      -- a row of the screen that the part has, as it stands
+      -- a row of the screen that the part has unchanged
       pub shared_row : row ≡ map (at r) (range_with_len 0 part.cols)
       shared_row =
           let f = λ (k c : ℕ). at r c in

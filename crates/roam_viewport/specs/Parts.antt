@@ -1,4 +1,4 @@
--- A part of a screen as a screen of its own: what a terminal of another size shows of it (this project's profile).
+-- A part of a screen as a screen of its own, as a terminal of another size shows it (this project's profile).
 use Rattle.std.specs.Prelude.{◌≡◌, ◌≤◌, ℕ, ◌+◌, ◌-◌, min, max, Bool, true, false, ◌&&◌, ◌||◌, ◌==◌, nat_lt, nat_le, List, [], ◌∷◌, if◌then◌else◌}
 use Rattle.roam_cells.specs.Glyph.{Glyph, is_wide, is_right_half, space_in, blank}
 use Rattle.roam_cells.specs.Limits.{IsSize}
@@ -19,11 +19,11 @@ abbrev pub is_masked : List Part → ℕ → ℕ → Bool
 is_masked [] r c = false
 is_masked (mask ∷ masks) r c = has_place mask r c || is_masked masks r c
 
--- what stands at a row and a column of a screen, from 0: outside of it a blank
+-- the cell at a row and a column of a screen, from 0; outside of it a blank
 abbrev pub glyph_or_blank : Screenshot → ℕ → ℕ → Glyph
 glyph_or_blank s r c = if nat_lt r s.rows && nat_lt c s.cols then cell_at s.cols s.cells r c else blank
 
--- a cell, whose left neighbour is left out or not, and its right one: of a wide character that is cut in two a space is left, in its style
+-- a cell whose left or right neighbour may be outside: a wide character that is cut in two becomes a space in its style
 abbrev pub cut_glyph : Bool → Bool → Glyph → Glyph
 cut_glyph left right g = if (left && is_right_half g) || (right && is_wide g) then space_in g else g
 
@@ -34,13 +34,13 @@ is_left_out masks r c = c == 0 || is_masked masks r (c - 1)
 abbrev pub is_right_out : ℕ → List Part → ℕ → ℕ → Bool
 is_right_out cols masks r c = c + 1 == cols || is_masked masks r (c + 1)
 
--- what stands at a row and a column of a part, from 0: what stands at that place of the screen; what is masked is blank
+-- the cell at a row and a column of a part, from 0: the screen's cell at that place; a masked cell is blank
 abbrev pub part_at : Part → List Part → Screenshot → ℕ → ℕ → Glyph
 part_at part masks s r c =
     if is_masked masks r c then blank
     else cut_glyph (is_left_out masks r c) (is_right_out part.cols masks r c) (glyph_or_blank s (part.row + r) (part.col + c))
 
--- where the cursor's row or column goes, from 1, in a part of so many from one on: one that is outside goes to its edge
+-- the cursor's row or column, from 1, in a part of so many from one on; a cursor that is outside goes to the edge
 abbrev pub cursor_in : ℕ → ℕ → ℕ → ℕ
 cursor_in from count at = max 1 (min count (at - from))
 
@@ -48,7 +48,7 @@ cursor_in from count at = max 1 (min count (at - from))
 abbrev pub is_inside : ℕ → ℕ → ℕ → Bool
 is_inside from count at = nat_lt from at && nat_le at (from + count)
 
--- a part of a screen; the cursor is hidden where it is outside
+-- a part of a screen; the cursor is hidden if it is outside
 abbrev pub part_of : Part → List Part → Screenshot → Screenshot
 part_of part masks s =
     record {
@@ -62,8 +62,8 @@ part_of part masks s =
 
 -- ---- the part with the cursor
 
--- where a part of so many begins that has the cursor, given where it began and how many the screen has: where it began, where that is
--- within the screen and has the cursor; else as near to it as may be
+-- The beginning of a part of so many that has the cursor, by its old beginning and the length of the screen. The beginning stays if it is
+-- within the screen and the part has the cursor; else it moves as little as possible.
 abbrev pub following : ℕ → ℕ → ℕ → ℕ → ℕ
 following from count all at = max (at - count) (min (at - 1) (min from (all - count)))
 
@@ -87,7 +87,7 @@ FollowedHasCursor =
 abbrev pub distance : ℕ → ℕ → ℕ
 distance a b = (a - b) + (b - a)
 
--- It moves as little as may be: no other beginning that has the cursor is nearer to one that lies within the screen.
+-- It moves as little as possible: no other beginning that has the cursor is nearer to one within the screen.
 abbrev pub FollowedIsNear : Type 0
 FollowedIsNear =
     (from count all at other : ℕ) → from ≤ all - count → 1 ≤ at → at ≤ all → is_inside other count at ≡ true

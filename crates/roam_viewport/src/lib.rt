@@ -1,4 +1,4 @@
-//! A part of a screen as a screen of its own, for a terminal of another size, with what of that terminal is left as it is.
+//! A part of a screen as a screen of its own, for a terminal of another size, with masked cells that are left as they are.
 #![tactic(auto)]
 
 pub mod laws;

@@ -1,4 +1,4 @@
-//! Which part of a screen is shown, and what it looks like.
+//! The part of a screen that is shown, and its cells.
 ghost use Rattle.std.specs.Prelude.{◌≡◌, ◌<◌, ◌+◌, ◌++◌, ◌&&◌, ◌||◌, map, true, [], length, max, min, OnOk, IfOk, IfErr, IsErrOf, IsOkUnless, ◌⊎◌, ◌↔◌};
 ghost use Rattle.std.specs.List.{range_with_len};
 ghost use Rattle.roam_cells.specs.Glyph.{blank};
@@ -25,7 +25,8 @@ pub struct Part {
     pub cols: u16,
 }
 
-// Where a part of so many begins that has the cursor, whose row or column counts from 1; it began there before, and all are so many.
+// Returns the beginning of a part of so many that has the cursor. The cursor's row or column counts from 1; the part began at `from`, and
+// the screen has `all`.
 fn following(from: u16, count: u16, all: u16, at: u16) -> u16
     ensures following { result ≡ following from count all at }
 {
@@ -34,7 +35,7 @@ fn following(from: u16, count: u16, all: u16, at: u16) -> u16
         .max(at.saturating_sub(1).min(within))
 }
 
-// Whether a row or a column, from 0, is one of so many from one on.
+// Returns true if a row or a column, from 0, is one of so many from one on.
 fn is_among(from: u16, count: u16, at: u32) -> bool
     ensures among { result ≡ is_among from count at }
 {
@@ -42,15 +43,15 @@ fn is_among(from: u16, count: u16, at: u32) -> bool
 }
 
 impl Part {
-    /// Whether it has a place, given by its row and its column, both from 0.
+    /// Returns true if it has a place, by its row and column from 0.
     pub fn has_place(&self, row: u32, col: u32) -> bool
         ensures has { result ≡ has_place self.now row col }
     {
         is_among(self.row, self.rows, row) && is_among(self.col, self.cols, col)
     }
 
-    /// The part of its size that has the cursor of a screen: this one, or as near to it as may be. It lies within the screen where that is
-    /// large enough.
+    /// Returns the part of this size that has the cursor of a screen: this part, or one as near to it as possible. It is within the screen
+    /// if that is large enough.
     pub fn followed<S: Seen>(&self, shot: &S) -> Part
         ensures followed { result ≡ followed self.now (S.screen shot.now) }
     {
@@ -71,7 +72,7 @@ fn cursor_in(from: u16, count: u16, at: u16) -> u16
     at.saturating_sub(from).min(count).max(1)
 }
 
-// Whether it is inside.
+// Returns true if it is inside.
 fn is_inside(from: u16, count: u16, at: u16) -> bool
     ensures inside { result ≡ is_inside from count at }
 {
@@ -96,7 +97,7 @@ impl Part {
     }
 }
 
-// Whether one of these parts has a place.
+// Returns true if one of these parts has a place.
 fn is_masked(masks: &[Part], row: u32, col: u32) -> bool
     ensures masked { result ≡ is_masked masks.now row col }
 {
@@ -106,7 +107,7 @@ fn is_masked(masks: &[Part], row: u32, col: u32) -> bool
     first.has_place(row, col) || is_masked(others, row, col)
 }
 
-// What stands at a row and a column of a screen, from 0: outside of it a blank.
+// Returns the cell at a row and a column of a screen, from 0; outside of it a blank.
 #[tactic(auto, using(roam_screens::proofs::Lined::row_at))]
 fn cell_or_blank(shot: &RowShot, row: u32, col: u32) -> Cell
     ensures cell { result ≡ glyph_or_blank shot.now row col }
@@ -138,7 +139,7 @@ struct View<'a> {
 }
 
 impl<'a> View<'a> {
-    // What stands at a row and a column of the part, from 0.
+    // Returns the cell at a row and a column of the part, from 0.
     fn cell(&self, row: u16, col: u16) -> Cell
         ensures cell { result ≡ part_at self.now.part self.now.masks.now self.now.shot.now row col }
     {
@@ -156,7 +157,7 @@ impl<'a> View<'a> {
         cut_cell(left, right, cell)
     }
 
-    // Whether a row of the part is a row of the screen.
+    // Returns true if a row of the part is a row of the screen.
     fn is_shared(&self, row: u16) -> bool
         ensures shared { result ≡ true → (self.now.masks.now ≡ []) × (self.now.part.col ≡ 0) × (self.now.part.cols ≡ self.now.shot.now.cols)
             × (self.now.part.row + row < self.now.shot.now.rows) }
@@ -180,7 +181,7 @@ impl<'a> View<'a> {
         Ok(cells)
     }
 
-    // A row of the part, which is shared with the screen where it is a row of that.
+    // Returns a row of the part, shared with the screen if it is a row of that.
     fn line(&self, alloc: Global, row: u16) -> Result<Line, AllocError>
         ensures line { IfOk result (λ line. line
             ≡ map (part_at self.now.part self.now.masks.now self.now.shot.now row) (range_with_len 0 self.now.part.cols)) }
@@ -207,9 +208,9 @@ impl<'a> View<'a> {
     }
 }
 
-/// A part of a screen as a screen of its own: outside of the screen it is blank, and so are places that are masked; of a wide character
-/// that is cut in two a space is left, in its style; the cursor is hidden where it is outside. Rows that are the screen's are shared with
-/// it.
+/// Returns a part of a screen as a screen of its own. Places outside of the screen and masked places are blank. A wide character that is
+/// cut in two becomes a space in its style. The cursor is hidden if it is outside. Rows of the screen are shared with it.
+///
 /// `BadSize` for a part outside 2 to 200 rows or 4 to 500 columns, `OutOfMemory`.
 pub fn part_of(alloc: Global, shot: &RowShot, part: Part, masks: &[Part]) -> Result<RowShot, Fault>
     ensures part { IfOk result (λ shown. shown ≡ part_of part masks.now shot.now) }

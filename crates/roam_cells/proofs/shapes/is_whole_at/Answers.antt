@@ -12,7 +12,7 @@ wide_no_half : (points : List ℕ) → is_wide_text points ≡ true → is_empty
 wide_no_half [] h = absurd (false≢true h)
 wide_no_half (p ∷ ps) h = refl
 
--- what is read at the place of a row and a column
+-- the cell read at the place of a row and a column
 read_at : (rows cols row col k : ℕ) (cells : List Glyph) (x : Glyph) → length cells ≡ rows * cols → row < rows → col < cols
     → k ≡ row * cols + col → x ≡ get_or cells k x → x ≡ cell_at cols cells row col
 read_at rows cols row col k cells x count p q e is =

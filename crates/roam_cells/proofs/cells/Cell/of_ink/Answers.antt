@@ -29,7 +29,7 @@ kept_is c =
           ]
     ]
 
--- what is kept of them is all of them
+-- the kept points are all points
 front : (c : Joined-count-gt2) → take (length c.args.points.now) c.if-count-gt2.kept ≡ c.args.points.now
 front c =
     let ps = c.args.points.now in

@@ -6,7 +6,7 @@ use Rattle.roam_cells.specs.Inks.{InkValue}
 use Rattle.roam_cells.proofs.Joining.{at_end, from_some, from_none, joined_of, room_for_one, text_few}
 use Rattle.roam_cells.proofs.cells.Cell.with_point.Goals as goal
 
--- what is put before the rest has a place for one more
+-- a list with a point put before the rest has a place for one more
 place_for_one : (new zs : List ℕ) (n c : ℕ) → n < length zs → length new ≡ length (take n zs) → n + 1 ≤ length (set (new ++ drop n zs) n c)
 place_for_one new zs n c room len =
     let front = len ∙ length-take-le n zs (omega arith) in
