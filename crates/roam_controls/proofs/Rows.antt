@@ -1,4 +1,4 @@
--- What a parameter of SGR sets is the aspect that its row of the tables has.
+-- A parameter of SGR sets the aspect in its row of the tables.
 use Rattle.std.proofs.Common.{◌≡◌, ℕ, zero, suc, ◌<◌, ◌≤◌, Bool, true, ◌&&◌, ◌==◌, inl, inr, refl, arith, subst, eqb-true}
 use Rattle.std.proofs.lemmas.Bool.{and_parts, cases_lt}
 use Rattle.std.proofs.lemmas.Bool.Decides.{nat_tests}

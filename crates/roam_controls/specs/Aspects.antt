@@ -1,4 +1,4 @@
--- SGR's aspects with no numbers of their own (ECMA-48, section 8.3.117) as aspects of an ink: `with_aspect` is what they show.
+-- SGR's aspects without further numbers (ECMA-48, section 8.3.117) as aspects of an ink: `with_aspect` is their effect.
 use Rattle.std.specs.Prelude.{ℕ, ◌-◌, ◌==◌, ◌&&◌, nat_le, true, false, if◌then◌else◌}
 use Rattle.roam_cells.specs.Aspects.{Aspect, Unchanged, Plain, Flagged, NeitherBoldNorFaint, Front, Back, Bold, Faint, Italic, Underline, Blink, Reverse, Conceal, Strike}
 use Rattle.roam_cells.specs.declared.styles.Colour.TheVariants.{Default, Index}

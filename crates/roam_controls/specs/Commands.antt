@@ -1,4 +1,4 @@
--- The table of control functions: what each function asks for, group by group.
+-- The table of control functions: the command of each function, group by group.
 use Rattle.std.specs.Prelude.{ℕ, ◌==◌, if◌then◌else◌, Bool, true, false, List, [], ◌∷◌, Option, Some, None}
 use Rattle.roam_text.specs.declared.functions.Function.{Function}
 use Rattle.roam_text.specs.declared.functions.Function.TheVariants.{Print, C0, C1, Esc, Csi, Size}
@@ -18,7 +18,7 @@ use Rattle.roam_controls.specs.Shifts.{c0_shift, c1_shift, locking_shift, design
 use Rattle.roam_controls.specs.Settings.{c1_setting, setting_of, private_setting, quoted_setting, exclaimed_setting, escape_setting}
 use Rattle.roam_controls.specs.Reports.{report_of, private_report, secondary_report}
 
--- what a group asks for, and else another command
+-- the command of a group, else another command
 abbrev pub or_move : Option Motion → Command → Command
 or_move (Some motion) other = Moves motion
 or_move None other = other
@@ -92,7 +92,7 @@ sequence_command None params (i ∷ []) b = intermediate_command i params b
 sequence_command (Some marker) params (i ∷ []) b = Nothing
 sequence_command marker params (i ∷ j ∷ more) b = Nothing
 
--- what a function asks for; one that is not listed asks for nothing
+-- the command of a function; one that is not listed has none
 abbrev pub command_of : Function → Command
 command_of (Print c) = Prints c
 command_of (C0 b) = c0_command b

@@ -6,7 +6,7 @@ use Rattle.roam_controls.specs.declared.erasures.Erasure.{Erasure}
 use Rattle.roam_controls.specs.declared.erasures.Erasure.TheVariants.{InPage, InLine, SelectivelyInPage, SelectivelyInLine, Cells}
 use Rattle.roam_controls.specs.Parameters.{first, count}
 
--- what a parameter of ED and EL selects (ECMA-48, sections 8.3.39 and 8.3.41); another one selects nothing
+-- the extent of a parameter of ED and EL (ECMA-48, sections 8.3.39 and 8.3.41); another one has none
 abbrev pub extent_of : ℕ → Option Extent
 extent_of p =
     if p == 0 then Some ToEnd

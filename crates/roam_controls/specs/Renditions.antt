@@ -1,4 +1,4 @@
--- SGR: what its parameters make of a style (ECMA-48, section 8.3.117; the indexed colours of ISO 8613-6).
+-- SGR: the effect of its parameters on a style (ECMA-48, section 8.3.117; the indexed colours of ISO 8613-6).
 use Rattle.std.specs.Prelude.{ℕ, ◌-◌, ◌==◌, ◌&&◌, nat_le, true, false, if◌then◌else◌, List, fold}
 use Rattle.roam_cells.specs.Glyph.{default_style}
 use Rattle.roam_cells.specs.declared.styles.Style.{Style}
@@ -9,7 +9,7 @@ use Rattle.roam_controls.specs.declared.renditions.Layer.TheVariants.{Foreground
 use Rattle.roam_controls.specs.declared.renditions.Awaited.{Awaited}
 use Rattle.roam_controls.specs.declared.renditions.Awaited.TheVariants.{Aspect, ColourSpace, ColourIndex, Red, Green, Blue, Nothing}
 
--- a style while SGR's parameters are read, and what the next one is
+-- a style while SGR's parameters are read, and the meaning of the next one
 pub record Rendition : Type 0 where
   pub style : Style
   pub awaited : Awaited
@@ -32,7 +32,7 @@ with_colour p g =
     else if (nat_le 100 p && nat_le p 107) then record g { background = Index (p - 92) }
     else g
 
--- 21 to 29: what ends an aspect, but for 21, which underlines twice and is taken as underlining (this project's profile)
+-- 21 to 29: the end of an aspect, except for 21, which underlines twice and is taken as underlining (this project's profile)
 abbrev pub without_aspect : ℕ → Style → Style
 without_aspect p g =
     if p == 21 then record g { underline = true }
@@ -59,13 +59,13 @@ with_aspect p g =
     else if p == 9 then record g { strike = true }
     else without_aspect p g
 
--- a mixture of three numbers; where one is above 255 nothing changes (this project's profile)
+-- a mixture of three numbers; if one is above 255 nothing changes (this project's profile)
 abbrev pub mixed_style : Layer → ℕ → ℕ → ℕ → Style → Style
 mixed_style layer red green blue g =
     if nat_le red 255 && (nat_le green 255 && nat_le blue 255) then coloured_style layer (Rgb red green blue) g else g
 
--- one more parameter: an aspect, or a number that 38 or 48 awaits: 5 and an index up to 255, or 2 and the numbers of red, green and blue;
--- otherwise the rest of the sequence says nothing (this project's profile)
+-- One more parameter: an aspect, or a number that 38 or 48 awaits. That is 5 and an index up to 255, or 2 and the numbers of red, green and
+-- blue. Otherwise the rest of the sequence has no effect (this project's profile).
 abbrev pub read_as : Awaited → Rendition → ℕ → Rendition
 read_as Aspect r p =
     if p == 38 then record r { awaited = ColourSpace Foreground }

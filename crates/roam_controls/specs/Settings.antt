@@ -1,4 +1,4 @@
--- What stays set: which function asks for it.
+-- Settings, and the functions that ask for them.
 use Rattle.std.specs.Prelude.{ℕ, ◌==◌, true, false, if◌then◌else◌, List, Option, Some, None}
 use Rattle.roam_controls.specs.declared.settings.Setting.{Setting}
 use Rattle.roam_controls.specs.declared.settings.Setting.TheVariants.{Mode, PrivateMode, Rendition, Margins, Guard, Keypad, Save, Restore, SoftReset, Reset, SetStop, ClearStop, ClearStops}
@@ -8,7 +8,7 @@ use Rattle.roam_controls.specs.Parameters.{first, second, count}
 abbrev pub c1_setting : ℕ → Option Setting
 c1_setting b = if b == 0x88 then Some SetStop else None
 
--- what a parameter of TBC selects (ECMA-48, section 8.3.154): another one selects nothing
+-- the setting of a parameter of TBC (ECMA-48, section 8.3.154); another one has none
 abbrev pub cleared_of : ℕ → Option Setting
 cleared_of p =
     if p == 0 then Some ClearStop
@@ -32,7 +32,7 @@ private_setting b =
     else if b == 0x6C then Some (PrivateMode false)
     else None
 
--- what a parameter of DECSCA says (VT220): 0 and 2 end the guard, 1 begins it
+-- the guard by a parameter of DECSCA (VT220): 0 and 2 end the guard, 1 begins it
 abbrev pub guard_of : ℕ → Option Setting
 guard_of p =
     if p == 0 then Some (Guard false)

@@ -1,4 +1,4 @@
-//! What a function asks for, by the table of control functions.
+//! The command of a function, by the table of control functions.
 ghost use Rattle.std.specs.Prelude.{◌≡◌};
 ghost use Rattle.roam_text.specs.Dispatched.{function_of};
 ghost use Rattle.roam_controls.specs.Commands.{c0_command, c1_command, marked_escape, escape_command, plain_command, marked_command, intermediate_command, sequence_command, command_of, forgets};
@@ -15,7 +15,7 @@ use crate::settings::{
 use crate::shifts::{Shift, c0_shift, c1_shift, designation_of, locking_shift};
 use roam_text::Dispatch;
 
-/// What a function asks for; a function that isn't listed asks for nothing.
+/// The command of a function; a function that isn't listed has none.
 #[derive(Clone, Copy)]
 pub enum Command {
     Nothing,
@@ -31,7 +31,7 @@ pub enum Command {
 }
 
 impl Command {
-    /// Whether REP forgets its character by this command.
+    /// Returns true if REP forgets its character by this command.
     #[inline]
     pub fn forgets(self) -> bool
         ensures forgets { result ≡ forgets self }
@@ -185,7 +185,7 @@ fn sequence_command(marker: Option<u8>, params: &[u16], intermediates: &[u8], la
     }
 }
 
-/// What a dispatched function asks for, with the parameters and intermediate bytes that the reader lends.
+/// Returns the command of a dispatched function, with the parameters and intermediate bytes that the reader lends.
 pub fn command_of(dispatch: Dispatch, params: &[u16], intermediates: &[u8]) -> Command
     ensures command { result ≡ command_of (function_of dispatch params.now intermediates.now) }
 {

@@ -4,7 +4,7 @@ ghost use Rattle.roam_controls.specs.Edits.{edit_of, hash_edit};
 
 use crate::parameters::first_count;
 
-/// What comes in, goes out or scrolls, so many times; `Align` fills the screen.
+/// Cells or lines that come in, go out or scroll, so many times; `Align` fills the screen.
 #[derive(Clone, Copy)]
 pub enum Edit {
     InsertCells(u16),

@@ -5,7 +5,7 @@ ghost use Rattle.roam_controls.specs.Erasures.{extent_of, erasure_of, private_er
 use crate::parameters::{first, first_count};
 use roam_cells::Extent;
 
-/// What becomes blank.
+/// The places that become blank.
 #[derive(Clone, Copy)]
 pub enum Erasure {
     InPage(Extent),

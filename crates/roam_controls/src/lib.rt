@@ -1,7 +1,7 @@
-//! The table of control functions: what each function of ECMA-48 (5th edition) and of the VT220 asks for, in this project's profile.
+//! The table of control functions: the command of each function of ECMA-48 (5th edition) and of the VT220, in this project's profile.
 //!
-//! A function becomes a `Command`, a small value by groups; who performs it never sees a number of the table. A function that the
-//! table doesn't list asks for nothing. `restyled` is SGR, a fold over its parameters.
+//! A function becomes a `Command`, a small value by groups, so that its caller never sees a number of the table. A function that the table
+//! doesn't list has no command. `restyled` is SGR, a fold over its parameters.
 #![tactic(auto)]
 
 mod commands;

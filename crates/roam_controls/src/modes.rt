@@ -1,4 +1,4 @@
-//! Modes: what is switched on.
+//! Modes that are set.
 ghost use Rattle.std.specs.Prelude.{◌≡◌};
 ghost use Rattle.roam_controls.specs.Modes.{started_modes, with_mode, with_private_mode, soft_reset_modes};
 

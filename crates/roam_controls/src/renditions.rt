@@ -6,14 +6,14 @@ ghost use Rattle.roam_controls.specs.Renditions.{Rendition, coloured_style, mixe
 
 use roam_cells::{Colour, Ink};
 
-/// What a colour is of.
+/// The layer of a colour.
 #[derive(Clone, Copy)]
 pub enum Layer {
     Foreground,
     Background,
 }
 
-/// What the next parameter of SGR is.
+/// The meaning of the next parameter of SGR.
 #[derive(Clone, Copy)]
 pub enum Awaited {
     Aspect,
@@ -25,7 +25,7 @@ pub enum Awaited {
     Green(Layer, u16),
     /// How much blue, after the red and the green.
     Blue(Layer, u16, u16),
-    /// What follows says nothing.
+    /// The rest has no effect.
     Nothing,
 }
 
@@ -165,8 +165,8 @@ impl Restyling {
         }
     }
 
-    // Reads a parameter, and with it those that tell the colour which it begins, where they are there: then no test of what is awaited
-    // stands between them. It tells where the next one is.
+    // Reads a parameter, and with it those of the colour that it begins, if they are there: then no test of the awaited meaning is between
+    // them. Returns the place of the next one.
     #[inline]
     fn read_some(&mut self, params: &[u16], at: usize) -> usize
         requires at_in { at < length params.now }
@@ -200,8 +200,8 @@ impl Restyling {
     }
 }
 
-/// The ink that SGR's parameters make of this one (ECMA-48 8.3.117): they are read from the first on, each after what those before it
-/// left to be read, and change the style; the guard stays.
+/// Returns the ink that SGR's parameters make of this one (ECMA-48 8.3.117). They are read from the first on, each after those before it,
+/// and change the style; the guard stays.
 pub fn restyled(ink: Ink, params: &[u16]) -> Ink
     ensures styled { result ≡ record ink { style = styled_by params.now ink.style } }
 {

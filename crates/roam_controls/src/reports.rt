@@ -4,7 +4,7 @@ ghost use Rattle.roam_controls.specs.Reports.{status_report, report_of, private_
 
 use crate::parameters::first;
 
-/// What is answered.
+/// The report to answer.
 #[derive(Clone, Copy)]
 pub enum Report {
     Status,
@@ -24,7 +24,7 @@ fn status_report(param: u16) -> Option<Report>
     }
 }
 
-// The report, where the parameter is the one that asks for it.
+// Returns the report, if the parameter asks for it.
 fn report_at(param: u16, wanted: u16, report: Report) -> Option<Report>
     ensures report { result ≡ (if param == wanted then Some report else None) }
 {

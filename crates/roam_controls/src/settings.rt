@@ -1,10 +1,10 @@
-//! What stays set: modes, renditions, margins, the guard, the keypad; which function asks for which.
+//! Settings: modes, renditions, margins, the guard, the keypad; and the functions that ask for them.
 ghost use Rattle.std.specs.Prelude.{◌≡◌};
 ghost use Rattle.roam_controls.specs.Settings.{c1_setting, cleared_of, setting_of, private_setting, guard_of, quoted_setting, exclaimed_setting, escape_setting};
 
 use crate::parameters::{first, first_count, second};
 
-/// What is set. Margins are rows from 1; a bottom margin of 0 is the last row.
+/// The setting to change. Margins are rows from 1; a bottom margin of 0 is the last row.
 #[derive(Clone, Copy)]
 pub enum Setting {
     Mode(bool),

@@ -4,7 +4,7 @@ ghost use Rattle.roam_controls.specs.Shifts.{c0_shift, c1_shift, locking_shift, 
 
 use roam_charset::{Charset, Element};
 
-/// What changes of the graphic sets.
+/// The change of the graphic sets.
 #[derive(Clone, Copy)]
 pub enum Shift {
     Locking(Element),

@@ -48,7 +48,7 @@ same_row r row e = grind (arith, common_steps)
 pub other_row : (r row : ℕ) → r ≢ row → eqb r row ≡ false
 other_row r row ne = grind (arith, common_steps)
 
--- one mark is put on where a test says so
+-- one mark is put on if a test says so
 pub one_marked : (marks : List Bool) (row : ℕ) (on now : Bool) → length marks ≡ 200 → row < 200 → now ≡ (is_marked marks row || on) → set marks row now ≡ also_marked (λ r. eqb r row && on) marks
 one_marked marks row on now len row_in now_is =
     marks_are (λ r. eqb r row && on) marks (set marks row now) (length-set marks row now ∙ len) (λ r h.
@@ -78,7 +78,7 @@ row_is_marked marks row len row_in =
     one_marked marks row true true len row_in (sym (or_true (is_marked marks row)))
     ∙ marked_same (λ r. eqb r row && true) (λ r. eqb r row) marks (λ r h. and_true (eqb r row))
 
--- what stands in a list of marks that are put on from one row on and before another
+-- an element of a list of marks that are put on from one row on and before another
 module _ (marks : List Bool) (a m r : ℕ) where
   put_before : a + m ≤ length marks → r < a → get_or (put_mid a m marks (replicate m true)) r false ≡ get_or marks r false
   put_before h p = grind (arith, places)

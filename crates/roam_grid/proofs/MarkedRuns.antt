@@ -22,11 +22,11 @@ unfolding made_way
 made_by n w s true e = ap (λ b. (cond b (mapped_screen (in_row s.row (insertion_source s.col n)) s) s).row) e
 made_by n w s false e = ap (λ b. (cond b (mapped_screen (in_row s.row (insertion_source s.col n)) s) s).row) e
 
--- the cursor's row stays where way is made
+-- the cursor's row stays when cells make way
 pub made_row : (n : ℕ) (w : Writing) (s : Screen) → (made_way n w s).row ≡ s.row
 made_row n w s = made_by n w s w.inserts refl
 
--- nothing is marked where no wrap pends
+-- nothing is marked if no wrap is pending
 pub marks_settled_same : (s : Screen) (marks : List Bool) → s.pending ≡ false → marks_settled s marks ≡ marks
 unfolding marks_settled
 marks_settled_same s marks e = ap (λ b. cond b (marks_indexed s marks) marks) e
@@ -95,7 +95,7 @@ module _ (n : ℕ) (w : Writing) (s : Screen) (marks : List Bool) (wide : 4 ≤ 
       ∙ cond_and tests (eqb s.row s.bottom) (marks_scrolled 1 s marks) marks
       ∙ sym (ap (λ b. cond (eqb s.row s.bottom && cond b true tests) (marks_scrolled 1 s marks) marks) e)
 
-  -- rows go up where one leaves
+  -- rows go up if one leaves
   pub marks_steps : marks_with_room n w (wrap_done s) (marks_settled s marks) ≡ cond (leaves_row n w s) (marks_scrolled 1 s marks) marks
   marks_steps = by_pending s.pending refl
 

@@ -43,7 +43,7 @@ pub or_none : (a b : Bool) → (a || b) ≡ false → b ≡ false
 or_none true b e = absurd (false≢true (sym e))
 or_none false b e = e
 
--- where a test names the rows
+-- the case that a test names the rows
 pub named_by : (s : Screen) (source : ℕ → ℕ → Source) (names : ℕ → Bool) (marks : List Bool) → s.rows ≤ 200
     → ((r : ℕ) → r < s.rows → names r ≡ true → IsNamed s.cols source r)
     → ((r c : ℕ) → r < s.rows → c < s.cols → names r ≡ false → source r c ≡ From r c)
@@ -54,7 +54,7 @@ named_by s source names marks few on off = record {
   rest = λ r c p q f. off r c p q (or_none (is_marked marks r) (names r) (sym (marked_at names marks r (omega (arith, few, p))) ∙ f));
 }
 
--- where each place takes itself
+-- the case that each place takes itself
 pub named_none : (s : Screen) (source : ℕ → ℕ → Source) (marks : List Bool) → ((r c : ℕ) → r < s.rows → c < s.cols → source r c ≡ From r c) → AreNamedMarked s source marks marks
 named_none s source marks all = record {
   stay = λ r h e. e;
@@ -74,7 +74,7 @@ is_zero n h = grind (arith, common_steps)
 is_some : (n : ℕ) → eqb n 0 ≡ false → 0 < n
 is_some n h = grind (arith, common_steps)
 
--- where rows move by n
+-- the case that rows move by n
 moved_by : (s : Screen) (source : ℕ → ℕ → Source) (n from to : ℕ) (marks : List Bool) → s.rows ≤ 200
     → (n ≡ 0 → (r c : ℕ) → r < s.rows → c < s.cols → source r c ≡ From r c)
     → (0 < n → (r : ℕ) → r < s.rows → from ≤ r → r < to → IsNamed s.cols source r)
@@ -191,7 +191,7 @@ module _ (s : Screen) (marks : List Bool) (is : IsScreen s) where
       (moved_by s (down s.row s.bottom n) n s.row (s.bottom + 1) marks few (λ e r c p q. down_none s.row s.bottom n r c e)
       (λ pos r p a b. down_named s.cols s.row s.bottom n r some pos a b) (λ r c p q out. down_out s.row s.bottom n r c out) (eqb n 0) refl)
 
-  -- a map of the cursor's row that is the row itself where n is 0
+  -- a map of the cursor's row that is the row itself if n is 0
   cells_by : (n : ℕ) (one : ℕ → RowSource) → (n ≡ 0 → (c : ℕ) → c < s.cols → one c ≡ Column c) → (0 < n → at_row s.row (one s.col) ≢ From s.row s.col)
       → AreNamedMarked s (in_row s.row one) marks (marks_cells_moved n s marks)
   cells_by n one none on =

@@ -34,7 +34,7 @@ or_neither : (a b : Bool) → (a || b) ≡ false → (a ≡ false) × (b ≡ fal
 or_neither true b h = absurd (false≢true (sym h))
 or_neither false b h = (refl, h)
 
--- what a part of a row holds
+-- a part of a row
 module _ (cols from to r : ℕ) (cells : List Glyph) (to_in : to ≤ cols) (size : (r + 1) * cols ≤ length cells) where
   abbrev part : List Glyph
   part = slice_range (row_of cols cells r) from to

@@ -75,7 +75,7 @@ module _ (n : ℕ) (w : Writing) (s : Screen) (first : ℕ) (wide : 4 ≤ s.cols
       ∙ cond_and tests (eqb s.row s.bottom) (first_scrolled_up 1 s first) first
       ∙ sym (ap (λ b. cond (eqb s.row s.bottom && cond b true tests) (first_scrolled_up 1 s first) first) e)
 
-  -- the first row goes on where a row leaves
+  -- the first row moves if a row leaves
   pub first_steps : first_with_room n w (wrap_done s) (first_settled s first) ≡ cond (leaves_row n w s) (first_scrolled_up 1 s first) first
   first_steps = by_pending s.pending refl
 
@@ -106,7 +106,7 @@ settled_cols s = settled_cols_by s s.pending refl
 pub not_edge : (n col cols : ℕ) → col + n < cols → (eqb n 2 && eqb (col + 1) cols) ≡ false
 not_edge n col cols room = grind (arith, common_steps)
 
--- a cell that has room after it, with no wrap pending, is written where the cursor is
+-- a cell that has room after it, with no wrap pending, is written at the cursor
 pub put_inside : (x : Glyph) (w : Writing) (s : Screen) → w.inserts ≡ false → s.pending ≡ false → s.col + columns x < s.cols
     → put_on x w s ≡ after_advance (columns x) w (after_ink x s)
 unfolding put_on with_room made_way

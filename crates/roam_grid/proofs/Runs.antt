@@ -28,7 +28,7 @@ use Rattle.roam_grid.proofs.Puts.{settled_same, put_settled, first_put_settled}
 abbrev pub AreNarrow : List Glyph → Type 0
 AreNarrow gs = (k : ℕ) → IsNarrow (glyph_at gs k)
 
--- what cells of one column over a range of a row leave
+-- the row after cells of one column are written over a range of it
 module _ (f : ℕ → Glyph) (from to : ℕ) (row : List Glyph) (narrow : (c : ℕ) → IsNarrow (f c)) (whole : IsWholeRow row) (some : from < to) where
   abbrev parted_row : List Glyph
   parted_row = map (λ c. mended_glyph (glyph_at row c) (not (cut_twice from to (c + 1))) (not (cut_twice from to c))) (range_with_len 0 (length row))
@@ -145,7 +145,7 @@ module _ (rows cols R : ℕ) (cells : List Glyph) (whole : AreWhole rows cols ce
   pub row_of_whole : IsWholeRow (row_of cols cells R)
   row_of_whole = row_whole rows cols R cells (row_of cols cells R) R_in whole row_len row_same
 
-  -- what a map of one row shows, there and elsewhere
+  -- the result of a map of one row, in that row and elsewhere
   here : (one : ℕ → RowSource) → ((c : ℕ) → c < cols → IsInRow cols (one c)) → (c : ℕ) → c < cols
       → cell_at cols (mapped_cells rows cols cells (in_row R one)) R c ≡ glyph_at (row_moved (row_of cols cells R) one) c
   here one stays c q = moved_here rows cols R cells (row_of cols cells R) row_len row_same one stays R_in c q

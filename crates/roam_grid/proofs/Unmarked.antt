@@ -1,4 +1,4 @@
--- A row without a mark shows what it showed.
+-- A row without a mark shows the same cells as before.
 use Rattle.std.proofs.Common.{◌≡◌, ℕ, ◌+◌, ◌<◌, Bool, true, false, cond, eqb, List, refl, sym, ap, subst, ◌∙◌}
 use Rattle.roam_cells.specs.Glyph.{blank}
 use Rattle.roam_cells.specs.Place.{cell_at, AreWhole}

@@ -1,4 +1,4 @@
--- A row without a mark shows what it showed where cells are written, one or many, and where a code point joins one.
+-- A row without a mark shows the same cells as before when cells are written, one or many, and when a code point joins one.
 use Rattle.std.proofs.Common.{◌≡◌, ◌≢◌, ℕ, suc, ◌+◌, ◌-◌, ◌*◌, ◌<◌, ◌≤◌, ◌⊎◌, inl, inr, Bool, true, false, ◌&&◌, ◌||◌, cond, eqb, ltb, leb, List, [], ◌∷◌, ◌++◌, length, get_or, set, refl, sym, ap, ◌∙◌, arith, length-append, get_or-set_same, get_or-set_other}
 use Rattle.std.proofs.lemmas.Bool.{false≢true, cases_eq, cases_lt}
 use Rattle.std.proofs.lemmas.Nat.{same_from_place}
@@ -28,14 +28,14 @@ use Rattle.roam_grid.proofs.Named.{or_none, out_range, up_out, up_moves, up_blan
 use Rattle.roam_grid.proofs.Runs.{in_row_whole, row_of, row_of_whole}
 use Rattle.roam_grid.proofs.Unmarked.{row_same, unchanged}
 
--- what the steps of writing need of a screen
+-- the requirements of the steps of writing to a screen
 record IsSound (s : Screen) : Type 0 where
   few : s.rows ≤ 200
   row_in : s.row < s.rows
   bottom_in : s.bottom < s.rows
   whole : AreWhole s.rows s.cols s.cells
 
--- a step, and what it keeps
+-- a step, and the parts that it keeps
 record Goes (s t : Screen) (m k : List Bool) : Type 0 where
   rows : t.rows ≡ s.rows
   cols : t.cols ≡ s.cols
@@ -271,7 +271,7 @@ put_shows x w s m is no_half = (put_goes x w s m (sound_of s is) no_half).shown
 pub put_all_shows : (xs : List Glyph) (w : Writing) (s : Screen) (m : List Bool) → IsScreen s → ((k : ℕ) → k < length xs → is_right_half (glyph_at xs k) ≡ false) → ShowsUnmarked s (put_all xs w s) m (marks_put_all xs w s m)
 put_all_shows xs w s m is no_half = (put_all_goes xs w s m (sound_of s is) no_half).shown
 
--- what is put where it stands changes nothing
+-- setting an element to itself changes nothing
 set_there : (l : List Glyph) (i j : ℕ) (y : Glyph) → i < length l → y ≡ get_or l i blank → get_or (set l i y) j blank ≡ get_or l j blank
 set_there l i j y h e =
     elim (cases_eq j i) [

@@ -1,5 +1,5 @@
--- Worked rows of the cursor, the first row and the tab stops compute from the definitions; those of cells are in the tests, since
--- a character's width is opaque here.
+-- Worked rows of the cursor, the first row and the tab stops compute from the definitions. Those of cells are in the tests, since a
+-- character's width is opaque here.
 use Rattle.std.proofs.Common.{◌≡◌, ℕ, true, false, refl}
 use Rattle.std.specs.Prelude.{slice_index_or}
 use Rattle.roam_grid.specs.Tabs.{start_stops}
@@ -59,7 +59,7 @@ pub wide_stays : leaves_row 2 (record { wraps = false; inserts = false }) (moved
 unfolding leaves_row moved_to
 wide_stays = refl
 
--- tab stops stand at columns 9 and 249, counted from 1, and not at 1 and 10
+-- there are tab stops at columns 9 and 249, counted from 1, and none at 1 and 10
 pub ninth : slice_index_or start_stops 8 false ≡ true
 unfolding start_stops
 ninth = refl

@@ -11,8 +11,8 @@ after_backspace s = record s { col = s.col - 1; pending = false }
 unfoldable pub after_carriage_return : Screen → Screen
 after_carriage_return s = record s { col = 0; pending = false }
 
--- one row down; on the bottom margin the rows between the margins go up, and on the last row below it nothing moves (IND, VT220 Programmer
--- Reference; LF, ECMA-48 8.3.74)
+-- One row down. On the bottom margin the rows between the margins go up, and on the last row below it nothing moves (IND, VT220 Programmer
+-- Reference; LF, ECMA-48 8.3.74).
 unfoldable pub after_index : Screen → Screen
 after_index s =
     if (s.row == s.bottom) then record (scrolled_up 1 s) { pending = false }
@@ -55,8 +55,8 @@ moved_left n s = record s { col = s.col - n; pending = false }
 unfoldable pub wrap_cleared : Screen → Screen
 wrap_cleared s = record s { pending = false }
 
--- one row up; on the top margin the rows between the margins go down, and on the first row above it nothing moves (RI, VT220
--- Programmer Reference)
+-- One row up. On the top margin the rows between the margins go down, and on the first row above it nothing moves (RI, VT220 Programmer
+-- Reference).
 unfoldable pub after_reverse_index : Screen → Screen
 after_reverse_index s =
     if (s.row == s.top) then record (scrolled_down 1 s) { pending = false }
@@ -66,8 +66,8 @@ after_reverse_index s =
 unfoldable pub first_reverse_indexed : Screen → ℕ → ℕ
 first_reverse_indexed s first = if (s.row == s.top) then first_scrolled_down 1 s first else first
 
--- to a row and a column from 0, at most the last ones, with a wrap pending where it was kept as pending and the column is the last (DECRC,
--- VT220 Programmer Reference; this project's profile)
+-- To a row and a column from 0, at most the last ones. A wrap is pending if it was saved as pending and the column is the last (DECRC,
+-- VT220 Programmer Reference; this project's profile).
 unfoldable pub after_restoring : ℕ → ℕ → Bool → Screen → Screen
 after_restoring row col pending s =
     record s { row = min row (s.rows - 1); col = min col (s.cols - 1); pending = pending && (min col (s.cols - 1) + 1 == s.cols) }

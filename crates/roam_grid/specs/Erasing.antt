@@ -1,4 +1,4 @@
--- What erasures blank: from the cursor to the end, from the start to the cursor, or all, of the screen or of the cursor's row.
+-- The blanked places of erasures: from the cursor to the end, from the start to the cursor, or all, of the screen or of the cursor's row.
 use Rattle.std.specs.Prelude.{ℕ, ◌+◌, Bool, true, false, not, ◌&&◌, ◌||◌, ◌==◌, nat_lt, nat_le, List, if◌then◌else◌}
 use Rattle.roam_cells.specs.Glyph.{Glyph, blank}
 use Rattle.roam_cells.specs.Place.{row_of, cell_at}

@@ -1,4 +1,4 @@
--- What becomes of a whole screen at once: an alignment pattern, a frame taken over, another size.
+-- Changes of a whole screen at once: an alignment pattern, a frame taken over, another size.
 use Rattle.std.specs.Prelude.{ℕ, ◌+◌, ◌-◌, ◌*◌, false, ◌∷◌, [], replicate, min}
 use Rattle.roam_cells.specs.Glyph.{Glyph, default_style, blank}
 use Rattle.roam_rows.specs.Sizing.{sized_rows}
@@ -29,8 +29,8 @@ framed_as t s = record s { row = t.row; col = t.col; pending = false; top = t.to
 abbrev pub leaving : ℕ → Screen → ℕ
 leaving rows s = s.row + 1 - rows
 
--- another size, after `off` rows have left at the top: rows come in or are cut at the bottom and columns at the right; full margins, the
--- cursor pushed into the screen, no wrap pending (this project's profile)
+-- Another size, after `off` rows have left at the top. Rows come in or are cut at the bottom and columns at the right. Margins are full,
+-- the cursor is pushed into the screen, and no wrap is pending (this project's profile).
 unfoldable pub after_resizing : ℕ → ℕ → ℕ → Screen → Screen
 after_resizing rows cols off s =
     record {

@@ -1,8 +1,8 @@
--- What a grid's fields stand for, and what is true of them.
+-- The values of a grid's fields, and the facts about them.
 use Rattle.roam_grid.specs.Screen.{Screen, GridView, IsFrame}
 use Rattle.roam_grid.specs.declared.grids.Grid.TheInside.{Inside}
 
--- the screen that the fields stand for: its size and cells are those of the rows
+-- the screen of the fields: its size and cells are those of the rows
 abbrev pub screen_of : Inside → Screen
 screen_of a =
     record {
@@ -17,10 +17,10 @@ screen_of a =
       stops = a.stops;
     }
 
--- what contracts see of the fields
+-- the value of the fields for contracts
 abbrev pub view_of : Inside → GridView
 view_of a = record { screen = screen_of a; first = a.ring.first; marks = a.marks }
 
--- what is true of the fields of every grid
+-- the facts about the fields of every grid
 abbrev pub IsKept : Inside → Type 0
 IsKept a = IsFrame (screen_of a)

@@ -1,4 +1,4 @@
--- What marks say of a screen before and after a call, and a grid after a scroll.
+-- The meaning of marks for a screen before and after a call, and a grid after a scroll.
 use Rattle.std.specs.Prelude.{◌≡◌, ◌≢◌, ℕ, ◌<◌, Bool, true, false, List}
 use Rattle.roam_cells.specs.Place.{cell_at}
 use Rattle.roam_rows.specs.Places.{Source, From}
@@ -16,7 +16,7 @@ pub record AreNamedMarked (s : Screen) (source : ℕ → ℕ → Source) (old ne
   pub named : (r : ℕ) → r < s.rows → is_marked old r ≡ false → is_marked new r ≡ true → IsNamed s.cols source r
   pub rest : (r c : ℕ) → r < s.rows → c < s.cols → is_marked new r ≡ false → source r c ≡ From r c
 
--- no mark goes off, and a row without a mark shows what it showed
+-- no mark goes off, and a row without a mark shows the same cells as before
 pub record ShowsUnmarked (s t : Screen) (old new : List Bool) : Type 0 where
   pub stay : (r : ℕ) → r < s.rows → is_marked old r ≡ true → is_marked new r ≡ true
   pub shows : (r c : ℕ) → r < s.rows → c < s.cols → is_marked new r ≡ false

@@ -1,5 +1,5 @@
--- Marks: which rows of the screen may show something else than when the marks were last cleared. A flag for each of 200 rows from 0,
--- whatever the number of rows; a call marks the rows that have a place which doesn't take itself (this project's profile).
+-- Marks: the rows of the screen that may show something else than when the marks were last cleared. There is a flag for each of 200 rows
+-- from 0, whatever the number of rows. A call marks the rows that have a place which doesn't take itself (this project's profile).
 use Rattle.std.specs.Prelude.{ℕ, ◌+◌, ◌-◌, Bool, true, false, not, ◌&&◌, ◌||◌, ◌==◌, nat_lt, nat_le, List, [], ◌∷◌, ◌++◌, map, replicate, slice_index_or, slice_range, if◌then◌else◌}
 use Rattle.std.specs.List.{range_with_len, list_any}
 use Rattle.roam_cells.specs.Limits.{most_rows}
@@ -37,7 +37,7 @@ row_marked row marks = also_marked (λ r. r == row) marks
 abbrev pub rows_marked : ℕ → ℕ → List Bool → List Bool
 rows_marked from to marks = also_marked (λ r. nat_le from r && nat_lt r to) marks
 
--- the same where they move by n; where n is 0 none moves
+-- the same if they move by n; for 0 none moves
 abbrev pub moved_marked : ℕ → ℕ → ℕ → List Bool → List Bool
 moved_marked n from to marks = if (n == 0) then marks else rows_marked from to marks
 
@@ -45,11 +45,11 @@ moved_marked n from to marks = if (n == 0) then marks else rows_marked from to m
 abbrev pub marks_scrolled : ℕ → Screen → List Bool → List Bool
 marks_scrolled n s marks = moved_marked n s.top (s.bottom + 1) marks
 
--- IND: the rows between the margins where they go up
+-- IND: the rows between the margins if they go up
 unfoldable pub marks_indexed : Screen → List Bool → List Bool
 marks_indexed s marks = if (s.row == s.bottom) then marks_scrolled 1 s marks else marks
 
--- RI: the rows between the margins where they go down
+-- RI: the rows between the margins if they go down
 abbrev pub marks_reverse_indexed : Screen → List Bool → List Bool
 marks_reverse_indexed s marks = if (s.row == s.top) then marks_scrolled 1 s marks else marks
 
@@ -82,22 +82,22 @@ unfoldable pub unguarded_marked : ℕ → List Glyph → ℕ → ℕ → ℕ →
 unguarded_marked cols cells top bottom from to marks =
     also_marked (λ r. nat_le top r && nat_lt r bottom && has_unguarded cols cells r from to) marks
 
--- DECSEL: the cursor's row, where a cell goes
+-- DECSEL: the cursor's row, if a cell goes
 abbrev pub marks_erased_selectively_in_line : Extent → Screen → List Bool → List Bool
 marks_erased_selectively_in_line extent s marks =
     unguarded_marked s.cols s.cells s.row (s.row + 1) (line_from extent s.col) (line_to extent s.cols s.col) marks
 
--- DECSED: the cursor's row and the rows that the extent names whole, each where a cell goes
+-- DECSED: the cursor's row and the rows that the extent names whole, each if a cell goes
 abbrev pub marks_erased_selectively_in_page : Extent → Screen → List Bool → List Bool
 marks_erased_selectively_in_page extent s marks =
     unguarded_marked s.cols s.cells (page_from extent s.row) (page_to extent s.rows s.row) 0 s.cols
     (marks_erased_selectively_in_line extent s marks)
 
--- a pending wrap is done: what goes up for it
+-- a pending wrap is done: the rows that go up for it
 unfoldable pub marks_settled : Screen → List Bool → List Bool
 marks_settled s marks = if s.pending then marks_indexed s marks else marks
 
--- a cell of two columns in the last column goes to the next row: what goes up for it
+-- a cell of two columns in the last column goes to the next row: the rows that go up for it
 abbrev pub marks_with_room : ℕ → Writing → Screen → List Bool → List Bool
 marks_with_room width w s marks = if ((width == 2) && (s.col + 1 == s.cols) && w.wraps) then marks_indexed s marks else marks
 
@@ -116,11 +116,11 @@ marks_put_all (x ∷ xs) w s marks = marks_put_all xs w (put_on x w s) (marks_pu
 abbrev pub joins : ℕ → ℕ → Screen → Bool
 joins col c s = is_cell_text ((cell_at s.cols s.cells s.row (base_column s.cols s.cells s.row col)).points ++ c ∷ [])
 
--- the cursor's row, where it joins
+-- the cursor's row, if it joins
 abbrev pub marks_joined_in : ℕ → ℕ → Screen → List Bool → List Bool
 marks_joined_in col c s marks = also_marked (λ r. (r == s.row) && joins col c s) marks
 
--- a character of width 0: the cursor's row, where it joins a cell
+-- a character of width 0: the cursor's row, if it joins a cell
 unfoldable pub marks_joined : ℕ → Screen → List Bool → List Bool
 marks_joined c s marks =
     if s.pending then marks_joined_in s.col c s marks

@@ -8,8 +8,8 @@ use Rattle.roam_rows.specs.Places.{Source, mapped_cells}
 use Rattle.roam_rows.specs.Rows.{Rows}
 use Rattle.roam_grid.specs.Tabs.{start_stops}
 
--- one screen: its size, its cells in reading order, the cursor, whether a wrap is pending, the margins and the tab stops; rows and columns
--- from 0 (this project's profile)
+-- one screen: its size, its cells in reading order, the cursor, the pending wrap, the margins and the tab stops; rows and columns from 0
+-- (this project's profile)
 pub record Screen : Type 0 where
   pub rows : ℕ
   pub cols : ℕ
@@ -21,7 +21,7 @@ pub record Screen : Type 0 where
   pub bottom : ℕ
   pub stops : List Bool
 
--- what contracts see of a grid: the screen, the row of its buffer that the screen begins with, and the marks of 200 rows
+-- the value of a grid for contracts: the screen, the row of its buffer that the screen begins with, and the marks of 200 rows
 pub record GridView : Type 0 where
   pub screen : Screen
   pub first : ℕ
@@ -31,8 +31,8 @@ pub record GridView : Type 0 where
 abbrev pub rows_of : GridView → Rows
 rows_of v = record { rows = v.screen.rows; cols = v.screen.cols; cells = v.screen.cells; first = v.first }
 
--- the size is in the limits, the cursor and the margins are on the screen, a wrap pends in the last column alone, and each column that may
--- be has its stop or none
+-- the size is in the limits, the cursor and the margins are on the screen, a wrap is pending in the last column only, and each possible
+-- column has its stop or none
 pub record IsFrame (s : Screen) : Type 0 where
   pub size : IsSize s.rows s.cols
   pub row_in : s.row < s.rows

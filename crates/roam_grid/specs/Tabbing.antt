@@ -1,4 +1,4 @@
--- What tabs make of a screen.
+-- The effect of tabs on a screen.
 use Rattle.std.specs.Prelude.{ℕ, ◌-◌, true, false, replicate, slice_set}
 use Rattle.roam_cells.specs.Limits.{most_columns}
 use Rattle.roam_grid.specs.Screen.{Screen}

@@ -3,7 +3,7 @@ use Rattle.std.specs.Prelude.{ℕ, zero, suc, ◌+◌, ◌-◌, ◌%◌, Bool, f
 use Rattle.roam_cells.specs.Limits.{most_columns}
 use Rattle.std.specs.List.{range_with_len}
 
--- whether a column, from 0, has a tab stop at the start: columns 9, 17, 25 and so on, counted from 1 (VT220 Programmer Reference, tab
+-- true if a column, from 0, has a tab stop at the start: columns 9, 17, 25 and so on, counted from 1 (VT220 Programmer Reference, tab
 -- stops)
 abbrev pub is_start_stop : ℕ → Bool
 is_start_stop c = nat_lt 0 c && (c % 8 == 0)

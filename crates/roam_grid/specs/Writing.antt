@@ -35,11 +35,11 @@ with_room width w s =
 unfoldable pub first_with_room : ℕ → Writing → Screen → ℕ → ℕ
 first_with_room width w s first = if ((width == 2) && (s.col + 1 == s.cols) && w.wraps) then first_indexed s first else first
 
--- under IRM blanks come in where the cell will stand (ECMA-48 section 7.2.10; ICH, 8.3.64)
+-- under IRM blanks come in at the place of the cell (ECMA-48 section 7.2.10; ICH, 8.3.64)
 unfoldable pub made_way : ℕ → Writing → Screen → Screen
 made_way width w s = if w.inserts then mapped_screen (in_row s.row (insertion_source s.col width)) s else s
 
--- the cell is written at the cursor, with its right half where it is wide
+-- the cell is written at the cursor, with its right half if it is wide
 unfoldable pub after_ink : Glyph → Screen → Screen
 after_ink x s = mapped_screen (in_row s.row (writing_source x s.col)) s
 
@@ -76,8 +76,8 @@ abbrev pub joined_in : ℕ → ℕ → Screen → Screen
 joined_in col c s =
     record s { cells = (joined_rows s.row col c (record { rows = s.rows; cols = s.cols; cells = s.cells; first = 0 })).cells }
 
--- a character of width 0 joins the cell before the cursor, and with a wrap pending the cursor's; in the first column with no wrap pending
--- it is dropped (this project's profile)
+-- A character of width 0 joins the cell before the cursor, and with a wrap pending the cursor's. In the first column with no wrap pending
+-- it is dropped (this project's profile).
 unfoldable pub joined_on : ℕ → Screen → Screen
 joined_on c s =
     if s.pending then joined_in s.col c s

@@ -148,8 +148,8 @@ impl Grid {
         self.pending = false;
     }
 
-    /// To a row and a column from 0, at most the last ones; a wrap pends where it was kept as pending and the column is the last (DECRC,
-    /// VT220 Programmer Reference).
+    /// Moves the cursor to a row and a column from 0, at most the last ones. A wrap is pending if it was saved as pending and the column is
+    /// the last (DECRC, VT220 Programmer Reference).
     #[tactic(auto, unfolding(crate::specs::Cursor::after_restoring))]
     pub fn restore(&mut self, row: usize, col: usize, pending: bool)
         ensures screen { self.new.screen ≡ after_restoring row col pending self.old.screen }

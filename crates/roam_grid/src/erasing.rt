@@ -20,7 +20,7 @@ fn columns(extent: Extent, cols: usize, col: usize) -> (usize, usize)
     }
 }
 
-/// The rows that an extent names besides that row, from one on and before another; all where it names all.
+/// Returns the rows that an extent names besides that row, from one on and before another; all if it names all.
 fn other_rows(extent: Extent, rows: usize, row: usize) -> (usize, usize)
     requires row_in { row < rows }
     ensures from { result.0 ≡ page_from extent row }

@@ -1,4 +1,4 @@
-//! What becomes of a whole screen at once.
+//! Changes of a whole screen at once.
 ghost use Rattle.std.specs.Prelude.{◌≡◌, ◌↔◌, ◌⊎◌, ◌<◌, IfOk, IfErr, IsErrOf, OnOk, OnErr};
 ghost use Rattle.roam_cells.specs.Limits.{IsSize};
 ghost use Rattle.roam_grid.specs.Frames.{after_alignment, all_blank, after_restart, framed_as, leaving, after_resizing};
@@ -46,7 +46,7 @@ impl Grid {
         self.marks = [true; MOST_ROWS as usize];
     }
 
-    /// Blanks every cell, and puts the cursor, the margins and the tab stops where they are at the start (RIS, ECMA-48 8.3.105).
+    /// Blanks every cell, and resets the cursor, the margins and the tab stops to the start (RIS, ECMA-48 8.3.105).
     #[tactic(auto, unfolding(crate::specs::Frames::after_restart, crate::specs::Frames::all_blank))]
     pub fn restart(&mut self)
         ensures screen { self.new.screen ≡ after_restart self.old.screen }
@@ -83,7 +83,7 @@ impl Grid {
         self.marks = [true; MOST_ROWS as usize];
     }
 
-    /// How many rows leave at the top where the screen gets this number of rows, so that the cursor's row stays.
+    /// Returns how many rows leave at the top if the screen gets this number of rows, so that the cursor's row stays.
     pub fn leaving(&self, rows: usize) -> usize
         requires some { 0 < rows }
         ensures leaving { result ≡ leaving rows self.now.screen }
@@ -105,8 +105,8 @@ impl Grid {
         Ok(Fitted::new(alloc, rows, cols)?)
     }
 
-    /// Brings the screen to the size that memory was made for, after `off` rows have left at the top: rows come in or are cut at the
-    /// bottom and columns at the right. It takes no memory.
+    /// Brings the screen to the size that memory was made for, after `off` rows have left at the top. Rows come in or are cut at the bottom
+    /// and columns at the right. It takes no memory.
     #[tactic(auto, unfolding(crate::specs::Frames::after_resizing, crate::specs::Marks::all_on))]
     pub fn adopt(&mut self, fitted: Fitted, off: usize)
         ensures screen { self.new.screen ≡ after_resizing fitted.rows fitted.cols off self.old.screen }

@@ -1,4 +1,4 @@
-//! The grid: what it holds, and what it tells.
+//! The grid: its fields, and the calls that read it.
 ghost use Rattle.std.specs.Prelude.{◌≡◌, ◌↔◌, ◌+◌, ◌-◌, ◌*◌, ◌<◌, ◌≤◌, ◌⊎◌, ◌++◌, true, false, length, replicate, IsTrue, IfOk, IfErr, IsErrOf};
 ghost use Rattle.roam_cells.specs.Glyph.{blank};
 ghost use Rattle.roam_cells.specs.Limits.{IsSize};
@@ -41,8 +41,8 @@ impl Model for Grid {
 }
 
 impl Grid {
-    /// A blank screen of 2 to 200 rows and 4 to 500 columns, the cursor at its start, with full margins, the tab stops of the start and
-    /// all marks on; refuses other sizes, and want of memory.
+    /// Returns a blank screen of 2 to 200 rows and 4 to 500 columns, with the cursor at its start, full margins, the tab stops of the start
+    /// and all marks on. `BadSize` for other sizes, `OutOfMemory`.
     #[tactic(auto, unfolding(crate::specs::Marks::all_on))]
     pub fn new(alloc: Global, rows: usize, cols: usize) -> Result<Self, Fault>
         ensures screen { IfOk result (λ g. g.screen ≡ start rows cols) }
@@ -66,7 +66,7 @@ impl Grid {
         })
     }
 
-    /// What is true of every grid.
+    /// Facts about every grid.
     #[inline]
     pub fn facts(&self)
         ensures screen { IsScreen self.now.screen }
@@ -110,8 +110,7 @@ impl Grid {
         self.ring.front_of_row(i)
     }
 
-    /// All cells, from the buffer's first row on: row i of the screen is the buffer's row `first` + i, brought back below the number of
-    /// rows.
+    /// Returns all cells, from the buffer's first row on: row i of the screen is the buffer's row `first` + i, modulo the number of rows.
     pub fn buffer(&self) -> &[Cell]
         ensures buffer { result.now ≡ buffer_of (rows_of self.now) }
     {
@@ -134,7 +133,7 @@ impl Grid {
         (self.row + 1, self.col + 1)
     }
 
-    /// Whether a wrap is pending: the last column was written, and the next character goes to the next row.
+    /// Returns true if a wrap is pending: the last column was written, and the next character goes to the next row.
     pub fn pending(&self) -> bool
         ensures pending { result ≡ self.now.screen.pending }
     {
@@ -158,7 +157,7 @@ impl Grid {
     }
 }
 
-/// Whether a screen may have this size, in rows and columns.
+/// Returns true if a screen may have this size, in rows and columns.
 pub fn is_size(rows: usize, cols: usize) -> bool
     ensures size { IsTrue result ↔ IsSize rows cols }
 {

@@ -1,4 +1,4 @@
-//! What marks say of a screen, whatever calls were made, and what a scroll leaves in the buffer.
+//! The meaning of marks for a screen, whatever calls were made, and the buffer after a scroll.
 ghost use Rattle.std.specs.Prelude.{◌≡◌, ℕ, ◌+◌, ◌-◌, ◌<◌, Bool, true, false, List, length, min, if◌then◌else◌};
 ghost use Rattle.roam_cells.specs.Glyph.{Glyph, is_right_half};
 ghost use Rattle.roam_rows.specs.Editing.{insertion_source, deletion_source};
@@ -21,8 +21,8 @@ ghost use Rattle.roam_grid.specs.declared.writing.Writing.{Writing};
 ghost use Rattle.roam_cells.specs.Limits.{most_rows};
 
 /// A mark goes on only in a row that has a place which doesn't take itself, and every row that has one is marked: by the map of places of
-/// each operation. A cell is written in the row that `put` leaves the cursor in, after the rows have gone up where one leaves. `all` is
-/// what alignment, a restart, a switch of screens and another size put on.
+/// each operation. A cell is written in the row in which `put` leaves the cursor, after the rows have gone up if one leaves. `all` is the
+/// marks of alignment, a restart, a switch of screens and another size.
 pub fn marks_go_on_in_named_rows()
     ensures scrolled_up { (n : ℕ) (s : Screen) (m : List Bool) → IsScreen s
         → AreNamedMarked s (up s.top s.bottom n) m (marks_scrolled n s m) }
@@ -58,8 +58,8 @@ pub fn marks_go_on_in_named_rows()
     ensures all { (r : ℕ) → r < most_rows → is_marked all_on r ≡ true }
 {}
 
-/// A row without a mark shows what it showed, and no mark goes off: whatever was marked before, by each call that changes cells. The calls
-/// that name every row (alignment, a restart, a switch of screens, another size) leave no row without a mark, and those that aren't
+/// A row without a mark shows the same cells as before, and no mark goes off, whatever was marked before, by each call that changes cells.
+/// The calls that name every row (alignment, a restart, a switch of screens, another size) leave no row without a mark. Those that aren't
 /// named here leave cells and marks as they are.
 pub fn unmarked_rows_show_what_they_showed()
     ensures put { (x : Glyph) (w : Writing) (s : Screen) (m : List Bool) → IsScreen s → is_right_half x ≡ false
@@ -97,7 +97,7 @@ pub fn unmarked_rows_show_what_they_showed()
 {}
 
 /// With full margins a scroll moves the place of the first row: rows that stay keep their places in the buffer, and nothing of it changes
-/// but the rows that come in. With other margins the first row stays where it is.
+/// but the rows that come in. With other margins the first row stays.
 pub fn scrolls_leave_the_buffer()
     ensures up { (n : ℕ) (v : GridView) → AreRows (rows_of v) → has_full_margins v.screen ≡ true
         → KeepPlaces n v.screen.rows (rows_of v) (rows_of (grid_up n v)) }

@@ -60,7 +60,7 @@ pub fn mark_rows(marks: &mut [bool; MOST_ROWS as usize], from: usize, to: usize)
     marks[from..to].fill(true);
 }
 
-/// Marks them where they move by n: not at all where n is 0.
+/// Marks them if they move by n: not at all for 0.
 #[inline]
 pub fn mark_moved(marks: &mut [bool; MOST_ROWS as usize], n: usize, from: usize, to: usize)
     requires range { (from ≤ to) × (to ≤ most_rows) }

@@ -14,8 +14,7 @@ impl Grid {
     ghost use Rattle.roam_grid.specs.Screen.{IsSameSize, mapped_screen};
     ghost use Rattle.roam_grid.specs.Writing.{wrap_done, put_all, first_put_all};
 
-    /// Writes printable ASCII bytes, 20 to 7E, at the cursor in the style and guard of a pen: what `put` does with the cell of each in
-    /// turn.
+    /// Writes printable ASCII bytes, 20 to 7E, at the cursor in the style and guard of a pen, as `put` does with the cell of each in turn.
     pub fn put_run(&mut self, pen: Cell, bytes: &[u8], writing: Writing)
         requires printable { ArePrintable bytes.now }
         ensures screen { self.new.screen ≡ put_all (inked_bytes pen bytes.now) writing self.old.screen }

@@ -16,7 +16,7 @@ pub fn stops_at_start() -> [bool; MOST_COLUMNS as usize]
     stops
 }
 
-/// Whether a column, from 0, has a tab stop at the start.
+/// Returns true if a column, from 0, has a tab stop at the start.
 fn is_start_stop(c: usize) -> bool
     ensures stop { result ≡ is_start_stop c }
 {

@@ -14,7 +14,7 @@ pub struct Writing {
     /// DECAWM: past the last column the next row goes on.
     pub wraps: bool,
 
-    /// IRM: what stands at the cursor and right of it makes way.
+    /// IRM: the cells at the cursor and right of it make way.
     pub inserts: bool,
 }
 
@@ -33,7 +33,7 @@ impl Grid {
     ghost use Rattle.roam_grid.specs.Writing.{after_wrap, wrap_done, first_settled, with_room, first_with_room, made_way, after_ink, after_advance, put_on, leaves_row, first_put, joined_in, joined_on};
     ghost use Rattle.roam_grid.specs.Cursor.{first_indexed};
 
-    /// Whether a `put` of a cell of so many columns first scrolls a row out at the top margin.
+    /// Returns true if a `put` of a cell of so many columns first scrolls a row out at the top margin.
     #[tactic(auto, unfolding(crate::specs::Writing::leaves_row))]
     pub fn leaves(&self, width: usize, writing: Writing) -> bool
         ensures leaves { result ≡ leaves_row width writing self.now.screen }
@@ -62,7 +62,7 @@ impl Grid {
         self.advance(columns, writing);
     }
 
-    /// Whether a cell fits where the cursor is with a column left after it: then writing it neither wraps nor scrolls.
+    /// Returns true if a cell fits at the cursor with a column left after it: then writing it neither wraps nor scrolls.
     #[inline]
     pub fn fits_inside(&self, cell: Cell) -> bool
         ensures settled { IsTrue result → self.now.screen.pending ≡ false }
@@ -73,7 +73,7 @@ impl Grid {
         !self.pending && self.col + columns_of(cell) < self.ring.cols()
     }
 
-    /// Writes a cell that fits where the cursor is with a column left after it, as `put` does.
+    /// Writes a cell that fits at the cursor with a column left after it, as `put` does.
     #[inline]
     pub fn put_inside(&mut self, cell: Cell, writing: Writing)
         requires no_half { is_right_half cell ≡ false }
@@ -90,7 +90,7 @@ impl Grid {
         self.advance(columns_of(cell), writing);
     }
 
-    /// Joins a character of width 0 to the cell before the cursor, or with a wrap pending to the cursor's; a fourth code point, and one
+    /// Joins a character of width 0 to the cell before the cursor, or with a wrap pending to the cursor's. A fourth code point, and one
     /// that has no cell before it, is dropped (this project's profile).
     #[tactic(auto, unfolding(crate::specs::Writing::joined_on, crate::specs::Marks::marks_joined))]
     pub fn join(&mut self, c: char)
@@ -119,7 +119,7 @@ impl Grid {
         self.ring.join(self.row, col, c);
     }
 
-    // Whether it joins that character: a fourth code point doesn't, nor one that has columns of its own.
+    // Returns true if it joins that character: a fourth code point doesn't, nor one that has columns of its own.
     fn joins(&self, col: usize, c: char) -> bool
         requires col_in { col < self.now.screen.cols }
         ensures joins { result ≡ joins col c self.now.screen }

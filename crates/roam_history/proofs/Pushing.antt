@@ -13,11 +13,11 @@ use Rattle.roam_history.specs.Histories.{Scrollback, last, after_push, IsRow, Is
 use Rattle.roam_history.specs.Lines.{refitted_row}
 use Rattle.roam_history.proofs.Refitting.{is_wide-blank, length-refitted_row}
 
--- histories are the same where their parts are
+-- histories are equal if their parts are
 pub same_scrollback : (a b : Scrollback) → a.lines ≡ b.lines → a.cols ≡ b.cols → a.rows ≡ b.rows → a ≡ b
 same_scrollback a b lines cols rows i = record { lines = lines i; cols = cols i; rows = rows i }
 
--- where there is room nothing is lost
+-- if there is room nothing is lost
 pub last_fits : {X : Type 0} (n : ℕ) (xs : List X) (y : X) → length xs < n → last n (xs ++ y ∷ []) ≡ xs ++ y ∷ []
 last_fits n xs y room =
     let none : length (xs ++ y ∷ []) - n ≡ 0 = omega (arith, length_push xs y) in
@@ -42,7 +42,7 @@ last_more n xs y =
           ∙ sym (drop_all (length (xs ++ y ∷ []) - n) (xs ++ y ∷ []) (omega arith))
     ]
 
--- the last of what is made of a list are made of the last
+-- the last elements of a mapped list are the mapped last elements
 pub last-map : {X Y : Type 0} (f : X → Y) (n : ℕ) (xs : List X) → map f (last n xs) ≡ last n (map f xs)
 last-map f n xs = sym (drop-map f (length xs - n) xs) ∙ sym (ap (λ k. drop (k - n) (map f xs)) (length-map xs f))
 
@@ -53,7 +53,7 @@ module _ {X : Type 0} (xs : List X) (y : X) (some : 0 < length xs) where
   pub length-turned : length turned ≡ length xs
   length-turned = length_push (drop 1 xs) y ∙ omega (arith, length-drop 1 xs)
 
-  -- nothing is lost where the ring was full
+  -- nothing is lost if the ring was full
   pub all_kept : (n : ℕ) → n ≡ length xs → keep_last n turned ≡ turned
   all_kept n e =
       let none : length turned - n ≡ 0 = omega (arith, length-turned) in

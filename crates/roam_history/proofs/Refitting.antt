@@ -36,7 +36,7 @@ glyph-with_blanks cols front c =
           ∙ blanks_at (cols - length front) (c - length front) ∙ sym (get_or_past front c blank high)
     ]
 
--- a line is what is written of it and blanks
+-- a line is its written part and blanks
 pub line_is_front : (written : ℕ) (cells : List Glyph) → IsWritten written cells → cells ≡ with_blanks (length cells) (take written cells)
 line_is_front written cells h =
     let front = take written cells in
@@ -56,7 +56,7 @@ uncut_at cols row c ne =
     let x = glyph_at row c in
     cond-false (is_wide x && eqb (c + 1) cols) (space_in x) x (and_right (is_wide x) (eqb (c + 1) cols) (ne_eqb (c + 1) cols ne))
 
--- what is not wide stays
+-- a cell that is not wide stays
 pub narrow_at : (cols : ℕ) (row : List Glyph) (c : ℕ) → is_wide (glyph_at row c) ≡ false → refitted_at cols row c ≡ glyph_at row c
 narrow_at cols row c h =
     let x = glyph_at row c in
@@ -126,7 +126,7 @@ not_past f row c h w =
       | inr high ↦ absurd (false≢true (sym h ∙ sym (ap f (get_or_past row c blank high)) ∙ w))
     ]
 
--- what is still a part of a wide character was so before
+-- a part of a wide character was one before
 still : (f : Glyph → Bool) (cols : ℕ) (row : List Glyph) (c : ℕ) → ((x : Glyph) → f (space_in x) ≡ false) → f (refitted_at cols row c) ≡ true
     → (refitted_at cols row c ≡ glyph_at row c) × (is_wide (glyph_at row c) ≡ true → c + 1 ≢ cols)
 still f cols row c never h =
@@ -192,7 +192,7 @@ refitted_written cols row count count_is =
       ];
     }
 
--- a line that a row was copied over, with blanks from there on up to where it was written
+-- a line that a row was copied over, with blanks from there on up to the end of the written part
 module _ (row line copied filled : List Glyph) (count written : ℕ) (count_is : count ≡ min (length row) (length line)) (few : written ≤ length line)
     (rest : (c : ℕ) → written ≤ c → glyph_at line c ≡ blank) (copied_is : copied ≡ take count row)
     (filled_is : filled ≡ replicate (max written count - count) blank) where

@@ -32,13 +32,13 @@ pub record IsRow (cols : ℕ) (row : List Glyph) : Type 0 where
   pub count : length row ≡ cols
   pub whole : IsWholeRow row
 
--- what is true of every history
+-- the facts about every history
 pub record IsScrollback (h : Scrollback) : Type 0 where
   pub size : IsHistorySize h.lines h.cols
   pub few : length h.rows ≤ h.lines
   pub each : All (IsRow h.cols) h.rows
 
--- what is true of the lines that a history is kept in: they are as many as fit, and each is a row
+-- the facts about the lines of a history: they are as many as fit, and each is a row
 pub record IsKept (ring : Buffer (List Glyph)) (cols len : ℕ) : Type 0 where
   pub size : IsHistorySize (length ring.items) cols
   pub full : ring.capacity ≡ length ring.items

@@ -8,8 +8,8 @@ use Rattle.roam_cells.specs.Place.{glyph_at}
 abbrev pub with_blanks : ℕ → List Glyph → List Glyph
 with_blanks cols front = front ++ replicate (cols - length front) blank
 
--- what a column of a row shows that is cut or padded with blanks: a wide cell in the last column, cut in two, is a space in its own style
--- and guard (this project's profile)
+-- a column of a row that is cut or padded with blanks: a wide cell in the last column, cut in two, becomes a space in its style and guard
+-- (this project's profile)
 abbrev pub refitted_at : ℕ → List Glyph → ℕ → Glyph
 refitted_at cols row c = if (is_wide (glyph_at row c) && (c + 1 == cols)) then space_in (glyph_at row c) else glyph_at row c
 

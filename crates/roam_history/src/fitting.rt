@@ -55,8 +55,8 @@ impl History {
         })
     }
 
-    /// Moves the rows over into memory that was made for as many lines: each row is cut or padded with blanks, and a wide cell that is
-    /// cut in two becomes a space in its own style and guard. Takes no memory.
+    /// Moves the rows into memory that was made for as many lines: each row is cut or padded with blanks, and a wide cell that is cut in
+    /// two becomes a space in its style and guard. Takes no memory.
     pub fn adopt(&mut self, fitted: Fitted)
         requires lines { fitted.lines ≡ self.old.lines }
         ensures history { self.new ≡ after_refit fitted.cols self.old }

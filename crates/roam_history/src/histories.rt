@@ -17,8 +17,8 @@ use std::marker::Model;
 /// The last rows that were pushed, at most 500 of 4 to 500 columns each. Only `new`, `fit` and `refit` take memory.
 #[derive(Drop)]
 pub struct History {
-    // As many lines as may be kept, from the first day on: the last `len` are the rows, oldest first, and those before them wait
-    // for more. A row that is pushed is written over the foremost line, which then goes to the end.
+    // As many lines as may be kept, allocated at the start: the last `len` are the rows, oldest first, and those before them wait for more.
+    // A pushed row is written over the first line, which then goes to the end.
     ring: HeapCircularBuffer<Line>,
     cols: usize,
     len: usize,
@@ -51,8 +51,8 @@ fn blank_lines(
 }
 
 impl History {
-    /// A history of no row yet, for so many lines (0 keeps nothing) of so many columns; `BadSize` above 500 lines or outside 4 to 500
-    /// columns.
+    /// Returns a history without rows, for so many lines (0 keeps nothing) of so many columns. `BadSize` above 500 lines or outside 4 to
+    /// 500 columns.
     pub fn new(alloc: Global, lines: usize, cols: usize) -> Result<History, Fault>
         ensures history { IfOk result (λ history. history ≡ empty lines cols) }
         ensures size { IfOk result (λ _. IsHistorySize lines cols) }
@@ -66,7 +66,7 @@ impl History {
         Ok(History { ring, cols, len: 0 })
     }
 
-    /// What is true of every history: its limits, that it keeps at most its lines, and that each row is whole and of its columns.
+    /// Facts about every history: its limits, that it keeps at most its lines, and that each row is whole and of its columns.
     pub fn facts(&self)
         ensures scrollback { IsScrollback self.now }
     {
@@ -112,7 +112,7 @@ impl History {
         }
     }
 
-    /// The cells of row i, from 0, the oldest, but for blank ones at its end: a copy of a row costs its columns in use.
+    /// Returns the cells of row i, from 0, the oldest, without blank ones at its end: a copy of a row costs its columns in use.
     pub fn front_of_row(&self, i: usize) -> &[Cell]
         requires row_in { i < length self.now.rows }
         ensures row { slice_index_or self.now.rows i [] ≡ with_blanks self.now.cols result.now }

@@ -1,4 +1,4 @@
-//! Laws of the definitions, each the contract of a function without a body: a history stands for all rows that were ever pushed.
+//! Laws of the definitions, each the contract of a function without a body: a history models all rows that were ever pushed.
 ghost use Rattle.std.specs.Prelude.{◌≡◌, ℕ, List, [], ◌∷◌, ◌++◌, map};
 ghost use Rattle.roam_cells.specs.Glyph.{Glyph};
 ghost use Rattle.roam_history.specs.Fitting.{after_refit};

@@ -7,7 +7,7 @@ use roam_cells::limits::{LEAST_COLUMNS, MOST_COLUMNS};
 /// The most lines of a history.
 pub const MOST_LINES: usize = 500;
 
-/// Whether a history may keep so many lines of so many columns.
+/// Returns true if a history may keep so many lines of so many columns.
 pub fn is_history_size(lines: usize, cols: usize) -> bool
     ensures size { IsTrue result ↔ IsHistorySize lines cols }
 {

@@ -8,8 +8,8 @@ use roam_cells::Cell;
 use std::alloc::{AllocError, Global};
 use std::marker::Model;
 
-/// A row of cells that knows how far it may have been written: from there on it is blank, so that it is written over and
-/// copied at the cost of its columns in use.
+/// A row of cells that knows how far it may have been written: from there on it is blank, so that it is overwritten and copied at the cost
+/// of its columns in use.
 #[derive(Drop)]
 pub struct Line {
     cells: Vec<Cell>,
@@ -28,7 +28,7 @@ impl Model for Line {
     ghost invariant = { λ a. IsWritten a.written a.cells.items };
 }
 
-/// Writes a row over a line, of which the columns from `written` on are blank: what doesn't fit is lost, and blanks fill what is left.
+/// Writes a row over a line whose columns from `written` on are blank: cells that don't fit are lost, and blanks fill the rest.
 fn cover(line: &mut [Cell], row: &[Cell], written: usize)
     requires few { written ≤ length line.old }
     requires rest { (c : ℕ) → written ≤ c → glyph_at line.old c ≡ blank }
@@ -62,7 +62,7 @@ fn write_over(line: &mut [Cell], row: &[Cell], written: usize)
     ensures line { line.new ≡ refitted_row (length line.old) row.now }
 {
     cover(line, row, written);
-    // A row that ends before it leaves the last column blank, which isn't read then: it lies apart from what was written.
+    // A row that ends before it leaves the last column blank, which isn't read then: it is apart from the written part.
     if line.len() <= row.len() {
         mend_last(line);
     }

@@ -1,4 +1,4 @@
--- One row of cells by its columns: what a map of them shows, and when it leaves whole characters.
+-- One row of cells by its columns: the result of a map of them, and the condition for whole characters.
 use Rattle.std.proofs.Common.{◌≡◌, ℕ, ◌+◌, ◌-◌, ◌<◌, Bool, true, false, not, ◌&&◌, ltb, List, length, map, refl, sym, ap, ◌∙◌, arith, inl, inr}
 use Rattle.std.specs.List.{range_with_len}
 use Rattle.std.proofs.lemmas.Bool.{false≢true, cases_lt}
@@ -23,7 +23,7 @@ row_is n f xs len each =
     same_lists xs (map f (range_with_len 0 n)) (len ∙ sym (length-row n f)) (λ k d h.
     get_or_default xs k d blank h ∙ each k (omega (arith, len)) ∙ sym (get_or-map-range_with_len f 0 n k k d (omega (arith, len)) (omega arith)))
 
--- cells that come in pairs, and are mended where a pair is parted, are whole
+-- cells that come in pairs, and are repaired if a pair is parted, are whole
 module _ (n : ℕ) (T : ℕ → Glyph) (J : ℕ → Bool) (new : List Glyph) (len : length new ≡ n) where
   pub whole_row_of : ((c : ℕ) → c < n → glyph_at new c ≡ mended_glyph (T c) (ltb (c + 1) n && J c) (ltb 0 c && J (c - 1)))
       → ((c : ℕ) → c + 1 < n → J c ≡ true → is_wide (T c) ≡ true → T (c + 1) ≡ right_of (T c))
@@ -74,7 +74,7 @@ row_unmoved row one whole same =
     (λ h. let pos : 0 < c = ((whole c q).half h).0 in
     both _ _ (means-ltb 0 c pos) (ap (λ x. are_neighbours x (Column c)) (same (c - 1) (omega arith)) ∙ is_next (c - 1) c (omega arith)))))
 
--- what a wide cell and a right half ask in a column: a boundary of the old row is cut where the halves part
+-- the requirement of a wide cell and a right half in a column: a boundary of the old row is cut if the halves part
 abbrev pub Agrees : ℕ → (ℕ → Bool) → ℕ → RowSource → RowSource → RowSource → Type 0
 Agrees n cut c (Column d) next before =
     (d < n) × (d + 1 < n → not (cut (d + 1)) ≡ (ltb (c + 1) n && are_neighbours (Column d) next))
@@ -82,11 +82,11 @@ Agrees n cut c (Column d) next before =
 Agrees n cut c (Fresh x) next before =
     (is_wide x ≡ true → (ltb (c + 1) n && are_neighbours (Fresh x) next) ≡ true) × (is_right_half x ≡ true → (ltb 0 c && are_neighbours before (Fresh x)) ≡ true)
 
--- what a column shows, by its source and those beside it
+-- the cell of a column, by its source and those beside it
 abbrev pub row_shown : List Glyph → ℕ → RowSource → RowSource → RowSource → Glyph
 row_shown row c here next before = mended_glyph (row_taken row here) (ltb (c + 1) (length row) && are_neighbours here next) (ltb 0 c && are_neighbours before here)
 
--- the same, asked only where a half stands
+-- the same, only for a column with a half
 abbrev pub AgreesAt : List Glyph → (ℕ → Bool) → ℕ → RowSource → RowSource → RowSource → Type 0
 AgreesAt row cut c (Column d) next before =
     (d < length row)

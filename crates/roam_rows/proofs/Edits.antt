@@ -53,7 +53,7 @@ pub blank_by : (row : List Glyph) (one : ℕ → RowSource) (len c : ℕ) → c 
 blank_by row one len c q rest (Column d) e h = blank_from row one c d q e (rest d h.0 h.1)
 blank_by row one len c q rest (Fresh x) e h = blank_fresh row one c x q e h
 
--- a changed row is blank from a column on where each column from there on comes from one past the length that was, or is a new blank
+-- a changed row is blank from a column on if each column from there on comes from one past the old length, or is a new blank
 pub blank_past : (row : List Glyph) (one : ℕ → RowSource) (len w : ℕ) → ((d : ℕ) → len ≤ d → d < length row → glyph_at row d ≡ blank)
     → ((c : ℕ) → w ≤ c → c < length row → IsBlankSource (length row) len (one c)) → (new : List Glyph) → new ≡ row_moved row one
     → (c : ℕ) → w ≤ c → c < length row → glyph_at new c ≡ blank
@@ -132,7 +132,7 @@ blanked_by cols len from to c false q h p = (elim p [ inl low ↦ low | inr insi
 pub blanked_after : (cols len from to c : ℕ) → c < cols → (len ≤ c) ⊎ ((from ≤ c) × (c < to)) → IsBlankSource cols len (erasure_source from to c)
 blanked_after cols len from to c q p = blanked_by cols len from to c (leb from c && ltb c to) q refl p
 
--- a blank column stays blank where boundaries are cut
+-- a blank column stays blank if boundaries are cut
 pub parted_blank : (cut : ℕ → Bool) (old new : List Glyph) → AreParted cut old new → (c : ℕ) → c < length old → glyph_at old c ≡ blank → glyph_at new c ≡ blank
 parted_blank cut old new parted c q h =
     parted.each c q ∙ ap (λ x. mended_glyph x (not (cut (c + 1))) (not (cut c))) h ∙ mended-blank (not (cut (c + 1))) (not (cut c))

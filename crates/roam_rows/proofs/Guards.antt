@@ -58,7 +58,7 @@ module _ (from to : ℕ) (row : List Glyph) (whole : IsWholeRow row) (some : fro
   pub unguarded_whole : IsWholeRow (row_moved row (unguarded_blanked row from to))
   unguarded_whole = plain_whole row (unguarded_blanked row from to) whole (λ c q. plain c q (goes from to c (glyph_at row c).guarded))
 
-  -- a row that was parted, and then erased where it isn't guarded up to a column, past which it is blank up to the last
+  -- a row that was parted, and then erased up to a column except for guarded cells; past that column it is blank up to the last
   pub unguarded_is : (P Y : List Glyph) (len done : ℕ) → AreParted (cut_open row from to) row P → length Y ≡ length row → ((c : ℕ) → len ≤ c → c < length row → glyph_at row c ≡ blank)
       → done ≤ to → min to len ≤ done
       → ((c : ℕ) → from ≤ c → c < done → glyph_at Y c ≡ cond (glyph_at P c).guarded (glyph_at P c) blank)

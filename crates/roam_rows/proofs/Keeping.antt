@@ -55,7 +55,7 @@ table_shown rows cols f each k =
 
 -- ---- whole lines
 
--- what a line is depends on its own columns alone
+-- a line depends on its own columns alone
 pub line_same : (cols : ℕ) (f g : ℕ → Glyph) → ((c : ℕ) → c < cols → g c ≡ f c) → IsWholeLine cols f → IsWholeLine cols g
 line_same cols f g same whole c q = record {
   wide = λ wide.
@@ -171,7 +171,7 @@ plain_cells rows cols new_rows new_cols cells source are plain =
     recast_cells rows cols new_rows new_cols cells source are (λ r c p q. plain_placed rows cols (source r c) (plain r c p q))
     (λ r c p q. plain_suits rows cols (source r c) (source r (c + 1)) (plain r c p (omega arith)))
 
--- what holds of each choice holds of the one that is taken
+-- a property of both choices is one of the chosen one
 pub either : {X : Type 0} (P : X → Type 0) (b : Bool) (x y : X) → (b ≡ true → P x) → (b ≡ false → P y) → P (cond b x y)
 either P true x y f g = f refl
 either P false x y f g = g refl

@@ -140,7 +140,7 @@ module _ (rows cols first R a m : ℕ) (buffer : List Glyph) (turned : IsTurned 
   pub fits : a + m ≤ length buffer
   fits = rw a_is (omega (arith, m_is, turned.size, row_from cols (brought_back rows (first + R) + 1) rows 0 (omega (arith, back_below rows first R turned.first_in R_in))))
 
-  -- what it holds before an operation
+  -- the cell before an operation
   pub row_before : (c : ℕ) → c < cols → glyph_at (take m (drop a buffer)) c ≡ cell_at cols (in_order cols first buffer) R c
   row_before c q =
       part_at a m c buffer (omega (arith, m_is)) ∙ ap (λ j. get_or buffer (j + c) blank) a_is
@@ -170,7 +170,7 @@ module _ (rows cols first R a m : ℕ) (buffer : List Glyph) (turned : IsTurned 
         (λ k h. put_before a m k buffer ys fits long (rw a_is h))
         (λ k h. put_after a m k buffer ys fits long (omega (arith, m_is, a_is)))
 
-    -- what the screen is after one
+    -- the screen after one
     pub lifted : (one : ℕ → RowSource) → ((c : ℕ) → c < cols → IsInRow cols (one c)) → ys ≡ row_moved (take m (drop a buffer)) one
         → in_order cols first (put_mid a m buffer ys) ≡ mapped_cells rows cols (in_order cols first buffer) (in_row R one)
     lifted one stays ys_is =

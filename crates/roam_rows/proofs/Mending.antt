@@ -1,4 +1,4 @@
--- What mending leaves as it is, and what it makes.
+-- The cells that a repair leaves, and those that it changes.
 use Rattle.std.proofs.Common.{◌≡◌, ℕ, ◌<◌, Bool, true, false, not, ◌&&◌, cond, eqb, ltb, List, [], ◌∷◌, refl, sym, ap, ◌∙◌, arith}
 use Rattle.std.proofs.lemmas.Bool.{false≢true}
 use Rattle.std.proofs.lemmas.Grind.{common_steps}
@@ -16,7 +16,7 @@ kept true true true true s x h k = refl
 kept true true true false s x h k = absurd (false≢true (k refl))
 kept true true false b s x h k = absurd (false≢true (h refl))
 
--- a cell stays where a wide one has its right half and a right half its wide cell
+-- a cell stays if a wide one has its right half and a right half its wide cell
 pub mended_same : (x : Glyph) (a b : Bool) → (is_wide x ≡ true → a ≡ true) → (is_right_half x ≡ true → b ≡ true) → mended_glyph x a b ≡ x
 mended_same x a b h k = kept (is_wide x) (is_right_half x) a b (space_in x) x h k
 
@@ -47,7 +47,7 @@ picked f false true a true s x h k = (refl, λ p. absurd (false≢true p), λ p.
 picked f false true a false s x h k = absurd (false≢true (sym h ∙ k))
 picked f false false a b s x h k = (refl, λ p. absurd (false≢true p), λ p. absurd (false≢true p))
 
--- what is still half of a wide character was so before, and has its other half
+-- a half of a wide character was one before, and has its other half
 pub still_wide : (x : Glyph) (a b : Bool) → is_wide (mended_glyph x a b) ≡ true → (mended_glyph x a b ≡ x) × (is_wide x ≡ true → a ≡ true) × (is_right_half x ≡ true → b ≡ true)
 still_wide x a b h = picked is_wide (is_wide x) (is_right_half x) a b (space_in x) x (is_wide-space_in x) h
 

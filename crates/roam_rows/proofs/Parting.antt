@@ -61,7 +61,7 @@ module _ (col : ℕ) (old : List Glyph) (right left : Glyph) where
             ];
       }
 
--- no right half stands in the column, or the row ends before it
+-- no right half is in the column, or the row ends before it
 pub part_none : (col : ℕ) (old : List Glyph) → IsWholeRow old → (0 < col → col < length old → is_right_half (glyph_at old col) ≡ false) → AreParted (cut_at col) old old
 part_none col old whole none = record {
   len = refl;

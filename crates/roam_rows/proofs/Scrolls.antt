@@ -1,4 +1,4 @@
--- Rows that become blank, go up and go down, told of the value alone.
+-- Rows that become blank, go up and go down, in terms of the value alone.
 use Rattle.std.proofs.Common.{◌≡◌, ℕ, ◌+◌, ◌-◌, ◌*◌, ◌<◌, ◌≤◌, inl, inr, min, List, length, sym, ap, ◌∙◌, arith}
 use Rattle.std.proofs.lemmas.Bool.{cases_eq}
 use Rattle.roam_cells.specs.Glyph.{Glyph}
@@ -108,7 +108,7 @@ lowered_next rows cols from to r n old mid new r_in fits low few was here below 
   below = λ s c p h q. above s c (omega arith) h q ∙ was.below s c p h q;
 }
 
--- a copied row, where the rows and columns have other names
+-- a copied row, if the rows and columns have other names
 pub copied_cols : (rows cols source target : ℕ) (v w : Rows) → v.rows ≡ rows → v.cols ≡ cols → IsCopied source target v w
     → ((c : ℕ) → c < cols → cell_at cols w.cells target c ≡ cell_at cols v.cells source c)
     × ((s c : ℕ) → s < target → c < cols → cell_at cols w.cells s c ≡ cell_at cols v.cells s c)

@@ -140,13 +140,13 @@ comes_below rows cols off r c p = grind (arith, common_steps)
 joins_next : (s c d : ℕ) → d ≡ c + 1 → are_joined (From s c) (From s d) ≡ true
 joins_next s c d e = grind (arith, common_steps)
 
--- what a place shows whose source is blank
+-- the cell of a place whose source is blank
 pub blank_there : (n cols : ℕ) (cells : List Glyph) (source : ℕ → ℕ → Source) (r c : ℕ) → source r c ≡ Fresh blank → recast_at n cols cells source r c ≡ blank
 blank_there n cols cells source r c e =
     ap (λ x. mended_glyph (glyph_of_source cols cells x) (ltb (c + 1) n && are_joined x (source r (c + 1))) (ltb 0 c && are_joined (source r (c - 1)) x)) e
     ∙ mended-blank (ltb (c + 1) n && are_joined (Fresh blank) (source r (c + 1))) (ltb 0 c && are_joined (source r (c - 1)) (Fresh blank))
 
--- what a place shows that keeps its cell
+-- the cell of a place that keeps its cell
 kept_there : (n rows cols off r c : ℕ) (cells : List Glyph) → AreWhole rows cols cells → r + off < rows → c < cols
     → recast_at n cols cells (kept_places rows cols off) r c ≡ mended_glyph (cell_at cols cells (r + off) c) (ltb (c + 1) n) true
 kept_there n rows cols off r c cells whole p q =
@@ -162,7 +162,7 @@ kept_there n rows cols off r c cells whole p q =
     ap (λ b. b && are_joined (source r (c - 1)) (From s c)) (means-ltb 0 c pos)
     ∙ ap (λ x. are_joined x (From s c)) (keeps rows cols off r (c - 1) p (omega arith)) ∙ joins_next s (c - 1) c (omega arith))
 
--- rows of another size, told row by row
+-- rows of another size, row by row
 pub sized_is : (v w : Rows) (rows cols off count : ℕ) → AreRows v → AreRows w → w.rows ≡ rows → w.cols ≡ cols → w.first ≡ 0 → count ≡ min (v.rows - off) rows
     → ((r c : ℕ) → r < count → c < cols → cell_at cols w.cells r c ≡ cut_at_edge cols v.cols v.cells (r + off) c)
     → ((r c : ℕ) → count ≤ r → r < rows → c < cols → cell_at cols w.cells r c ≡ blank)
@@ -188,7 +188,7 @@ sized_is v w rows cols off count h k rows_is cols_is first_is count_is taken_row
       | inr high ↦ rest r c high p q ∙ sym (blank_there cols v.cols v.cells source r c (comes_below v.rows v.cols off r c (omega arith)))
     ]))
 
--- a row that was taken, where the rows and columns have other names
+-- a row that was taken, if the rows and columns have other names
 pub taken_by : (rows cols row source : ℕ) (other v w : Rows) → v.rows ≡ rows → v.cols ≡ cols → IsTaken row source other v w
     → ((c : ℕ) → c < cols → cell_at cols w.cells row c ≡ cut_at_edge cols other.cols other.cells source c)
     × ((r c : ℕ) → r < rows → c < cols → r ≢ row → cell_at cols w.cells r c ≡ cell_at cols v.cells r c)

@@ -50,7 +50,7 @@ turned_at rows cols first buffer r c size first_in r_in c_in =
           ∙ ap (λ j. get_or buffer j blank) room ∙ sym (ap (λ j. cell_at cols buffer j c) (back_high rows (first + r) high))
     ]
 
--- a row of the screen is the row of the buffer that it stands in
+-- a row of the screen is its row of the buffer
 pub row_turned : (rows cols first i at : ℕ) (buffer : List Glyph) → length buffer ≡ rows * cols → first < rows → i < rows → at ≡ brought_back rows (first + i)
     → slice_range buffer (at * cols) ((at + 1) * cols) ≡ slice_range (in_order cols first buffer) (i * cols) ((i + 1) * cols)
 row_turned rows cols first i at buffer size first_in i_in at_is =
@@ -76,7 +76,7 @@ rows_apart cols a b c q ne =
       | inr high ↦ inr (omega (arith, row_from cols (b + 1) a c (omega arith)))
     ]
 
--- what is written over one row of the buffer
+-- a list written over one row of the buffer
 module _ (rows cols first R : ℕ) (old new : List Glyph) (size : length old ≡ rows * cols) (size' : length new ≡ rows * cols) (first_in : first < rows) (R_in : R < rows) where
   pub others_stay : ((k : ℕ) → k < brought_back rows (first + R) * cols → get_or new k blank ≡ get_or old k blank)
       → ((k : ℕ) → brought_back rows (first + R) * cols + cols ≤ k → get_or new k blank ≡ get_or old k blank)

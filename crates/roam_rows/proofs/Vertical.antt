@@ -14,7 +14,7 @@ use Rattle.roam_rows.specs.Vertical.{AreBlanked}
 use Rattle.roam_rows.proofs.Mending.{mended_same, mended-blank, is_wide-blank}
 use Rattle.roam_rows.proofs.Turning.{turned_at}
 
--- what a place shows, by its source and those beside it
+-- the cell of a place, by its source and those beside it
 abbrev pub shown : ℕ → List Glyph → ℕ → Source → Source → Source → Glyph
 shown cols cells c here next before =
     mended_glyph (glyph_of_source cols cells here) (ltb (c + 1) cols && are_joined here next) (ltb 0 c && are_joined before here)

@@ -130,7 +130,7 @@ lowered_none rows cols to n old = record {
   below = λ r c p h q. refl;
 }
 
--- the cells in use of one row are copied, and what was in use past them is blanked
+-- the cells in use of one row are copied, and the cells in use past them are blanked
 module _ (rows cols first s t from to u v w : ℕ) (old mid new : List Glyph) (lengths : List ℕ) (turned : IsTurned rows cols first old) (kept : AreLengths rows cols old lengths)
     (s_in : s < rows) (t_in : t < rows) (from_is : from ≡ s * cols) (to_is : to ≡ t * cols) (u_is : u ≡ get_or lengths s 0) (v_is : v ≡ get_or lengths t 0) (w_is : w ≡ max u v)
     (copied : (CopiedTo old mid from to (from + u - from)) × (SameBelow old mid to) × (SameFrom old mid (to + (from + u - from))))

@@ -1,4 +1,4 @@
--- How far rows are written, where one row of the buffer is written over.
+-- The written lengths of rows, if one row of the buffer is overwritten.
 use Rattle.std.proofs.Common.{◌≡◌, ◌≢◌, ℕ, ◌+◌, ◌*◌, ◌<◌, ◌≤◌, inl, inr, List, length, get_or, set, sym, ap, ◌∙◌, arith, length-set, get_or-set_same, get_or-set_other}
 use Rattle.std.proofs.lemmas.Bool.{cases_eq}
 use Rattle.std.proofs.lemmas.List.{get_or_default, same_lists}
@@ -46,7 +46,7 @@ module _ (rows cols first R at a : ℕ) (old new : List Glyph) (lengths : List �
         ];
       }
 
--- what is past the columns in use
+-- the cells past the columns in use
 pub past_length : (rows cols at a c : ℕ) (buffer : List Glyph) (lengths : List ℕ) → AreLengths rows cols buffer lengths → at < rows → a ≡ at * cols → get_or lengths at 0 ≤ c → c < cols
     → get_or buffer (a + c) blank ≡ blank
 past_length rows cols at a c buffer lengths kept at_in a_is p q = ap (λ j. get_or buffer (j + c) blank) a_is ∙ kept.rest at c at_in p q
@@ -55,7 +55,7 @@ past_length rows cols at a c buffer lengths kept at_in a_is p q = ap (λ j. get_
 pub read_length : (lengths : List ℕ) (at n : ℕ) → at < length lengths → n ≡ get_or lengths at n → n ≡ get_or lengths at 0
 read_length lengths at n h e = e ∙ get_or_default lengths at n 0 h
 
--- what stands there is put there
+-- setting an element to itself changes nothing
 pub set_back : (lengths : List ℕ) (at : ℕ) → at < length lengths → set lengths at (get_or lengths at 0) ≡ lengths
 set_back lengths at h =
     same_lists (set lengths at (get_or lengths at 0)) lengths (length-set lengths at (get_or lengths at 0)) (λ k d p.

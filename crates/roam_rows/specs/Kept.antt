@@ -6,7 +6,7 @@ use Rattle.roam_rows.specs.Rows.{Rows}
 use Rattle.roam_rows.specs.Turned.{IsTurned, in_order}
 use Rattle.roam_rows.specs.declared.rings.Ring.TheInside.{Inside}
 
--- what contracts see of a ring: its rows in the order of the screen
+-- the value of a ring: its rows in the order of the screen
 abbrev pub view_of : Inside → Rows
 view_of a = record { rows = a.rows; cols = a.cols; cells = in_order a.cols a.first a.cells.items; first = a.first }
 
@@ -16,7 +16,7 @@ pub record AreLengths (rows cols : ℕ) (buffer : List Glyph) (lengths : List �
   pub low : (at : ℕ) → at < rows → slice_index lengths at ≤ cols
   pub rest : (at c : ℕ) → at < rows → slice_index lengths at ≤ c → c < cols → cell_at cols buffer at c ≡ blank
 
--- what is true of the fields of every ring
+-- the facts about the fields of every ring
 pub record IsKept (a : Inside) : Type 0 where
   pub turned : IsTurned a.rows a.cols a.first a.cells.items
   pub lengths : AreLengths a.rows a.cols a.cells.items a.lengths.items

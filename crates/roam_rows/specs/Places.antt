@@ -1,15 +1,15 @@
--- Maps over places: what each place of the rows takes.
+-- Maps over places: the source of each place of the rows.
 use Rattle.std.specs.Prelude.{ℕ, ◌+◌, ◌-◌, Bool, false, ◌&&◌, ◌==◌, nat_lt, List, if◌then◌else◌}
 use Rattle.roam_cells.specs.Glyph.{Glyph, is_wide, is_right_half}
 use Rattle.roam_cells.specs.Place.{cell_at, table}
 use Rattle.roam_rows.specs.Row.{RowSource, mended_glyph}
 
--- where a place of many rows takes its cell: from a row and a column, or a cell that is new there
+-- the source of a place of many rows: a cell of a row and a column, or a new cell
 pub data Source : Type 0 where
   From : ℕ → ℕ → Source
   Fresh : Glyph → Source
 
--- what a source holds
+-- the cell of a source
 abbrev pub glyph_of_source : ℕ → List Glyph → Source → Glyph
 glyph_of_source cols cells (From r c) = cell_at cols cells r c
 glyph_of_source cols cells (Fresh x) = x
@@ -21,14 +21,14 @@ are_joined (From r c) (Fresh y) = false
 are_joined (Fresh x) (From s d) = false
 are_joined (Fresh x) (Fresh y) = is_wide x && is_right_half y
 
--- what a place of rows of a number of columns shows, where each place takes what the map says of cells in rows of another number, mended
+-- the cell at a place of rows of a number of columns, if each place takes the cell that the map names in rows of another number, repaired
 abbrev pub recast_at : ℕ → ℕ → List Glyph → (ℕ → ℕ → Source) → ℕ → ℕ → Glyph
 recast_at new_cols cols cells source r c =
     mended_glyph (glyph_of_source cols cells (source r c))
     (nat_lt (c + 1) new_cols && are_joined (source r c) (source r (c + 1)))
     (nat_lt 0 c && are_joined (source r (c - 1)) (source r c))
 
--- what a place shows where each place takes what the map says, mended
+-- the cell at a place, if each place takes the cell that the map names, repaired
 abbrev pub moved_at : ℕ → List Glyph → (ℕ → ℕ → Source) → ℕ → ℕ → Glyph
 moved_at cols = recast_at cols cols
 

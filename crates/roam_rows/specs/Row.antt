@@ -4,7 +4,7 @@ use Rattle.std.specs.List.{range_with_len}
 use Rattle.roam_cells.specs.Glyph.{Glyph, is_wide, is_right_half, space_in}
 use Rattle.roam_cells.specs.Place.{glyph_at}
 
--- where a column of a row takes its cell: from a column of the same row, or a cell that is new there
+-- the source of a column of a row: a column of the same row, or a new cell
 pub data RowSource : Type 0 where
   Column : ℕ → RowSource
   Fresh : Glyph → RowSource
@@ -14,7 +14,7 @@ abbrev pub IsInRow : ℕ → RowSource → Type 0
 IsInRow cols (Column c) = c < cols
 IsInRow cols (Fresh x) = Unit {0}
 
--- what a source of a row holds
+-- the cell of a source of a row
 abbrev pub row_taken : List Glyph → RowSource → Glyph
 row_taken row (Column c) = glyph_at row c
 row_taken row (Fresh x) = x
@@ -33,7 +33,7 @@ mended_glyph x has_right has_left =
     else if (is_right_half x && not has_left) then space_in x
     else x
 
--- what a column shows where each column takes what the map says
+-- the cell of a column, if each column takes the cell that the map names
 abbrev pub row_moved_at : List Glyph → (ℕ → RowSource) → ℕ → Glyph
 row_moved_at row one c =
     mended_glyph (row_taken row (one c))

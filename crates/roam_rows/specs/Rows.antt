@@ -14,7 +14,7 @@ pub record Rows : Type 0 where
   pub cells : List Glyph
   pub first : ℕ
 
--- what is true of all rows that go round
+-- the facts about all rows in a circular buffer
 pub record AreRows (v : Rows) : Type 0 where
   pub limits : IsSize v.rows v.cols
   pub size : length v.cells ≡ v.rows * v.cols
@@ -29,7 +29,7 @@ blank_rows rows cols = record { rows = rows; cols = cols; cells = replicate (row
 abbrev pub buffer_of : Rows → List Glyph
 buffer_of v = in_order v.cols (v.rows - v.first) v.cells
 
--- the rows from one on and before another keep their places in the buffer, and show there what they showed
+-- the rows from one on and before another keep their places in the buffer, with the same cells
 abbrev pub KeepPlaces : ℕ → ℕ → Rows → Rows → Type 0
 KeepPlaces from to v w =
     (r c : ℕ) → from ≤ r → r < to → r < v.rows → c < v.cols

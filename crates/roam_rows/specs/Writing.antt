@@ -5,7 +5,7 @@ use Rattle.roam_cells.specs.Place.{glyph_at, cell_at}
 use Rattle.roam_rows.specs.Row.{RowSource, Column, Fresh}
 use Rattle.roam_rows.specs.Rows.{Rows}
 
--- a cell is written in a column, with its right half where it is wide (ECMA-48 section 6.1, graphic characters)
+-- a cell is written in a column, with its right half if it is wide (ECMA-48 section 6.1, graphic characters)
 abbrev pub writing_source : Glyph → ℕ → ℕ → RowSource
 writing_source x col c =
     if (c == col) then Fresh x
@@ -20,7 +20,7 @@ written_run cells col c = if (nat_le col c && nat_lt c (col + length cells)) the
 abbrev pub base_column : ℕ → List Glyph → ℕ → ℕ → ℕ
 base_column cols cells row col = if is_right_half (cell_at cols cells row col) then col - 1 else col
 
--- a code point joins the character that a column of a row is part of, where it joins that at all (this project's profile)
+-- a code point joins the character at a column of a row, if it joins that at all (this project's profile)
 abbrev pub joined_rows : ℕ → ℕ → ℕ → Rows → Rows
 joined_rows row col point v =
     let base = base_column v.cols v.cells row col in

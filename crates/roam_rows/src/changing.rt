@@ -1,4 +1,4 @@
-//! What is done to the cells of one row, wherever it stands in the buffer.
+//! Changes of the cells of one row, wherever it is in the buffer.
 ghost use Rattle.std.specs.Prelude.{◌≡◌, ℕ, ◌+◌, ◌<◌, ◌≤◌, List, true, false, length, slice_index_or};
 ghost use Rattle.roam_cells.specs.Glyph.{Glyph, blank, inked_bytes, is_right_half, is_wide};
 ghost use Rattle.roam_cells.specs.Place.{IsWholeRow};
@@ -18,10 +18,10 @@ pub trait RowChange {
     /// Where each column of a row takes its cell then.
     ghost source: { Self → List Glyph → ℕ → RowSource };
 
-    /// Whether it can be done in a row of so many columns.
+    /// True if the change is possible in a row of so many columns.
     ghost fits: { Self → ℕ → Type 0 };
 
-    /// Does it in a row whose cells from `len` on are blank, and answers from where on they are blank then.
+    /// Changes a row whose cells from `len` on are blank, and returns the new such length.
     fn apply(self, row: &mut [Cell], len: u16) -> u16
         requires fits { fits self (length row.old) }
         requires few { length row.old ≤ 500 }
@@ -35,7 +35,7 @@ pub trait RowChange {
         ensures rest { (c : ℕ) → result ≤ c → c < length row.old → slice_index_or row.new c blank ≡ blank };
 }
 
-/// A cell of one or two columns is written at a column, with its right half where it is wide.
+/// Writes a cell of one or two columns at a column, with its right half if it is wide.
 #[derive(Clone, Copy)]
 pub struct Put {
     pub col: usize,
@@ -57,7 +57,7 @@ pub struct Erase {
     pub to: usize,
 }
 
-/// The columns from one on and before another are blanked where they aren't guarded.
+/// Blanks the unguarded columns from one on and before another.
 #[derive(Clone, Copy)]
 pub struct EraseUnguarded {
     pub from: usize,

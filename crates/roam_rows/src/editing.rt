@@ -9,7 +9,7 @@ use crate::halves::part_twice;
 use crate::spans::blank_between;
 use roam_cells::Cell;
 
-/// Inserts n blanks at a column of a row that is blank from `len` on; what goes past the edge is lost.
+/// Inserts n blanks at a column of a row that is blank from `len` on; cells past the edge are lost.
 pub fn insert(row: &mut [Cell], col: usize, n: usize, len: usize)
     requires col_in { col < length row.old }
     requires rest { (c : ℕ) → len ≤ c → c < length row.old → slice_index_or row.old c blank ≡ blank }

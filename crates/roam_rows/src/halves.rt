@@ -1,11 +1,11 @@
-//! The two halves of a wide character, where a boundary between columns is cut.
+//! The two halves of a wide character at a boundary between columns that is cut.
 ghost use Rattle.std.specs.Prelude.{◌<◌, ◌≤◌, length};
 ghost use Rattle.roam_cells.specs.Place.{IsWholeRow};
 ghost use Rattle.roam_rows.specs.Halves.{AreParted, cut_at, cut_twice, cut_unguarded};
 
 use roam_cells::Cell;
 
-/// Makes two spaces of a wide cell and its right half that stand before a column of a row and in it.
+/// Makes two spaces of a wide cell before a column of a row and its right half in it.
 #[inline]
 pub fn part_inside(row: &mut [Cell], col: usize)
     requires col_in { col < length row.old }
@@ -21,7 +21,7 @@ pub fn part_inside(row: &mut [Cell], col: usize)
     }
 }
 
-/// The same where the column may be past the row's last: then nothing stands in it.
+/// The same for a column that may be past the row's last; then nothing is in it.
 #[inline]
 pub fn part(row: &mut [Cell], col: usize)
     requires whole { IsWholeRow row.old }

@@ -1,4 +1,4 @@
-//! Where rows stand in the buffer.
+//! The places of rows in the buffer.
 ghost use Rattle.std.specs.Prelude.{◌≡◌, ◌+◌, ◌*◌, ◌<◌, ◌≤◌};
 ghost use Rattle.roam_rows.specs.Turned.{brought_back};
 
@@ -10,7 +10,7 @@ pub fn bring_back(rows: usize, at: usize) -> usize
     if at < rows { at } else { at - rows }
 }
 
-/// The row of the buffer, from 0, where row `row`, from 0, stands.
+/// Returns the row of the buffer, from 0, that is row `row` of the screen, from 0.
 #[inline]
 pub fn place(rows: usize, first: usize, row: usize) -> usize
     requires rows { (rows ≤ 200) × (first < rows) × (row < rows) }
@@ -20,7 +20,7 @@ pub fn place(rows: usize, first: usize, row: usize) -> usize
     bring_back(rows, first + row)
 }
 
-/// The index in the buffer where the buffer's row `at` begins.
+/// Returns the index in the buffer at which the buffer's row `at` begins.
 #[inline]
 #[tactic(auto, using(roam_cells::proofs::Places::row_from))]
 pub fn start_of(rows: usize, cols: usize, at: usize) -> usize

@@ -1,4 +1,4 @@
-//! The rows themselves: what they are made of, and what reads or changes one of them.
+//! The rows themselves: their fields, and the calls that read or change one of them.
 ghost use Rattle.std.specs.Prelude.{◌≡◌, ℕ, ◌+◌, ◌-◌, ◌*◌, ◌<◌, ◌≤◌, ◌++◌, true, false, length, replicate, IfOk};
 ghost use Rattle.roam_cells.specs.Glyph.{inked_bytes, blank, is_wide, is_right_half};
 ghost use Rattle.roam_cells.specs.Limits.{IsSize};
@@ -23,8 +23,8 @@ use std::marker::Model;
 pub struct Ring {
     // the rows, from row `first` on and round to it
     cells: Vec<Cell>,
-    // for each row of `cells` how many of its columns may have been written: those past it are blank, so that a row is blanked
-    // and copied at the cost of its columns in use
+    // for each row of `cells` how many of its columns may have been written: those past it are blank, so that a row is blanked and copied
+    // at the cost of its columns in use
     lengths: Vec<u16>,
     rows: usize,
     cols: usize,
@@ -61,7 +61,7 @@ impl Ring {
         })
     }
 
-    /// What is true of all rows: a size within the limits, as many cells, and whole characters in each row.
+    /// Facts about all rows: a size within the limits, as many cells, and whole characters in each row.
     #[inline]
     pub fn facts(&self)
         ensures rows { AreRows self.now }
@@ -135,7 +135,7 @@ impl Ring {
         self.lengths[at] = change.apply(&mut self.cells[start..start + self.cols], len);
     }
 
-    /// Writes a cell of one or two columns into row `row` at column `col`, both from 0, with its right half where it is wide.
+    /// Writes a cell of one or two columns into row `row` at column `col`, both from 0, with its right half if it is wide.
     #[inline]
     pub fn put(&mut self, row: usize, col: usize, cell: Cell)
         requires on_rows { (row < self.old.rows) × (col < self.old.cols) }
@@ -173,7 +173,7 @@ impl Ring {
         self.change_row(row, EraseUnguarded { from, to });
     }
 
-    /// Joins a code point to the character that a column of a row is part of, both from 0; nothing changes where it joins none.
+    /// Joins a code point to the character at a column of a row, both from 0; nothing changes if it joins none.
     pub fn join(&mut self, row: usize, col: usize, point: char)
         requires on_rows { (row < self.old.rows) × (col < self.old.cols) }
         ensures ring { self.new ≡ joined_rows row col point self.old }
@@ -204,7 +204,7 @@ impl Ring {
         self.change_row(row, Insert { col, n });
     }
 
-    /// Takes n cells out at a column of a row, both from 0; those right of them go to the left, and blanks come in at the edge.
+    /// Deletes n cells at a column of a row, both from 0; those right of them go to the left, and blanks come in at the edge.
     pub fn delete(&mut self, row: usize, col: usize, n: usize)
         requires on_rows { (row < self.old.rows) × (col < self.old.cols) }
         ensures ring { self.new ≡ with_row row (deletion_source self.old.cols col n) self.old }
@@ -246,7 +246,7 @@ impl Ring {
         blank_between(cells, target_start + count, target_start + end);
     }
 
-    /// Makes a blank row what a row of other rows is, cut at the right edge.
+    /// Copies a row of other rows, cut at the right edge, over a blank row.
     pub(crate) fn take_row(&mut self, row: usize, other: &Ring, source: usize)
         requires on_rows { (row < self.old.rows) × (source < other.now.rows) }
         requires empty { (c : ℕ) → c < self.old.cols → cell_at self.old.cols self.old.cells row c ≡ blank }

@@ -11,7 +11,7 @@ impl Ring {
     ghost use Rattle.roam_rows.specs.Scrolling.{all_up, all_down};
     ghost use Rattle.roam_rows.specs.Vertical.{IsSameShape};
 
-    /// Blanks the rows from one on and before another, told row by row.
+    /// Blanks the rows from one on and before another, row by row.
     fn clear_rows(&mut self, from: usize, to: usize)
         requires on_rows { (from ≤ to) × (to ≤ self.old.rows) }
         ensures shape { IsSameShape self.old self.new }

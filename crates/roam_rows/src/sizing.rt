@@ -52,7 +52,7 @@ impl Fitted {
     }
 }
 
-/// Writes a row over a blank one: what is past the edge is lost, and a wide cell that is cut there becomes a space in its style and guard.
+/// Writes a row over a blank one: cells past the edge are lost, and a wide cell that is cut there becomes a space in its style and guard.
 pub fn cut_into(row: &mut [Cell], source: &[Cell])
     requires empty { (c : ℕ) → c < length row.old → slice_index_or row.old c blank ≡ blank }
     requires whole { IsWholeRow source.now }

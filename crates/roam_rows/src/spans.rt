@@ -19,8 +19,8 @@ fn fill_between(cells: &mut [Cell], start: usize, end: usize)
     cells[start..end].fill(Cell::blank());
 }
 
-/// Blanks the cells from one index on and before another: a few, and then twice as many as there are each time, since
-/// cells are copied in larger moves than they are written.
+/// Blanks the cells from one index on and before another: a few, and then twice as many each time, since cells are copied in larger moves
+/// than they are written.
 pub fn blank_between(cells: &mut [Cell], start: usize, end: usize)
     requires range { (start ≤ end) × (end ≤ length cells.old) }
     ensures len { length cells.new ≡ length cells.old }

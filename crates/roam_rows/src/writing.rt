@@ -8,7 +8,7 @@ ghost use Rattle.roam_rows.specs.Writing.{writing_source, written_run, ArePrinta
 use crate::halves::part_twice;
 use roam_cells::Cell;
 
-/// Writes a cell of one or two columns, with its right half where it is wide, into a row.
+/// Writes a cell of one or two columns, with its right half if it is wide, into a row.
 #[inline]
 pub fn write(row: &mut [Cell], col: usize, cell: Cell)
     requires col_in { col < length row.old }

@@ -1,4 +1,4 @@
--- Screens kept row by row: what stands at a place, and one row changed.
+-- Screens kept row by row: the cell at a place, and a change of one row.
 use Rattle.std.proofs.Common.{◌≡◌, ◌≢◌, ℕ, zero, suc, ◌+◌, ◌-◌, ◌*◌, ◌/◌, ◌%◌, ◌<◌, ◌≤◌, List, [], ◌∷◌, ◌++◌, false, inl, inr, length, get_or, set, take, drop, replicate, sym, ap, ◌∙◌, subst, arith, length-append}
 use Rattle.std.specs.Prelude.{EachIndex}
 use Rattle.std.proofs.lemmas.Bool.{cases_eq}
@@ -121,9 +121,9 @@ module _ (cols : ℕ) where
             ∙ ap length (get_or-replicate rows k (replicate cols blank) [] (omega (arith, count, h))) ∙ length-replicate cols blank;
       }
 
-  -- ---- what is true of each cell
+  -- ---- a property of each cell
 
-  -- the cell of a place stands in its row
+  -- the cell of a place is in its row
   joined_place : (rows : ℕ) (lines : List (List Glyph)) (k : ℕ) → AreLines rows cols lines → k < rows * cols
       → (k / cols < rows) × (k % cols < cols) × (get_or (cells_in_order lines) k blank ≡ get_or (get_or lines (k / cols) []) (k % cols) blank)
   joined_place rows lines k are h =
@@ -217,7 +217,7 @@ module _ (s : Screenshot) (lines : List (List Glyph)) (i : ℕ) (line : List Gly
             ∙ ap (λ (l : List Glyph). take (i * s.cols) l ++ (line ++ drop ((i + 1) * s.cols) l)) (sym e)) j;
       }
 
-  -- the row is the new one, and each other what it was
+  -- the row is the new one, and each other row stays
   pub set_row_here : row_of s.cols (cells_in_order (set lines i line)) i ≡ line
   set_row_here =
       joined_row s.cols s.rows (set lines i line) i set_lines p ∙ get_or-set_same lines i line [] (omega (arith, are.count, p))

@@ -208,7 +208,7 @@ module _ (s : Screenshot) (h : IsScreenshot s) where
             (both.0, ap is_wide (is (c - 1) (omega (arith, q))) ∙ both.1);
       }
 
-  -- what is true of the cell that stands at each place
+  -- a property of the cell at each place
   each : (P : Glyph → Type 0) → ((r c : ℕ) → r < rows → c < cols → P (narrow_at s r c)) → (k : ℕ) → k < length cells → P (get_or cells k blank)
   each P there k p =
       let at = place_of rows cols k (omega (arith, p, length-table rows cols (narrow_at s))) in
@@ -342,7 +342,7 @@ module _ (s : Screenshot) (h : IsOldScreenshot s) where
         visible = visible_stays i;
       }
 
--- ---- what the protocol wants of them
+-- ---- the requirements of the protocol
 
 pub narrow_is : (s : Screenshot) → IsScreenshot s → IsOldScreenshot (narrow s)
 narrow_is s is = narrowed s is
@@ -359,7 +359,7 @@ old_blank =
           ap (λ (g : Glyph). is_plain_style g.style) (get_or-replicate (24 * 80) k blank blank q);
     }
 
--- a screen of these parts is what is shown of it
+-- a screen of these parts is the narrowed one
 pub narrow_shown : (s : Screenshot) (rows cols : ℕ) (lines : List (List Glyph)) (row col : ℕ) (visible : Bool) → rows ≡ narrow_rows s.rows → cols ≡ narrow_cols s.cols
     → cells_in_order lines ≡ table rows cols (narrow_at s) → row ≡ narrow_row s.rows s.cursor_row → col ≡ min s.cursor_col 250
     → visible ≡ (s.visible && not (is_row_out s.rows s.cursor_row || is_col_out s.cursor_col)) → screen_of rows cols lines row col visible ≡ narrow s

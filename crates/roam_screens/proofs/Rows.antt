@@ -1,4 +1,4 @@
--- Worked rows: a right half gives no code point; what version 1 shows of mixtures, rows and cursors.
+-- Worked rows: a right half gives no code point; the mixtures, rows and cursors of version 1.
 use Rattle.std.proofs.Common.{◌≡◌, true, false, [], ◌∷◌, map, refl}
 use Rattle.roam_cells.specs.Glyph.{Glyph, blank, right_of, default_style}
 use Rattle.roam_cells.specs.declared.styles.Colour.TheVariants.{Default, Index, Rgb}
@@ -12,12 +12,12 @@ wide = record { points = 0x4E2D ∷ []; style = default_style; guarded = false }
 second_row : row_text 3 (blank ∷ blank ∷ blank ∷ wide ∷ right_of wide ∷ blank ∷ []) 1 ≡ 0x4E2D ∷ 32 ∷ []
 second_row = refl
 
--- orange, black and white in the table of 256, and what is no mixture
+-- orange, black and white in the table of 256, and colours that are no mixtures
 colours : map narrow_colour (Rgb 255 128 0 ∷ Rgb 0 0 0 ∷ Rgb 255 255 255 ∷ Rgb 10 20 30 ∷ Index 7 ∷ Default ∷ [])
     ≡ Index 214 ∷ Index 16 ∷ Index 231 ∷ Index 16 ∷ Index 7 ∷ Default ∷ []
 colours = refl
 
--- of 200 rows, where rows 99, 100, 150 and 200 of a cursor go
+-- of 200 rows, the new rows of a cursor in rows 99, 100, 150 and 200
 cursors : map (narrow_row 200) (99 ∷ 100 ∷ 150 ∷ 200 ∷ []) ≡ 99 ∷ 99 ∷ 99 ∷ 100 ∷ []
 cursors = refl
 

@@ -1,4 +1,4 @@
--- What of a screen is shown by one of version 1: at most 100 rows of 250 columns, and no mixtures (this project's profile).
+-- The part of a screen that version 1 shows: at most 100 rows of 250 columns, and no mixtures (this project's profile).
 use Rattle.std.specs.Prelude.{◌≡◌, ℕ, ◌+◌, ◌-◌, ◌*◌, ◌/◌, ◌≤◌, min, Bool, true, false, not, ◌&&◌, ◌||◌, ◌==◌, nat_lt, EachIndex, slice_index_or, if◌then◌else◌}
 use Rattle.roam_cells.specs.Glyph.{Glyph, is_wide, space_in, blank}
 use Rattle.roam_cells.specs.Limits.{most_old_rows, most_old_columns}
@@ -38,7 +38,7 @@ narrow_colour (Rgb r g b) = Index (16 + 36 * step r + 6 * step g + step b)
 abbrev pub narrow_style : Style → Style
 narrow_style s = record s { foreground = narrow_colour s.foreground; background = narrow_colour s.background }
 
--- a cell, in the last column that is shown or before it: a wide one that is cut in two is a space in its style
+-- a cell, in the last column that is shown or before it: a wide one that is cut in two becomes a space in its style
 abbrev pub narrow_glyph : Bool → Glyph → Glyph
 narrow_glyph last g =
     if last && is_wide g then record (space_in g) { style = narrow_style g.style } else record g { style = narrow_style g.style }
@@ -54,7 +54,7 @@ narrow_cols cols = min cols most_old_columns
 abbrev pub row_shown : ℕ → ℕ → ℕ
 row_shown rows r = if r + 1 == narrow_rows rows then rows - 1 else r
 
--- what stands at a row and a column, from 0
+-- the cell at a row and a column, from 0
 abbrev pub narrow_at : Screenshot → ℕ → ℕ → Glyph
 narrow_at s r c = narrow_glyph (c + 1 == narrow_cols s.cols) (cell_at s.cols s.cells (row_shown s.rows r) c)
 
@@ -70,7 +70,7 @@ is_col_out col = nat_lt most_old_columns col
 abbrev pub narrow_row : ℕ → ℕ → ℕ
 narrow_row rows row = if row == rows then narrow_rows rows else min row (most_old_rows - 1)
 
--- a screen as one of version 1; the cursor is hidden where its row or its column is left out
+-- a screen as one of version 1; the cursor is hidden if its row or column is left out
 abbrev pub narrow : Screenshot → Screenshot
 narrow s =
     record {

@@ -5,8 +5,8 @@ use Rattle.roam_cells.specs.Glyph.{Glyph, blank}
 use Rattle.roam_cells.specs.Limits.{IsSize}
 use Rattle.roam_cells.specs.Place.{AreWhole, AreUnguarded, AreShown, row_of}
 
--- a screen as it is shown: its size, its cells in reading order, the cursor's row and column from 1 (as in CUP, ECMA-48 8.3.21), and
--- whether the cursor is visible
+-- a screen as it is shown: its size, its cells in reading order, the cursor's row and column from 1 (as in CUP, ECMA-48 8.3.21), and the
+-- cursor's visibility
 pub record Screenshot : Type 0 where
   pub rows : ℕ
   pub cols : ℕ
@@ -22,7 +22,7 @@ pub record IsPlace (rows cols row col : ℕ) : Type 0 where
   pub col_from : 1 ≤ col
   pub col_to : col ≤ cols
 
--- what is true of each screen that is shown
+-- the facts about each screen that is shown
 pub record IsScreenshot (s : Screenshot) : Type 0 where
   pub size : IsSize s.rows s.cols
   pub count : length s.cells ≡ s.rows * s.cols

@@ -74,7 +74,7 @@ fn cell_of<S: Seen>(shot: &S, row: u16, col: u16) -> &Cell
     &shot.row(row)[col as usize]
 }
 
-// What stands at a place, of which the row shows another one.
+// Returns the cell of a place that the row shows differently.
 fn narrow_at<S: Seen>(shot: &S, cols: u16, from: u16, row: u16, col: u16) -> Cell
     requires cols { cols ≡ narrow_cols (S.screen shot.now).cols }
     requires from { from ≡ row_shown (S.screen shot.now).rows row }
@@ -168,7 +168,7 @@ fn narrow_cursor(rows: u16, cursor: (u16, u16), visible: bool) -> ((u16, u16), b
     ((shown, col.min(OLD_COLUMNS)), visible && !out)
 }
 
-/// What of a screen version 1 shows, line by line.
+/// Returns the part of a screen that version 1 shows, line by line.
 pub fn narrowed<S: Seen>(alloc: Global, shot: &S) -> Result<RowShot, Fault>
     ensures narrow { IfOk result (λ narrowed. narrowed ≡ narrow (S.screen shot.now)) }
     ensures fault { IsOkUnless result Fault.OutOfMemory }

@@ -36,7 +36,8 @@ impl RowShot1 {
         RowShot1 { shot }
     }
 
-    /// What of a screen version 1 shows: of more than 100 rows the first 99 and the last, of more than 250 columns the first 250.
+    /// Returns the part of a screen that version 1 shows: of more than 100 rows the first 99 and the last, of more than 250 columns the
+    /// first 250.
     pub fn of(alloc: Global, shot: &RowShot) -> Result<RowShot1, Fault>
         ensures narrow { IfOk result (λ old. old ≡ narrow shot.now) }
         ensures fault { IsOkUnless result Fault.OutOfMemory }

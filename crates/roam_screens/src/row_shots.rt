@@ -37,8 +37,8 @@ impl Model for RowShot {
 }
 
 impl RowShot {
-    /// A screen of spaces in the default style with a visible cursor in its first row and column; `BadSize` outside 2 to 200 rows or 4 to
-    /// 500 columns.
+    /// Returns a screen of spaces in the default style with a visible cursor in its first row and column. `BadSize` outside 2 to 200 rows
+    /// or 4 to 500 columns.
     pub fn blank(alloc: Global, rows: u16, cols: u16) -> Result<RowShot, Fault>
         ensures blank { IfOk result (λ shot. shot ≡ blank_screenshot rows cols) }
         ensures size { IfOk result (λ _. IsSize rows cols) }

@@ -1,4 +1,4 @@
-//! What is read of a screen, however it keeps its cells.
+//! Reads a screen, however it keeps its cells.
 ghost use Rattle.std.specs.Prelude.{◌≡◌, ◌<◌, ◌-◌, length, SomeIff, IfOk, IsOkUnless};
 ghost use Rattle.roam_cells.specs.Place.{cell_at, row_of};
 ghost use Rattle.roam_screens.specs.Screenshot.{Screenshot, IsPlace, IsScreenshot, row_text as text_in_row};
@@ -20,7 +20,7 @@ pub trait Seen: Drop {
     fn cols(&self) -> u16
         ensures cols { result ≡ (screen self.now).cols };
 
-    /// The cell at a row and a column, both from 1, or `None` where the screen has no such place.
+    /// Returns the cell at a row and a column, both from 1, or `None` if the screen has no such place.
     fn at(&self, row: u16, col: u16) -> Option<Cell>
         ensures cell { SomeIff result (IsPlace (screen self.now).rows (screen self.now).cols row col)
             (cell_at (screen self.now).cols (screen self.now).cells (row - 1) (col - 1)) };
@@ -36,11 +36,11 @@ pub trait Seen: Drop {
         ensures row { result.0 ≡ (screen self.now).cursor_row }
         ensures col { result.1 ≡ (screen self.now).cursor_col };
 
-    /// Whether the cursor is visible.
+    /// Returns true if the cursor is visible.
     fn visible(&self) -> bool
         ensures visible { result ≡ (screen self.now).visible };
 
-    /// What is true of every screen that is shown.
+    /// Facts about every screen that is shown.
     fn facts(&self)
         ensures screenshot { IsScreenshot (screen self.now) };
 }

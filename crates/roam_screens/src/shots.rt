@@ -37,7 +37,7 @@ impl Model for Shot {
       visible = s.visible;
     } };
 
-    // A screen is well-formed from where it is made, so that no layer above tests it again.
+    // A screen is well-formed from the start, so that no layer above tests it again.
     ghost invariant = { λ s. IsScreenshot (record {
       rows = s.rows;
       cols = s.cols;
@@ -49,8 +49,8 @@ impl Model for Shot {
 }
 
 impl Shot {
-    /// A screen of spaces in the default style with a visible cursor in its first row and column; `BadSize` outside 2 to 200 rows or 4 to
-    /// 500 columns.
+    /// Returns a screen of spaces in the default style with a visible cursor in its first row and column. `BadSize` outside 2 to 200 rows
+    /// or 4 to 500 columns.
     pub fn blank(alloc: Global, rows: u16, cols: u16) -> Result<Shot, Fault>
         ensures blank { IfOk result (λ shot. shot ≡ blank_screenshot rows cols) }
         ensures size { IfOk result (λ _. IsSize rows cols) }
@@ -96,7 +96,7 @@ impl Shot {
         }
     }
 
-    /// The cell at a row and a column, both from 1, or `None` where the screen has no such place.
+    /// Returns the cell at a row and a column, both from 1, or `None` if the screen has no such place.
     pub fn at(&self, row: u16, col: u16) -> Option<Cell>
         ensures cell { SomeIff result (IsPlace self.now.rows self.now.cols row col)
             (cell_at self.now.cols self.now.cells (row - 1) (col - 1)) }
@@ -156,7 +156,7 @@ impl Shot {
         self.cursor
     }
 
-    /// Whether the cursor is visible.
+    /// Returns true if the cursor is visible.
     pub fn visible(&self) -> bool
         ensures visible { result ≡ self.now.visible }
     {
@@ -170,7 +170,7 @@ impl Shot {
         &self.cells
     }
 
-    /// Whether the two screens are one: in size, in every cell, in the cursor and in its visibility.
+    /// Returns true if the two screens are equal in size, in every cell, in the cursor and in its visibility.
     pub fn is_same(&self, other: &Shot) -> bool
         ensures same { IsTrue result ↔ (self.now ≡ other.now) }
     {
@@ -186,7 +186,7 @@ impl Shot {
         are_same_cells(&self.cells, &other.cells)
     }
 
-    /// What is true of every screen that is shown.
+    /// Facts about every screen that is shown.
     pub fn facts(&self)
         ensures screenshot { IsScreenshot self.now }
     {

@@ -2,7 +2,7 @@
 use Rattle.std.proofs.Common.{◌≡◌, ℕ, List, [], ◌++◌, length, min, take, drop, arith, append-nil, sym, ap, ◌∙◌}
 use Rattle.std.proofs.Math.Seq.{take-length, drop-length}
 
--- what was copied where as much room was as waits is all that waits
+-- a copy into as much room as there are waiting bytes has all of them
 pub whole_copy : (n len : ℕ) (waiting old new : List ℕ) → len ≡ length waiting → length old ≡ len → n ≡ min (length waiting) (length old)
     → new ≡ take n waiting ++ drop n old → waiting ≡ new
 whole_copy n len waiting old new all long count is =

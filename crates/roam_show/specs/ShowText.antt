@@ -1,4 +1,4 @@
--- What `roam show` writes.
+-- The output of `roam show`.
 use Rattle.std.specs.Prelude.{ℕ, zero, suc, List, [], ◌∷◌, ◌++◌, map, codes, decimal, encode_utf8_all, if◌then◌else◌}
 use Rattle.hex.specs.Hex.{encode_lower}
 use Rattle.roam_term.specs.Limits.{pane_lines}

@@ -1,6 +1,6 @@
-//! What `roam show` prints: the screen that a pane's bytes make, and what the terminal answered.
+//! The output of `roam show`: the screen that a pane's bytes make, and the terminal's answers.
 //!
-//! It stands below the program, so that its clauses and edits don't pay for reading the command line's library.
+//! It is below the program, so that its clauses and edits don't pay for reading the command line's library.
 #![tactic(auto)]
 
 mod show;

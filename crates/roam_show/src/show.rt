@@ -1,4 +1,4 @@
-//! `roam show`: feeds what a reader gives to a terminal, and writes the screen that it makes and what it answered.
+//! `roam show`: feeds the bytes of a reader to a terminal, and writes its screen and its answers.
 ghost use Rattle.std.specs.Prelude.{◌≡◌, ◌≢◌, ◌⊎◌, ◌↔◌, ◌++◌, ℕ, List, [], OnOk, IfOk, IfErr, IsErrOf, IsOkUnless, map, codes, decimal, if◌then◌else◌, string_bytes};
 ghost use Rattle.std.specs.Io.KnownBytes.{Consumes, IsAtEnd, Appends, Keeps};
 ghost use Rattle.roam_text.specs.Log.{Item, Byte};
@@ -19,7 +19,7 @@ use std::io::{Read, Write};
 /// How many reads a run makes at most; the end has to be seen within them.
 pub const MOST_READS: u32 = 16_777_216;
 
-// Reads to the end and feeds each piece; what the terminal answered goes into `report`.
+// Reads to the end and feeds each piece; the terminal's answers go into `report`.
 fn feed_all<R: Read>(
     alloc: Global,
     term: &mut Term,
@@ -48,7 +48,7 @@ fn feed_all<R: Read>(
     Err(RunFault::Read)
 }
 
-// Moves what the terminal answered to the end of the report.
+// Moves the terminal's answers to the end of the report.
 fn take_report(alloc: Global, term: &mut Term, report: &mut Vec<u8>) -> Result<(), Fault>
     ensures waiting { OnOk result (term.new.waiting ≡ []) }
     ensures report { OnOk result (report.new.items ≡ report.old.items ++ term.old.waiting) }
@@ -113,7 +113,7 @@ pub fn push_screen<S: Seen>(alloc: Global, text: &mut String, shot: &S) -> Resul
     Ok(())
 }
 
-// Adds the line of what the terminal answered.
+// Adds the line of the terminal's answers.
 fn push_output(alloc: Global, text: &mut String, report: &[u8]) -> Result<(), AllocError>
     ensures text { OnOk result (string_bytes text.new ≡ string_bytes text.old ++ output_line report.now) }
 {
@@ -126,7 +126,7 @@ fn push_output(alloc: Global, text: &mut String, report: &[u8]) -> Result<(), Al
     text.push('\n')
 }
 
-// The text of a terminal's screen and of what it answered.
+// Returns the text of a terminal's screen and of its answers.
 fn text_of(alloc: Global, term: &Term, report: &[u8]) -> Result<String, Fault>
     ensures text { IfOk result (λ text. (rows cols : ℕ) (log : List ℕ) → Stands term.now rows cols pane_lines (map Byte log) →
         report.now ≡ reports rows cols pane_lines (map Byte log) → string_bytes text ≡ show_text rows cols log) }
@@ -139,7 +139,7 @@ fn text_of(alloc: Global, term: &Term, report: &[u8]) -> Result<String, Fault>
     Ok(text)
 }
 
-// Feeds a fresh terminal with all that the reader gives, and tells the text of its screen and of what it answered.
+// Feeds a fresh terminal with all bytes of the reader, and returns the text of its screen and of its answers.
 fn text_after<R: Read>(alloc: Global, term: &mut Term, reader: &mut R) -> Result<String, RunFault>
     requires waiting { term.old.waiting ≡ [] }
     ensures text { IfOk result (λ text. (log : List ℕ) × Consumes (R.remaining reader.old) (R.remaining reader.new) log
@@ -170,9 +170,9 @@ fn text_shown<R: Read>(
     text_after(alloc, &mut term, reader)
 }
 
-/// Feeds a terminal of this size with all that the reader gives, and writes its screen, row by row between bars, its cursor,
-/// and what it answered in hexadecimal. Refuses another size than 2 to 200 rows and 4 to 500 columns, and want of memory; a
-/// reader that fails, or that hasn't ended after 16,777,216 reads, is `Read`; a writer that fails is `Write`.
+/// Feeds a terminal of this size with all bytes of the reader. Writes its screen, row by row between bars, its cursor, and its answers in
+/// hexadecimal. `BadSize` outside 2 to 200 rows and 4 to 500 columns, `OutOfMemory`; `Read` if the reader fails or hasn't ended after
+/// 16,777,216 reads; `Write` if the writer fails.
 pub fn run_show<R: Read, W: Write>(
     alloc: Global,
     rows: u16,
@@ -180,7 +180,7 @@ pub fn run_show<R: Read, W: Write>(
     reader: &mut R,
     writer: &mut W,
 ) -> Result<(), RunFault>
-    // The reader came to its end, and what was written is the text for all bytes read.
+    // The reader came to its end, and the output is the text for all bytes read.
     ensures shown { OnOk result ((log : List ℕ) × Consumes (R.remaining reader.old) (R.remaining reader.new) log
         × IsAtEnd (R.remaining reader.new)
         × Appends (W.contents writer.old) (W.contents writer.new) (show_text rows cols log)) }

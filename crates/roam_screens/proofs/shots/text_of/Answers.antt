@@ -6,7 +6,7 @@ use Rattle.std.proofs.lemmas.List.{take_more, flat_map_more}
 use Rattle.roam_cells.specs.Glyph.{Glyph}
 use Rattle.roam_screens.proofs.shots.text_of.Goals as goal
 
--- what holds of the error that there is
+-- a property of the error, if there is one
 of_error : {T E : Type 0} (r : Result T E) (P : E → Type 0) → IsErrAnd r P → IfErr r P
 of_error (Ok x) P h = absurd h
 of_error (Err y) P h = h
