@@ -181,7 +181,7 @@ drop-fields (suc n) (b ∷ rest) (inr s, h) less =
     (ap (λ k. digits (drop (k + 1) (0x3B ∷ rest))) (length-separator n rest)
     ∙ ap digits (drop-one-more (fields_length 0x3B (suc n) rest) 0x3B rest) ∙ drop-fields n rest h (omega (arith, less, long)))
 
--- where nothing is behind these fields there are no more of them
+-- there are no more fields if nothing is behind these
 pub end-fields : (n : ℕ) (body : List ℕ) → Numbers body → length body ≤ fields_length 0x3B (suc n) body → length (digits body) ≤ suc n
 end-fields n [] h whole = omega arith
 end-fields n (b ∷ rest) (inl d, h) whole =

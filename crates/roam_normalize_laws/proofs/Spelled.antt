@@ -56,7 +56,7 @@ first-parameter body h = by (digits body) (digits-some body h) (first-is body h)
     by [] some is = absurd (omega (arith, some))
     by (d ∷ ds) some is = ap (λ l. map capped_value l ++ map capped_value ds) is
 
--- the second one is 0 where there is none
+-- the second one is 0 if there is none
 record Second (body : List ℕ) : Type 0 where
   digits_there : Rattle.roam_normalize_laws.proofs.Fields.Digits (next_field body)
   is : (drop 1 (parameters_of body) ≡ []) ⊎ (drop 1 (parameters_of body) ≡ value (next_field body) ∷ drop 2 (parameters_of body))

@@ -15,7 +15,7 @@ use Rattle.roam_controls.specs.Renditions.{Rendition, coloured_style, styled_by,
 abbrev pub start : Style → Rendition
 start g = record { style = g; awaited = Aspect }
 
--- what a style is, and what is awaited, after some parameters
+-- the style after some parameters, and the awaited one
 abbrev pub after : Style → List ℕ → Rendition
 after g ps = fold with_parameter (start g) ps
 
@@ -24,7 +24,7 @@ pub nothing-stays : (ps : List ℕ) (g : Style)
 nothing-stays [] g = refl
 nothing-stays (p ∷ ps) g = nothing-stays ps g
 
--- where the first parameters end an aspect the rest goes on from there
+-- if the first parameters end an aspect, the rest goes on from there
 pub splits : (k : ℕ) (ps : List ℕ) (g : Style) → (after g (take k ps)).awaited ≡ Aspect
     → styled_by ps g ≡ styled_by (drop k ps) (styled_by (take k ps) g)
 splits k ps g is =

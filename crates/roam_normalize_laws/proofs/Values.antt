@@ -1,4 +1,4 @@
--- The value of a number, and what the normalizer makes of its digits.
+-- The value of a number, and the normalizer's output for its digits.
 use Rattle.std.proofs.Common.{◌≡◌, ◌⊎◌, inl, inr, ◌≤◌, ◌<◌, ◌+◌, ◌-◌, ◌*◌, ℕ, suc, Bool, true, false, cond, List, [], ◌∷◌, length, map, refl, sym, ap, ◌∙◌, arith}
 use Rattle.std.specs.Prelude.{◌==◌, ◌||◌, ◌&&◌, if◌then◌else◌, min}
 use Rattle.std.proofs.lemmas.Bool.Decides.{nat_tests}
@@ -14,7 +14,7 @@ values field = map (λ b. b - 0x30) field
 abbrev pub value : List ℕ → ℕ
 value field = capped_value (values field)
 
--- what a parameter begins, by its value
+-- the field that a parameter begins, by its value
 abbrev pub kind_by : ℕ → Field
 kind_by v = if (v == 38 || v == 48) then Colour else if v == 58 then LineColour else if v == 59 then NoLineColour else Plain
 

@@ -1,4 +1,4 @@
-//! What the rewritten renditions of `roam_normalize` mean to the terminal: the style that the program asked for.
+//! The meaning of the rewritten renditions of `roam_normalize` to the terminal: the style that the program asked for.
 #![tactic(auto)]
 
 pub mod laws;

@@ -147,7 +147,7 @@ rows_step old new r start out later g next p q s t = (
 pub nothing : (start x : List ℕ) → x ≡ [] → start ≡ start ++ x
 nothing start x e = sym (ap (λ l. start ++ l) e ∙ append-nil start)
 
--- ---- where differences go on
+-- ---- runs of differences
 
 pub stays_first : (b : Bool) (old new : Screenshot) (r : ℕ) → (false && b) ≡ goes_on (differs old new) r 0
 stays_first b old new r = refl

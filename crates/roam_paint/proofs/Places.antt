@@ -1,4 +1,4 @@
--- What a screen shows at each place, and where it differs from another.
+-- The cell of a screen at each place, and the places at which it differs from another.
 use Rattle.std.proofs.Common.{◌≡◌, ◌≤◌, ◌<◌, ℕ, ◌+◌, ◌*◌, ◌-◌, Bool, true, false, not, ◌&&◌, nat_lt, eqb, inl, inr, get_or, take, drop, length, length-take, length-drop, List, sym, ap, ◌∙◌, refl, arith}
 use Rattle.std.specs.Prelude.{if◌then◌else◌}
 use Rattle.std.proofs.lemmas.Bool.{cases_lt, and_parts, and_right, lt-ltb, le-ltb, eqb-true, not-false}
@@ -13,7 +13,7 @@ use Rattle.roam_term.specs.Ground.{shown_at}
 use Rattle.roam_paint.specs.Painting.{same_size, painted_over, differs}
 use Rattle.roam_cells.proofs.SameCells.{glyph_same, glyph_again}
 
--- ---- what a screen shows inside it and outside it
+-- ---- the cells of a screen inside it and outside it
 
 pub shown_inside : (p : Screenshot) (r c : ℕ) → r < p.rows → c < p.cols → shown_at p r c ≡ cell_at p.cols p.cells r c
 shown_inside p r c a b =
@@ -87,7 +87,7 @@ module _ (old new : Screenshot) where
       ∙ sym (part_at (r * n) n c old.cells low) ∙ ap (λ l. get_or l c blank) front ∙ part_at (r * n) n c new.cells low
       ∙ ap (λ k. get_or new.cells (r * k + c) blank) n_is)
 
-  -- and where a row differs nowhere, its cells are the same
+  -- and if a row differs nowhere, its cells are equal
   pub slice_same : same_size old new ≡ true → (r n : ℕ) → r < new.rows → n ≡ new.cols → length old.cells ≡ old.rows * old.cols
       → length new.cells ≡ new.rows * new.cols → ((c : ℕ) → differs old new r c ≡ false)
       → take (r * n + n - r * n) (drop (r * n) old.cells) ≡ take (r * n + n - r * n) (drop (r * n) new.cells)

@@ -1,4 +1,4 @@
--- The cursor is placed exactly where widened runs begin.
+-- The cursor is placed exactly at the beginnings of widened runs.
 use Rattle.std.proofs.Common.{◌≡◌, ◌≤◌, ◌<◌, ℕ, zero, suc, ◌+◌, ◌-◌, Bool, true, false, not, ◌&&◌, ◌||◌, inl, inr, List, [], ◌∷◌, ◌++◌, map, refl, sym, ap, ◌∙◌, subst, arith}
 use Rattle.std.specs.Prelude.{◌⊎◌, if◌then◌else◌, nat_lt}
 use Rattle.std.proofs.lemmas.Bool.{false≢true, cases_Bool, cases_lt, lt-ltb}
@@ -81,7 +81,7 @@ no-print r c (p ∷ ps) h = elim h [
   | inr k ↦ no-print r c ps k
 ]
 
--- ---- where the cursor is placed
+-- ---- the places at which the cursor is placed
 
 module _ (d : ℕ → ℕ → Bool) (new : Places) where
   record IsPlaced (r c : ℕ) : Type 0 where

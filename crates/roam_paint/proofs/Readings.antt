@@ -1,4 +1,4 @@
--- What a terminal's reader makes of the painter's sequences, character by character.
+-- The functions that a terminal's reader makes of the painter's sequences, character by character.
 use Rattle.std.proofs.Common.{◌≡◌, ◌≤◌, ◌<◌, ℕ, ◌+◌, ◌-◌, ◌*◌, ◌%◌, ◌^◌, min, true, false, ◌&&◌, cond, ltb, inl, inr, List, [], ◌∷◌, ◌++◌, map, length, take, take_all, Option, Some, None, refl, sym, ap, ◌∙◌, arith, append_assoc}
 use Rattle.std.specs.Prelude.{⊤, decimal}
 use Rattle.std.specs.List.{flat_map}

@@ -252,7 +252,7 @@ module _ (log : List Item) (fs : List Function) (rest : AtRest log) (legible : A
     to_come = λ more. after_all more ∙ sym (ap (λ l. l ++ functions more) reads);
   }
 
-  -- and they are what the terminal does
+  -- and the terminal does these functions
   pub term-acted : (rows cols lines : ℕ) → (term rows cols lines later).live ≡ acted fs (term rows cols lines log).live
   unfolding term
   term-acted rows cols lines =

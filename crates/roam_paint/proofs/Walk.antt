@@ -110,7 +110,7 @@ module _ (still : Constants) (prows pcols : ℕ) (d : ℕ → ℕ → Bool) (new
         ((half_in i j half).0, (λ a b. right (over_wide i j half a b) a b), cuts_right i j half))
         ∙ shows
 
-    -- a place that showed what it is to show goes on showing it
+    -- a place with the right cell keeps it
     keeps : (i j : ℕ) → i < rows → j < cols → cell_at cols cells i j ≡ new i j → cell_at cols after i j ≡ new i j
     keeps i j p q shows =
         elim (cases_eq i r) [
@@ -130,7 +130,7 @@ module _ (still : Constants) (prows pcols : ℕ) (d : ℕ → ℕ → Bool) (new
               ]
         ]
 
-  -- ---- what is shown before a place of a row: all above, all before it, its right half where its left half was painted, and all that does not differ
+  -- ---- the places before one of a row: all above, all before it, its right half if its left half was painted, and all that do not differ
 
   pub record Shown (r k : ℕ) (cells : List Glyph) : Type 0 where
     pub above : (i j : ℕ) → i < r → i < rows → j < cols → cell_at cols cells i j ≡ new i j
@@ -138,7 +138,7 @@ module _ (still : Constants) (prows pcols : ℕ) (d : ℕ → ℕ → Bool) (new
     pub half : is_right_half (new r k) ≡ true → k < cols → cell_at cols cells r k ≡ new r k
     pub rest : (i j : ℕ) → i < rows → j < cols → d i j ≡ false → cell_at cols cells i j ≡ new i j
 
-  -- and where the cursor stands: after what was painted, while the row goes on
+  -- and the cursor: behind the painted cells, while the row goes on
   pub record Walked (r k : ℕ) (g : Style) (t : Live) : Type 0 where
     pub cells : List Glyph
     pub row : ℕ
@@ -216,7 +216,7 @@ module _ (still : Constants) (prows pcols : ℕ) (d : ℕ → ℕ → Bool) (new
     abbrev ready : Style → Option ℕ → Live
     ready s last = at_work still w.cells r k false s false last
 
-    -- what REP repeats after the cursor was placed, and after a style was set
+    -- the character that REP repeats after the cursor was placed, and after a style was set
     abbrev last_placed : Option ℕ
     last_placed = if goes_on d r k then w.last else None
 
@@ -378,7 +378,7 @@ module _ (still : Constants) (prows pcols : ℕ) (d : ℕ → ℕ → Bool) (new
         (next_row n (style_in d new n g pcols) (acted (drawn_row d new n g pcols) there)
         (row n pcols g there (omega (arith, n_in)) (omega arith) (all_rows n t (omega (arith, n_in)) w))))
 
-    -- after the last row all places show what they are to show
+    -- after the last row all places have the right cells
     pub all_shown : (g : Style) (t : Live) (w : Walked prows 0 g t) (i j : ℕ) → i < rows → j < cols → cell_at cols w.cells i j ≡ new i j
     all_shown g t w i j p q =
         elim (cases_lt i prows) [

@@ -180,8 +180,8 @@ module _ (still : Constants) (old new : Screenshot) (rows_in : new.rows ≤ stil
           visible = refl;
         })
 
--- a ground terminal that shows the old screen and has the new one's size at least: after what is drawn it is a ground terminal of its size
--- that shows the new screen
+-- A ground terminal that shows the old screen and has at least the new one's size is, after the drawing, a ground terminal of its size that
+-- shows the new screen.
 pub goes_over : (t : Live) (old new : Screenshot) → IsGround t → ShowsScreen t old → new.rows ≤ t.screen.rows → new.cols ≤ t.screen.cols
     → IsScreenshot new
     → IsGround (acted (functions_between old new) t) × ShowsScreen (acted (functions_between old new) t) new

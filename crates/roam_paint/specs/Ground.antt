@@ -16,8 +16,8 @@ pub record Displays (rows cols lines : ℕ) (log : List Item) (p : Screenshot) :
 
 -- ---- the laws
 
--- the text between two screens: a ground terminal that shows the old one and has the new one's size at least is afterwards a ground
--- terminal of its size that shows the new one
+-- The text between two screens: a ground terminal that shows the old one and has at least the new one's size is afterwards a ground
+-- terminal of its size that shows the new one.
 pub record LeadsOver (rows cols lines : ℕ) (log : List Item) (old new : Screenshot) : Type 0 where
   pub displays : Displays rows cols lines (log ++ map Byte (text_between old new)) new
   pub size : IsSized (term rows cols lines log).live (term rows cols lines (log ++ map Byte (text_between old new))).live
@@ -28,8 +28,8 @@ PaintedLeadsOver =
     → new.rows ≤ (term rows cols lines log).live.screen.rows → new.cols ≤ (term rows cols lines log).live.screen.cols
     → LeadsOver rows cols lines log old new
 
--- after `blanking_text` any terminal is a ground terminal of its size that shows a blank screen, of its size or of a smaller one, also
--- where it stood in a sequence, in a string or in an unfinished character
+-- After `blanking_text` any terminal is a ground terminal of its size that shows a blank screen, of its size or a smaller one. It may have
+-- been within a sequence, a string or an unfinished character.
 pub record IsOpened (rows cols lines : ℕ) (log : List Item) : Type 0 where
   pub displays : (height width : ℕ)
       → height ≤ (term rows cols lines log).live.screen.rows → width ≤ (term rows cols lines log).live.screen.cols

@@ -1,5 +1,5 @@
--- What leads a terminal from one screen to another: first as functions, and then as bytes.
--- Everything is said place by place; a place outside a screen counts as blank.
+-- The functions and bytes that lead a terminal from one screen to another. Everything is defined place by place; a place outside a screen
+-- counts as blank.
 use Rattle.std.specs.Prelude.{ℕ, zero, suc, ◌+◌, ◌-◌, ◌==◌, ◌&&◌, ◌||◌, not, nat_lt, Bool, if◌then◌else◌, List, [], ◌∷◌, ◌++◌, map}
 use Rattle.std.specs.List.{flat_map}
 use Rattle.roam_cells.specs.Glyph.{Glyph, is_wide, is_right_half, blank, default_style}
@@ -14,7 +14,7 @@ use Rattle.roam_paint.specs.Sequences.{spelling_of}
 
 -- ---- the places
 
--- what stands at each row and column, both from 0
+-- the cell at each row and column, both from 0
 abbrev pub Places : Type 0
 Places = ℕ → ℕ → Glyph
 
@@ -22,7 +22,7 @@ Places = ℕ → ℕ → Glyph
 abbrev pub same_size : Screenshot → Screenshot → Bool
 same_size old new = (old.rows == new.rows) && (old.cols == new.cols)
 
--- what is painted over: a screen of another size is erased first
+-- the cells to be painted over: a screen of another size is erased first
 abbrev pub painted_over : Screenshot → Screenshot → Places
 painted_over old new r c = if same_size old new then shown_at old r c else blank
 
@@ -42,11 +42,11 @@ goes_on d r c = nat_lt 0 c && (d r (c - 1) && d r c)
 
 -- ---- row by row
 
--- the cursor is placed where a run begins
+-- the cursor is placed at the beginning of a run
 abbrev pub placing : (ℕ → ℕ → Bool) → ℕ → ℕ → List Function
 placing d r c = if goes_on d r c then [] else place_cursor (r + 1) (c + 1) ∷ []
 
--- a style is set where it isn't the one that is set
+-- a style is set if it isn't the current one
 abbrev pub styling : Style → Style → List Function
 styling s g = if same_style s g then [] else restyle s
 
@@ -80,11 +80,11 @@ abbrev pub drawn_rows : (ℕ → ℕ → Bool) → Places → ℕ → ℕ → Li
 drawn_rows d new cols zero = []
 drawn_rows d new cols (suc r) = drawn_rows d new cols r ++ drawn_row d new r (style_at d new cols r) cols
 
--- the cursor is hidden, and where sizes differ all is erased
+-- the cursor is hidden, and if sizes differ all is erased
 abbrev pub opening : Screenshot → Screenshot → List Function
 opening old new = hide_cursor ∷ (if same_size old new then [] else erase_all ∷ [])
 
--- the default style, the cursor at its place, and shown where it is visible
+-- the default style, the cursor at its place, and shown if it is visible
 abbrev pub closing : Screenshot → List Function
 closing new = set_style default_style ∷ place_cursor new.cursor_row new.cursor_col ∷ (if new.visible then show_cursor ∷ [] else [])
 

@@ -31,11 +31,11 @@ abbrev pub IsAmong : Function → List Function → Type 0
 IsAmong f [] = ⊥
 IsAmong f (g ∷ gs) = (f ≡ g) ⊎ IsAmong f gs
 
--- the cursor is placed at a row and a column where the rows are drawn
+-- the cursor is placed at a row and a column in the drawing of the rows
 abbrev pub IsPlacedAt : Screenshot → Screenshot → ℕ → ℕ → Type 0
 IsPlacedAt old new r c = IsAmong (place_cursor (r + 1) (c + 1)) (drawn_rows (differs old new) (shown_at new) new.cols new.rows)
 
--- the cursor is placed exactly where a widened run begins
+-- the cursor is placed exactly at the beginning of a widened run
 pub record IsPlacedByRuns (old new : Screenshot) (r c : ℕ) : Type 0 where
   pub placed : BeginsRun old new r c → IsPlacedAt old new r c
   pub begins : IsPlacedAt old new r c → BeginsRun old new r c

@@ -10,12 +10,12 @@ parameter_text [] = []
 parameter_text (p ∷ []) = decimal p
 parameter_text (p ∷ q ∷ params) = decimal p ++ 0x3B ∷ parameter_text (q ∷ params)
 
--- a private marker, where there is one
+-- a private marker, if there is one
 abbrev pub marker_text : Option ℕ → List ℕ
 marker_text None = []
 marker_text (Some mark) = mark ∷ []
 
--- a character in UTF-8, ESC with a final byte, or a control sequence after ESC [ (ECMA-48 5.3 and 5.4); a painter asks for nothing else
+-- a character in UTF-8, ESC with a final byte, or a control sequence after ESC [ (ECMA-48 5.3 and 5.4); a painter uses nothing else
 abbrev pub spelling_of : Function → List ℕ
 spelling_of (Print c) = encode_utf8 c
 spelling_of (Esc inter last) = 0x1B ∷ last ∷ []

@@ -13,7 +13,7 @@ pub fn is_same_size<O: Seen, N: Seen>(old: &O, new: &N) -> bool
     old.rows() == new.rows() && old.cols() == new.cols()
 }
 
-// Whether two cells show something else.
+// Returns true if two cells show different things.
 fn is_other(one: &Cell, other: &Cell) -> bool
     ensures other { result ≡ not (same one.now other.now) }
 {
@@ -29,8 +29,8 @@ pub fn cell_of<S: Seen>(screen: &S, row: usize, col: usize) -> &Cell
     &screen.row(row as u16)[col]
 }
 
-/// Whether a place of the new screen, from 0, or the one behind its last column is to show something else: old counts as blank where sizes
-/// differ.
+/// Returns true if a place of the new screen, from 0, or the one behind its last column has to change. The old screen counts as blank if
+/// sizes differ.
 pub fn differs<O: Seen, N: Seen>(old: &O, new: &N, row: usize, col: usize) -> bool
     requires row { row < (N.screen new.now).rows }
     ensures differs { result ≡ differs (O.screen old.now) (N.screen new.now) row col }
@@ -46,7 +46,7 @@ pub fn differs<O: Seen, N: Seen>(old: &O, new: &N, row: usize, col: usize) -> bo
     }
 }
 
-/// Whether both screens have one size and no place of a row differs.
+/// Returns true if both screens have one size and no place of a row differs.
 pub fn is_same_row<O: Seen, N: Seen>(old: &O, new: &N, row: usize) -> bool
     requires row { row < (N.screen new.now).rows }
     ensures size { result ≡ true → same_size (O.screen old.now) (N.screen new.now) ≡ true }

@@ -17,7 +17,7 @@ pub fn reader_rests()
     ensures rests { ReaderRests }
 {}
 
-/// The cursor is placed exactly where the maximal runs of differing places begin, once they are widened to whole wide cells.
+/// The cursor is placed exactly at the beginnings of the maximal runs of differing places, widened to whole wide cells.
 pub fn cursor_is_placed_by_runs()
     ensures placed { CursorIsPlacedByRuns }
 {}

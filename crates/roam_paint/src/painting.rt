@@ -1,4 +1,4 @@
-//! What leads a ground terminal from one screen to another.
+//! The text that leads a ground terminal from one screen to another.
 ghost use Rattle.std.specs.Prelude.{◌≡◌, ℕ, ◌+◌, ◌<◌, ◌≤◌, ◌&&◌, ◌||◌, not, ◌++◌, List, OnOk, OnErr, IfOk, IsOkUnless, [], if◌then◌else◌};
 ghost use Rattle.std.specs.List.{flat_map};
 ghost use Rattle.roam_cells.specs.Glyph.{is_right_half, is_wide};
@@ -22,7 +22,7 @@ use roam_cells::{Cell, Fault, Style};
 use roam_screens::Seen;
 use std::alloc::{AllocError, Global};
 
-// Whether a place of a row and those beside it are to show something else.
+// True if a place of a row, and those beside it, have to change.
 #[derive(Clone, Copy)]
 struct Differences {
     before: bool,
@@ -107,8 +107,8 @@ fn paint_place<O: Seen, N: Seen>(
     Ok(cell.style())
 }
 
-// One row, with the style that is set before it; answers the style that is set after it. Each place is compared once, or, where the row
-// begins with places that don't differ, twice.
+// Paints one row, with the style that is set before it; returns the style that is set after it. Each place is compared once, or twice if
+// the row begins with places that don't differ.
 fn paint_row<O: Seen, N: Seen>(
     text: &mut Vec<u8>,
     old: &O,
@@ -182,8 +182,7 @@ fn close_painting(text: &mut Vec<u8>, cursor: (u16, u16), visible: bool) -> Resu
     Ok(())
 }
 
-// The text is put together apart, so that want of memory leaves what was there as it was (docs/DECISIONS.md, 52). Where sizes differ all
-// is erased first (51).
+// The text is built separately, so that want of memory leaves the old one. If sizes differ all is erased first.
 fn painting<O: Seen, N: Seen>(alloc: Global, old: &O, new: &N) -> Result<Vec<u8>, AllocError>
     ensures text { IfOk result (λ text. text.items ≡ text_between (O.screen old.now) (N.screen new.now)) }
 {
@@ -194,12 +193,11 @@ fn painting<O: Seen, N: Seen>(alloc: Global, old: &O, new: &N) -> Result<Vec<u8>
     Ok(text)
 }
 
-/// Adds the text that leads a ground terminal from one screen to another; refuses want of memory, which leaves `out` as it was.
+/// Appends the text that leads a ground terminal from one screen to another. `OutOfMemory` leaves `out` as it was.
 ///
-/// The cursor is hidden; where sizes differ all is erased (ED 2, ECMA-48 8.3.39) and old counts as blank. For each row each maximal run of
-/// places that differ, widened to whole wide cells of the new screen, is written from where it begins (CUP, 8.3.21), with SGR (8.3.117)
-/// before each cell whose style isn't the one that is set. Then come the default style, the cursor's place, and the cursor where it is
-/// visible.
+/// The cursor is hidden. If sizes differ all is erased (ED 2, ECMA-48 8.3.39) and the old screen counts as blank. For each row each maximal
+/// run of places that differ, widened to whole wide cells of the new screen, is written from its beginning (CUP, 8.3.21), with SGR
+/// (8.3.117) before each cell in another style. Then come the default style, the cursor's place, and the cursor if it is visible.
 pub fn paint<O: Seen, N: Seen>(old: &O, new: &N, out: &mut Vec<u8>) -> Result<(), Fault>
     ensures leads { OnOk result ((rows cols lines : ℕ) (log : List Item) → Displays rows cols lines log (O.screen old.now)
         → (N.screen new.now).rows ≤ (term rows cols lines log).live.screen.rows
@@ -216,8 +214,8 @@ pub fn paint<O: Seen, N: Seen>(old: &O, new: &N, out: &mut Vec<u8>) -> Result<()
     Ok(())
 }
 
-/// Adds the text that makes of any terminal state a ground terminal with a blank screen (RIS, ECMA-48 8.3.105); refuses want of memory,
-/// which leaves `out` as it was.
+/// Appends the text that makes of any terminal state a ground terminal with a blank screen (RIS, ECMA-48 8.3.105). `OutOfMemory` leaves
+/// `out` as it was.
 pub fn open(out: &mut Vec<u8>) -> Result<(), Fault>
     ensures begins { OnOk result ((rows cols lines : ℕ) (log : List Item) → 1 ≤ (term rows cols lines log).live.screen.rows
         → 1 ≤ (term rows cols lines log).live.screen.cols → IsOpened rows cols lines log) }

@@ -1,4 +1,4 @@
-//! The text of what a painter asks of a terminal.
+//! The text of a painter's functions.
 ghost use Rattle.std.specs.Prelude.{◌≡◌, ◌∷◌, [], ◌++◌, OnOk, decimal, if◌then◌else◌};
 ghost use Rattle.std.specs.List.{flat_map};
 ghost use Rattle.std.specs.Char.{encode_utf8};
@@ -70,7 +70,7 @@ pub fn push_set_style(text: &mut Vec<u8>, style: Style) -> Result<(), AllocError
     Ok(())
 }
 
-// SGR that sets a colour, after 38 or 48, where it is a mixture.
+// Appends SGR that sets a colour, after 38 or 48, if it is a mixture.
 #[tactic(auto, using(crate::proofs::Spellings::mixture_text))]
 fn push_mixture(text: &mut Vec<u8>, code: u16, colour: Colour) -> Result<(), AllocError>
     ensures text { OnOk result (text.new.items ≡ text.old.items ++ flat_map spelling_of (set_mixture code colour)) }
@@ -123,7 +123,7 @@ pub fn push_hide_cursor(text: &mut Vec<u8>) -> Result<(), AllocError>
     text.extend_from_slice(b"\x1B[?25l")
 }
 
-/// ED 2 (ECMA-48 8.3.39), but where sizes are the same.
+/// Appends ED 2 (ECMA-48 8.3.39), unless sizes are equal.
 pub fn push_erase_all(text: &mut Vec<u8>, same: bool) -> Result<(), AllocError>
     ensures text { OnOk result (text.new.items ≡ text.old.items ++ (if same then [] else 0x1B ∷ 0x5B ∷ 0x32 ∷ 0x4A ∷ [])) }
 {
@@ -133,7 +133,7 @@ pub fn push_erase_all(text: &mut Vec<u8>, same: bool) -> Result<(), AllocError>
     Ok(())
 }
 
-/// The cursor is shown (DECTCEM, VT220 Programmer Reference), where it is visible.
+/// Appends the text that shows the cursor (DECTCEM, VT220 Programmer Reference), if it is visible.
 pub fn push_show_cursor(text: &mut Vec<u8>, visible: bool) -> Result<(), AllocError>
     ensures text { OnOk result (text.new.items ≡ text.old.items
         ++ (if visible then 0x1B ∷ 0x5B ∷ 0x3F ∷ 0x32 ∷ 0x35 ∷ 0x68 ∷ [] else [])) }

@@ -34,7 +34,7 @@ use Rattle.roam_term.specs.Unmarked.{MarksAreAdded}
 
 -- ---- what puts marks on
 
--- those that it puts on where none is
+-- the marks that it puts on if none is on
 abbrev pub Adds : (List Bool → List Bool) → Type 0
 Adds f = (m : List Bool) (r : ℕ) → r < 200 → is_marked (f m) r ≡ (is_marked m r || is_marked (f all_off) r)
 

@@ -1,4 +1,4 @@
--- What a written cell leaves as it is.
+-- The parts that a written cell leaves.
 use Rattle.std.proofs.Common.{◌≡◌, ℕ, ◌+◌, ◌-◌, ◌<◌, Bool, true, false, ◌&&◌, cond, eqb, ltb, inl, inr, List, [], ◌∷◌, take, refl, sym, ap, ◌∙◌, arith}
 use Rattle.std.proofs.lemmas.Bool.{false≢true, cases_eq, lt-ltb}
 use Rattle.std.proofs.lemmas.Grind.{common_steps}
@@ -75,7 +75,7 @@ back_joined r c h = grind (arith, common_steps)
 back_is : (s : Source) (r c : ℕ) → 0 < c → s ≡ From r (c - 1) → (ltb 0 c && are_joined s (From r c)) ≡ true
 back_is s r c h e = ap (λ s. ltb 0 c && are_joined s (From r c)) e ∙ back_joined r c h
 
--- a cell that is written stands there
+-- a written cell is at its place
 pub written_hit : (w : Bool) (x : Glyph) (cols : ℕ) (cells : List Glyph) (row col : ℕ) → is_right_half x ≡ false → is_wide x ≡ w → (w ≡ true → col + 1 < cols)
     → moved_at cols cells (by w x row col) row col ≡ x
 written_hit false x cols cells row col text wide fits =
@@ -93,7 +93,7 @@ written_half x cols cells row col wide =
     ∙ mended_same (right_of x) (ltb (col + 1 + 1) cols && are_joined (Fresh (right_of x)) (by true x row col row (col + 1 + 1))) (ltb 0 (col + 1) && (is_wide x && true))
     (λ h. absurd (false≢true h)) (λ h. second_joined (is_wide x) col wide)
 
--- another place stays, unless it holds a half that the cell cuts
+-- another place stays, unless it has a half that the cell cuts
 pub written_other : (w : Bool) (x : Glyph) (cols : ℕ) (cells : List Glyph) (row col r c : ℕ)
     → (r ≡ row → c ≡ col → ⊥) → (w ≡ true → r ≡ row → c ≡ col + 1 → ⊥)
     → (is_wide (cell_at cols cells r c) ≡ true → (c + 1 < cols) × (r ≡ row → c + 1 ≡ col → ⊥))

@@ -18,7 +18,7 @@ use Rattle.roam_text.specs.EscapeSequences.{in_escape_sequence, escape_sequence_
 use Rattle.roam_text.specs.Functions.{front, functions_from, functions, functions_of}
 use Rattle.roam_term.specs.Screens.{AreSizes}
 
--- what holds of each entry of a list
+-- a property of each entry of a list
 abbrev pub Each : {A : Type 0} → (A → Type 0) → List A → Type 0
 Each P [] = Unit {0}
 Each P (x ∷ xs) = P x × Each P xs
@@ -48,7 +48,7 @@ IsProper (Print c) = IsScalar c
 IsProper (Size r c) = IsSize r c
 IsProper f = Unit {0}
 
--- what a front gives and leaves
+-- the functions and the rest of a front
 record AreProper (f : Front) : Type 0 where
   gives : Each IsProper f.gives
   left : Each IsSign f.left
@@ -210,7 +210,7 @@ signs_proper before (Byte b ∷ log) h =
     (signs_proper (before ++ b ∷ []) log h)
 signs_proper before (Resized r c ∷ log) h = (h.0, signs_proper before log h.1)
 
--- what the functions of a log print and size
+-- the prints and sizes among the functions of a log
 pub log_proper : (log : List Item) → AreSizes log → Each IsProper (functions_of log)
 unfolding functions
 log_proper log h = functions_proper (length (signs log)) (signs log) (signs_proper [] log h)

@@ -14,7 +14,7 @@ use Rattle.roam_controls.specs.declared.renditions.Awaited.{Awaited}
 use Rattle.roam_controls.specs.declared.renditions.Awaited.TheVariants.{Aspect, ColourSpace, ColourIndex, Red, Green, Blue, Nothing}
 use Rattle.roam_controls.specs.Renditions.{Rendition, coloured_style, with_colour, without_aspect, with_aspect, mixed_style, read_as, with_parameter, styled_by}
 
--- both colours of a style, as a pair: it is the same where only aspects differ
+-- both colours of a style, as a pair: it is the same if only aspects differ
 abbrev HasColours : Style → Type 0
 HasColours s = IsColour s.foreground × IsColour s.background
 
@@ -70,7 +70,7 @@ mixed_has layer r g b s has =
     ) has)
     (λ e. has)
 
--- what is read so far has colours that there are
+-- the style read so far has colours that exist
 abbrev IsRead : Rendition → Type 0
 IsRead r = HasColours r.style
 

@@ -1,4 +1,4 @@
--- What a dispatched function makes: it is never a size.
+-- The effect of a dispatched function: it is never a size.
 use Rattle.std.proofs.Common.{◌≡◌, ℕ, Bool, List, refl}
 use Rattle.roam_text.specs.declared.functions.Dispatch.{Dispatch}
 use Rattle.roam_text.specs.declared.functions.Dispatch.TheVariants.{Print, C0, C1, Esc, Csi}

@@ -1,4 +1,4 @@
--- What control functions and characters make of a ground terminal.
+-- The effect of control functions and characters on a ground terminal.
 use Rattle.std.proofs.Common.{◌≡◌, ◌≤◌, ◌<◌, ℕ, zero, suc, ◌+◌, ◌-◌, ◌*◌, Bool, true, false, ◌&&◌, ltb, nat_lt, List, get_or, replicate, Option, Some, None, refl, sym, ap, ◌∙◌, subst, arith}
 use Rattle.std.specs.Prelude.{if◌then◌else◌}
 use Rattle.roam_cells.specs.Glyph.{Glyph, blank, default_style}
@@ -24,7 +24,7 @@ use Rattle.roam_term.specs.Terminal.{Live, changed_by, reset}
 use Rattle.roam_term.proofs.Cells.{by, written_half}
 use Rattle.roam_term.proofs.Steps.{Constants, at_work, goes, restyles, mixes, hides, reveals, erases, joins, print_is, advances, pends, inked_hit}
 
--- what stays as it is
+-- the parts that stay
 abbrev pub constants_of : Live → Constants
 constants_of t =
     record {

@@ -1,4 +1,4 @@
--- What lives of a terminal keeps screens of one size, whatever functions come.
+-- The live state of a terminal keeps screens of one size, whatever functions come.
 use Rattle.std.proofs.Common.{◌≡◌, ℕ, zero, suc, ◌-◌, ◌<◌, Bool, true, false, not, ◌&&◌, ◌||◌, cond, eqb, ltb, leb, max, List, [], ◌∷◌, length, get_or, replicate, Option, Some, None, refl, sym, ap, ◌∙◌, subst, arith}
 use Rattle.std.specs.Char.{IsScalar}
 use Rattle.std.specs.List.{fold}
@@ -224,12 +224,12 @@ abbrev pub IsPrinted : Option ℕ → Type 0
 IsPrinted None = Unit {0}
 IsPrinted (Some c) = IsScalar c
 
--- what is saved is in a style that there is
+-- the saved state has a style that exists
 abbrev pub IsSaved : Option Saved → Type 0
 IsSaved None = Unit {0}
 IsSaved (Some k) = IsStyle k.pen.style
 
--- the pen and what is saved for both screens are in styles that there are
+-- the pen and the saved states of both screens have styles that exist
 pub record IsInked (ink : InkValue) (main other : Option Saved) : Type 0 where
   pub pen : IsStyle ink.style
   pub saved : IsSaved main
@@ -442,7 +442,7 @@ set_lives ClearStops params l is = goes l (set_by ClearStops params l) is (grid.
 
 -- ---- commands
 
--- a command prints a Unicode scalar value where it prints at all
+-- a command that prints prints a Unicode scalar value
 abbrev IsSaid : Command → Type 0
 IsSaid (Prints c) = IsScalar c
 IsSaid Nothing = Unit {0}

@@ -48,7 +48,7 @@ in-append p (x ∷ xs) ys = in-append (size_in p x) xs ys
 abbrev Passes : List Sign → Front → Type 0
 Passes xs f = (p : ℕ × ℕ) → sizes_in (sizes_by p f.gives) f.left ≡ sizes_in p xs
 
--- what passes inside a sequence gives its sizes
+-- signs that pass inside a sequence give its sizes
 while_passes : (test : Sign → Bool) (f : Sign → List Function) → ((p : ℕ × ℕ) (s : Sign) → sizes_by p (f s) ≡ size_in p s) →
     (xs : List Sign) (p : ℕ × ℕ)
     → sizes_in (sizes_by p (flat_map f (front_while test xs))) (rest_while test xs) ≡ sizes_in p xs
@@ -73,7 +73,7 @@ acts_one p (Character (C0Control b) c) = refl
 acts_one p (Character Bell c) = refl
 acts_one p (Character k c) = refl
 
--- what ends a string, and what begins there, is no size
+-- the end of a string, and the introducer there, is no size
 after_passes : (bell : Bool) (xs : List Sign) (p : ℕ × ℕ)
     → sizes_in p (after_control_string (rest_while (in_control_string bell) xs)) ≡ sizes_in p (rest_while (in_control_string bell) xs)
 after_passes bell [] p = refl
@@ -107,7 +107,7 @@ end_sequence h (Character (Upper b) c ∷ rest) p = ap (λ q. sizes_in q rest) (
 end_sequence h (Character (Lower b) c ∷ rest) p = ap (λ q. sizes_in q rest) (none_in_sequence p h b)
 end_sequence h (s ∷ rest) p = refl
 
--- what acts inside comes before the end
+-- functions inside come before the end
 behind_passes : (test : Sign → Bool) (xs : List Sign) (f : Front) → Passes (rest_while test xs) f → (p : ℕ × ℕ)
     → sizes_in (sizes_by p (flat_map acts (front_while test xs) ++ f.gives)) f.left ≡ sizes_in p xs
 behind_passes test xs f passes p =

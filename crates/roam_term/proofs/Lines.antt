@@ -90,7 +90,7 @@ puts_lines (suc n) g w s shown is =
     (subst (λ (cols : ℕ). Each (IsLine cols) (left_by_puts (replicate n g) w (put_on g w s))) history_after.cols
     (puts_lines n g w (put_on g w s) shown history_after.sound))
 
--- ---- what a function leaves
+-- ---- the rows that a function scrolls off
 
 motion_lines : (motion : Motion) (s : Screen) → IsSound s → Each (IsLine s.cols) (left_by_motion motion s)
 motion_lines LineFeed s is = first_line (eqb s.top 0 && eqb s.row s.bottom) s is
@@ -147,7 +147,7 @@ left_lines (Csi marker params inter b) l is =
     main_lines l.screen.cols l.alternate (left_by (command_of (Csi marker params inter b)) l)
     (command_lines (command_of (Csi marker params inter b)) l is)
 
--- ---- what a history keeps
+-- ---- the rows of a history
 
 with_lines : (cols : ℕ) (rows : List (List Glyph)) (h : Scrollback) → Each (IsLine cols) rows → Each (IsLine cols) h.rows → Each
     (IsLine cols) (with_rows rows h).rows

@@ -30,7 +30,7 @@ pub answer-print : (b : ℕ) (l : Live) → answer (Print b) l ≡ []
 unfolding answer
 answer-print b l = refl
 
--- a printed character answers nothing, and a function after it answers what it does there
+-- a printed character answers nothing, and a function after it answers the same as there
 pub answered-after : (b : ℕ) (f : Function) (l : Live) → answers_after l (Print b ∷ f ∷ []) ≡ answer f (printed_on b l)
 answered-after b f l =
     ap (λ a. a ++ (answer f (changed_by (Print b) l) ++ [])) (answer-print b l)

@@ -1,4 +1,4 @@
--- What is copied from a queue in two parts.
+-- The bytes copied from a queue in two parts.
 use Rattle.std.proofs.Common.{◌≡◌, ◌≤◌, ℕ, ◌+◌, ◌-◌, ◌⊎◌, inl, inr, List, ◌++◌, length, take, drop, min, ap, sym, ◌∙◌, arith, length-append, length-drop, append_assoc, take_all}
 use Rattle.std.proofs.lemmas.Bool.{cases_lt}
 use Rattle.std.proofs.Math.Seq.{take-append-add}

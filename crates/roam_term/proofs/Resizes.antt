@@ -1,4 +1,4 @@
--- What a size makes of a terminal.
+-- The effect of a size on a terminal.
 use Rattle.std.proofs.Common.{◌≡◌, ℕ, Bool, List, [], ◌∷◌, refl}
 use Rattle.roam_text.specs.declared.functions.Function.TheVariants.{Size}
 use Rattle.roam_grid.specs.Frames.{leaving, after_resizing}

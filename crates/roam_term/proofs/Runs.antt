@@ -14,7 +14,7 @@ pub run-append : (t : Terminal) (fs gs : List Function) → run t (fs ++ gs) ≡
 run-append t [] gs = refl
 run-append t (f ∷ fs) gs = run-append (after f t) fs gs
 
--- what lives depends on what lived alone
+-- the live state depends on the live state before alone
 pub run-live : (t : Terminal) (fs : List Function) → (run t fs).live ≡ live_after t.live fs
 run-live t [] = refl
 run-live t (f ∷ fs) = run-live (after f t) fs
@@ -24,12 +24,12 @@ pub run-history : (t : Terminal) (fs : List Function) → (run t fs).history ≡
 run-history t [] = refl
 run-history t (f ∷ fs) = run-history (after f t) fs
 
--- and what was answered before stays in front
+-- and earlier answers stay in front
 pub run-answers : (t : Terminal) (fs : List Function) → (run t fs).answers ≡ t.answers ++ answers_after t.live fs
 run-answers t [] = sym (append-nil t.answers)
 run-answers t (f ∷ fs) = run-answers (after f t) fs ∙ append_assoc t.answers (answer f t.live) (answers_after (changed_by f t.live) fs)
 
--- the reader's clauses, and what the functions changed and answered
+-- the reader's clauses, and the changes and answers of the functions
 module _ (old new : TermView) (items : List Item) (out : List Function)
     (reads : (log : List Item) → Reads old.reader log → Reads new.reader (log ++ items))
     (gained : (log : List Item) → Reads old.reader log → functions_of (log ++ items) ≡ functions_of log ++ out)
@@ -83,7 +83,7 @@ fed-none t = record {
 together : (log : List Item) (xs ys : List ℕ) → (log ++ map Byte xs) ++ map Byte ys ≡ log ++ map Byte (xs ++ ys)
 together log xs ys = append_assoc log (map Byte xs) (map Byte ys) ∙ sym (ap (λ l. log ++ l) (map-append Byte xs ys))
 
--- what lives in two terminals that stand for one log and a later one
+-- the live states of two terminals that model one log and a later one
 live-after : (a b : TermView) (rows cols lines : ℕ) (log later : List Item) (fs : List Function) → Stands a rows cols lines log
     → Stands b rows cols lines later → functions_of later ≡ functions_of log ++ fs → b.live ≡ live_after a.live fs
 unfolding term

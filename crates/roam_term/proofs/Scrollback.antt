@@ -18,11 +18,11 @@ use Rattle.roam_term.proofs.Lists.{append-nil}
 
 -- ---- rows that come into a history
 
--- histories of the same lines and columns are the same where their rows are
+-- histories of the same lines and columns are equal if their rows are
 same_rows : (lines cols : ℕ) (xs ys : List (List Glyph)) → xs ≡ ys → let one : Scrollback = record { lines = lines; cols = cols; rows = xs } in one ≡ record { lines = lines; cols = cols; rows = ys }
 same_rows lines cols xs ys e i = record { lines = lines; cols = cols; rows = e i }
 
--- where no row comes in, a history stays
+-- if no row comes in, a history stays
 pub with_none : (h : Scrollback) → length h.rows ≤ h.lines → with_rows [] h ≡ h
 with_none h few =
     let all : length (h.rows ++ []) - h.lines ≡ 0 = omega (arith, ap length (append-nil h.rows)) in
@@ -55,7 +55,7 @@ pub main_then : (alternate : Bool) (xs ys : List (List Glyph)) (h : Scrollback)
 main_then true xs ys h = with_then [] [] h
 main_then false xs ys h = with_then xs ys h
 
--- where none comes in, a history stays
+-- if none comes in, a history stays
 none_on_main : (alternate : Bool) → on_main alternate [] ≡ []
 none_on_main true = refl
 none_on_main false = refl

@@ -1,4 +1,4 @@
--- What a terminal shows.
+-- The picture of a terminal.
 use Rattle.std.proofs.Common.{◌≡◌, ◌<◌, ◌≤◌, ℕ, ◌+◌, ◌*◌, ◌-◌, Bool, true, false, if◌then◌else◌, min, List, [], ◌++◌, map, take, drop, length, get_or, length-drop, sym, ap, ◌∙◌, subst, arith}
 use Rattle.std.specs.Prelude.{All}
 use Rattle.std.proofs.lemmas.List.{get_or-map, get_or-drop, length-map, take-map, drop-map, take-take, drop-take}
@@ -14,7 +14,7 @@ use Rattle.roam_term.specs.Terminal.{Live, term}
 use Rattle.roam_term.specs.Picture.{shown_glyph, cells_in_view, picture_with, picture, picture_of}
 use Rattle.roam_term.proofs.Views.{flat, row_among, row_below, view_size}
 
--- what a log shows is what lives and the history show
+-- a log shows its live state and its history
 pub picture_is : (rows cols lines : ℕ) (log : List Item) (view : ℕ) (l : Live) (h : Scrollback) → l ≡ (term rows cols lines log).live
     → h ≡ (term rows cols lines log).history → picture_of l h view ≡ picture rows cols lines log view
 unfolding picture

@@ -1,4 +1,4 @@
--- A row without a mark shows what it showed.
+-- A row without a mark shows the same cells as before.
 use Rattle.std.proofs.Common.{◌≡◌, ℕ, zero, suc, ◌-◌, ◌<◌, Bool, true, false, not, ◌&&◌, cond, eqb, ltb, max, List, [], ◌∷◌, replicate, Option, Some, None, refl, sym, ap, ◌∙◌, subst, arith}
 use Rattle.std.specs.List.{fold}
 use Rattle.std.proofs.lemmas.Bool.{false≢true}
@@ -42,7 +42,7 @@ use Rattle.roam_term.specs.Terminal.{Live, glyph_in, writing_under, written_on, 
 use Rattle.roam_term.proofs.Adding.{privates_off}
 use Rattle.roam_term.proofs.Keeping.{IsLive, private_lives}
 
--- what lives in one state and in another shows the same in a row
+-- two live states show the same in a row
 pub record Stays (l k : Live) (r : ℕ) : Type 0 where
   pub reverse : k.modes.reverse_screen ≡ l.modes.reverse_screen
   pub cells : (c : ℕ) → r < l.screen.rows → c < l.screen.cols
@@ -60,7 +60,7 @@ by_grid : (l : Live) (t : Screen) (m new : List Bool) (r : ℕ) → ShowsUnmarke
     → Stays l (record l { screen = t }) r
 by_grid l t m new r shows off = record { reverse = refl; cells = λ c p q. shows.shows r c p q off }
 
--- no row is without a mark where all are on
+-- no row is without a mark if all are on
 pub none_off : {A : Type 0} (r : ℕ) → r < 200 → is_marked all_on r ≡ false → A
 none_off r low off = absurd (false≢true (sym off ∙ all_marked r low))
 

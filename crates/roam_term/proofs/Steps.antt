@@ -1,4 +1,4 @@
--- What control functions and characters make of a ground terminal, which may have a style.
+-- The effect of control functions and characters on a ground terminal, which may have a style.
 use Rattle.std.proofs.Common.{◌≡◌, ◌≤◌, ◌<◌, ℕ, ◌+◌, ◌-◌, ◌*◌, min, max, Bool, true, false, not, List, [], ◌∷◌, ◌++◌, map, length, set, Option, Some, None, leb, inl, inr, refl, sym, ap, ◌∙◌, subst, arith, append_assoc, length-set, length-append, get_or-set_same, get_or-set_other}
 use Rattle.std.specs.Prelude.{◌==◌, ◌&&◌, ◌⊎◌, unwrap_or, nat_le, if◌then◌else◌}
 use Rattle.std.proofs.lemmas.Bool.{lt-ltb, le-ltb, le-leb, leb-true, eq-eqb, eqb-true, ne_eqb, false≢true, cases_lt, and_parts, and_from}
@@ -43,7 +43,7 @@ pub acted-append : (fs gs : List Function) (t : Live) → acted (fs ++ gs) t ≡
 acted-append [] gs t = refl
 acted-append (f ∷ fs) gs t = acted-append fs gs (changed_by f t)
 
--- what stays as it is: the size, and all that a ground terminal may have as it likes
+-- the parts that stay: the size, and all that a ground terminal may choose
 pub record Constants : Type 0 where
   pub rows : ℕ
   pub cols : ℕ
@@ -135,7 +135,7 @@ module _ (k : Constants) where
 
   -- ---- a cell is put
 
-  -- cells replace what stands there, and lines wrap
+  -- cells replace the ones there, and lines wrap
   abbrev w : Writing
   w = record { wraps = true; inserts = false }
 
@@ -173,13 +173,13 @@ module _ (k : Constants) where
     unfolding after_advance after_ink
     pends n h = ap (λ b. if b then inside n else outside) (le-ltb (col + n) k.cols h)
 
-  -- ---- a character is printed where the cursor stands and no wrap is pending
+  -- ---- a character is printed at the cursor, and no wrap is pending
 
   -- the cursor after a cell of so many columns
   abbrev StandsAt : ℕ → ℕ → ℕ → Bool → Type 0
   StandsAt col n col' pending' = ((pending' ≡ false) × (col' ≡ col + n)) ⊎ ((pending' ≡ true) × (col' ≡ k.cols - 1) × (col + n ≡ k.cols))
 
-  -- its cell stands there, and every other place is what writing its first character left; inside the row the cursor stands after it
+  -- its cell is there, and every other place is as its first character left it; inside the row the cursor is behind it
   pub record Printed (cells : List Glyph) (row col : ℕ) (x : Glyph) (visible : Bool) (t : Live) : Type 0 where
     pub cells' : List Glyph
     pub col' : ℕ

@@ -1,4 +1,4 @@
--- A row without a mark shows what it showed, whatever functions come.
+-- A row without a mark shows the same cells as before, whatever functions come.
 use Rattle.std.proofs.Common.{◌≡◌, ℕ, ◌+◌, ◌-◌, ◌*◌, ◌<◌, Bool, true, false, cond, min, List, [], ◌∷◌, ◌++◌, map, take, take_all, length, length-take, length-drop, get_or, refl, sym, ap, ◌∙◌, subst, arith}
 use Rattle.std.specs.List.{flat_map}
 use Rattle.std.proofs.lemmas.List.{same_lists, drop_all, get_or-map, length-map}

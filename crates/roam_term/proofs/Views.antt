@@ -1,4 +1,4 @@
--- What a terminal shows: rows of the history, and below them the screen.
+-- The picture of a terminal: rows of the history, and below them the screen.
 use Rattle.std.proofs.Common.{◌≡◌, ◌<◌, ◌≤◌, ℕ, zero, suc, ◌+◌, ◌*◌, ◌-◌, List, [], ◌∷◌, ◌++◌, take, drop, length, get_or, length-append, replicate, refl, sym, ap, ◌∙◌, append_assoc, arith, subst}
 use Rattle.std.specs.Prelude.{All}
 use Rattle.std.specs.List.{flat_map}
@@ -18,7 +18,7 @@ flat rows = flat_map (λ (row : List Glyph). row) rows
 each_later : (cols : ℕ) (row : List Glyph) (rows : List (List Glyph)) → All (IsRow cols) (row ∷ rows) → All (IsRow cols) rows
 each_later cols row rows each = λ k d h. each (suc k) d (omega (arith, h))
 
--- the rows of the history stand one after another
+-- the rows of the history come one after another
 pub row_among : (cols : ℕ) (rows : List (List Glyph)) (cells : List Glyph) (r : ℕ) → All (IsRow cols) rows → r < length rows
     → row_of cols (flat rows ++ cells) r ≡ get_or rows r []
 row_among cols [] cells r each low = absurd (omega (arith, low))
@@ -35,7 +35,7 @@ row_among cols (row ∷ rows) cells (suc r) each low =
     ∙ ap (take ((r + 1) * cols - r * cols)) (drop-append-add row (flat rows ++ cells) (r * cols))
     ∙ row_among cols rows cells r (each_later cols row rows each) (omega (arith, low))
 
--- and what comes below them begins with its own first row
+-- and the rows below them begin with their own first row
 pub row_below : (cols : ℕ) (rows : List (List Glyph)) (cells : List Glyph) (r : ℕ) → All (IsRow cols) rows
     → row_of cols (flat rows ++ cells) (length rows + r) ≡ row_of cols cells r
 row_below cols [] cells r each = let same : 0 + r ≡ r = omega arith in ap (row_of cols cells) same
@@ -55,7 +55,7 @@ rows_more cols i cells =
     let next : (i + 1) * cols ≡ i * cols + cols = omega arith in
     ap (λ n. take (i * cols) cells ++ take n (drop (i * cols) cells)) size ∙ sym (ap (λ n. take n cells) next ∙ take-add (i * cols) cols cells)
 
--- what a line is depends on its own columns alone
+-- a line depends on its own columns alone
 line_same : (cols : ℕ) (f g : ℕ → Glyph) → ((c : ℕ) → c < cols → g c ≡ f c) → IsWholeLine cols f → IsWholeLine cols g
 line_same cols f g same whole c q = record {
   wide = λ wide.

@@ -31,7 +31,7 @@ place_cursor row col = csi None (row ∷ col ∷ []) 0x48
 abbrev pub reset_all : Function
 reset_all = Esc (record { items = [] }) 0x63
 
--- a parameter where a flag is set, before others
+-- a parameter if a flag is set, before others
 abbrev pub flag_code : Bool → ℕ → List ℕ → List ℕ
 flag_code true code rest = code ∷ rest
 flag_code false code rest = rest
@@ -65,12 +65,12 @@ set_style s = csi None (style_codes s) 0x6D
 abbrev pub mixture : ℕ → ℕ → ℕ → ℕ → Function
 mixture code r g b = csi None (code ∷ 2 ∷ r ∷ g ∷ b ∷ []) 0x6D
 
--- the parameter that says what a colour is of
+-- the parameter of a colour's layer
 abbrev pub layer_code : Layer → ℕ
 layer_code Foreground = 38
 layer_code Background = 48
 
--- what sets a colour that is a mixture
+-- the functions that set a colour that is a mixture
 abbrev pub set_mixture : ℕ → Colour → List Function
 set_mixture code Default = []
 set_mixture code (Index n) = []
@@ -80,7 +80,7 @@ set_mixture code (Rgb r g b) = mixture code r g b ∷ []
 abbrev pub restyle : Style → List Function
 restyle s = set_style s ∷ (set_mixture 38 s.foreground ++ set_mixture 48 s.background)
 
--- a colour where it is no mixture, else the default
+-- a colour if it is no mixture, else the default
 abbrev pub plain_colour : Colour → Colour
 plain_colour Default = Default
 plain_colour (Index n) = Index n

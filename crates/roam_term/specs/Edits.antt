@@ -1,4 +1,4 @@
--- Cells and lines that come in, go out and scroll: what becomes of a screen.
+-- Cells and lines that come in, go out and scroll: their effect on a screen.
 use Rattle.roam_grid.specs.Screen.{Screen}
 use Rattle.roam_grid.specs.Editing.{cells_inserted, cells_deleted, lines_inserted, lines_deleted}
 use Rattle.roam_grid.specs.Scrolling.{scrolled_up, scrolled_down}

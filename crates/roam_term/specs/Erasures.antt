@@ -1,4 +1,4 @@
--- Erasures: what they make of a screen.
+-- Erasures: their effect on a screen.
 use Rattle.std.specs.Prelude.{max}
 use Rattle.roam_grid.specs.Screen.{Screen}
 use Rattle.roam_grid.specs.Erasing.{erased_in_page, erased_in_line, erased_selectively_in_page, erased_selectively_in_line}

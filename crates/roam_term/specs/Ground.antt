@@ -1,4 +1,4 @@
--- A ground terminal, and what it shows.
+-- A ground terminal, and the screen that it shows.
 use Rattle.std.specs.Prelude.{◌≡◌, ℕ, ◌+◌, ◌-◌, ◌<◌, ◌≤◌, ◌&&◌, nat_lt, if◌then◌else◌, true, false, None}
 use Rattle.roam_cells.specs.Glyph.{Glyph, blank}
 use Rattle.roam_cells.specs.Place.{cell_at}
@@ -9,9 +9,9 @@ use Rattle.roam_charset.specs.declared.sets.Element.TheVariants.{G0}
 use Rattle.roam_term.specs.Pens.{plain_pen}
 use Rattle.roam_term.specs.Terminal.{Live}
 
--- the main screen is shown, with the cursor on it and full margins; ASCII in G0, G0 invoked, no single shift waits; IRM, DECOM and
--- DECSCNM are reset, DECAWM is set; the default style, guard off. What isn't named may be as it likes: the other screen, tab stops, what
--- DECSC kept, the other sets and modes, REP's character
+-- The main screen is shown, with the cursor on it and full margins. ASCII is in G0, G0 is invoked, and no single shift is pending. IRM,
+-- DECOM and DECSCNM are reset, DECAWM is set. The style is the default, and the guard is off. Everything else is free: the other screen,
+-- tab stops, the state that DECSC saved, the other sets and modes, REP's character.
 pub record IsGround (t : Live) : Type 0 where
   pub main : t.alternate ≡ false
   pub row_in : t.screen.row < t.screen.rows
@@ -31,7 +31,7 @@ pub record IsGround (t : Live) : Type 0 where
 abbrev pub in_style : Style → Live → Live
 in_style g t = record t { pen = record { style = g; guarded = false } }
 
--- what a screen shows at a row and a column, both from 0: outside it a blank
+-- the cell of a screen at a row and a column, both from 0; outside it a blank
 abbrev pub shown_at : Screenshot → ℕ → ℕ → Glyph
 shown_at p r c = if (nat_lt r p.rows && nat_lt c p.cols) then cell_at p.cols p.cells r c else blank
 

@@ -1,4 +1,4 @@
--- What control functions and characters make of a ground terminal, in whatever style it is.
+-- The effect of control functions and characters on a ground terminal, in whatever style.
 use Rattle.std.specs.Prelude.{◌≡◌, ℕ, ◌+◌, ◌-◌, ◌*◌, ◌<◌, ◌≤◌, true, false, List, [], ◌∷◌, length, None, Some}
 use Rattle.roam_cells.specs.Glyph.{IsColour, IsStyle, Glyph, is_wide, right_of, blank}
 use Rattle.roam_cells.specs.Place.{cell_at}
@@ -65,8 +65,8 @@ with_cell x s = mapped_cells s.rows s.cols s.cells (in_row s.row (writing_source
 abbrev pub character_in : Style → ℕ → Glyph
 character_in g c = record { points = c ∷ []; style = g; guarded = false }
 
--- the character is written at the cursor, its right half beside it where it is wide; the cursor goes behind it, and where it ends in the
--- last column stays there, with a wrap pending
+-- the character is written at the cursor, with its right half beside it if it is wide; the cursor goes behind it, and stays in the last
+-- column with a wrap pending if it ends there
 pub record IsPrinted (g : Style) (c : ℕ) (t u : Live) : Type 0 where
   pub inside : t.screen.col + columns (character_in g c) < t.screen.cols
       → u ≡ in_style g (record t {
@@ -87,7 +87,7 @@ pub record IsPrinted (g : Style) (c : ℕ) (t u : Live) : Type 0 where
   pub half : is_wide (character_in g c) ≡ true
       → cell_at t.screen.cols (with_cell (character_in g c) t.screen) t.screen.row (t.screen.col + 1) ≡ right_of (character_in g c)
 
--- a character of one or two columns that fits in the row, where no wrap pends
+-- a character of one or two columns that fits in the row, with no wrap pending
 abbrev pub CharacterIsPrinted : Type 0
 CharacterIsPrinted =
     (t : Live) (g : Style) (c : ℕ) → IsGround t → t.screen.pending ≡ false → 1 ≤ width_of c

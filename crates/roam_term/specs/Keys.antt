@@ -1,4 +1,4 @@
--- What a keyboard sends under the modes of a terminal.
+-- The bytes of a keyboard under the modes of a terminal.
 use Rattle.roam_keys.specs.declared.sent.KeyModes.{KeyModes}
 use Rattle.roam_controls.specs.declared.modes.Modes.{Modes}
 

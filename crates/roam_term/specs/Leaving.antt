@@ -1,4 +1,4 @@
--- The rows that leave a screen at its top, the topmost first: by an index or a wrap on the bottom margin, and by a scroll up, where the
+-- The rows that scroll off a screen at its top, the topmost first: by an index or a wrap on the bottom margin, and by a scroll up, if the
 -- top margin is the first row (this project's profile).
 use Rattle.std.specs.Prelude.{ℕ, zero, suc, ◌+◌, ◌==◌, ◌&&◌, min, if◌then◌else◌, List, [], ◌∷◌, ◌++◌}
 use Rattle.roam_cells.specs.Glyph.{Glyph}
@@ -16,11 +16,11 @@ abbrev pub top_rows : ℕ → Screen → List (List Glyph)
 top_rows zero s = []
 top_rows (suc n) s = top_rows n s ++ row_of s.cols s.cells n ∷ []
 
--- an index leaves the first row out where it scrolls
+-- an index scrolls the first row off if it scrolls
 abbrev pub left_by_index : Screen → List (List Glyph)
 left_by_index s = if (s.top == 0 && s.row == s.bottom) then top_rows 1 s else []
 
--- a cell that is written leaves the first row out where it first scrolls
+-- a written cell scrolls the first row off if it first scrolls
 abbrev pub left_by_put : Glyph → Writing → Screen → List (List Glyph)
 left_by_put x w s = if (s.top == 0 && leaves_row (columns x) w s) then top_rows 1 s else []
 

@@ -1,6 +1,5 @@
--- Marks of rows: which of them functions may make show something else. Each operation of the grid marks the rows that have a place which
--- doesn't take itself, on the state before it; a switch of screens, DECSCNM, DECALN, RIS and another size mark all (this project's
--- profile).
+-- Marks of rows: the rows that functions may change. Each operation of the grid marks the rows that have a place which doesn't take itself,
+-- on the state before it. A switch of screens, DECSCNM, DECALN, RIS and another size mark all (this project's profile).
 use Rattle.std.specs.Prelude.{ℕ, ◌==◌, ◌&&◌, not, Bool, if◌then◌else◌, List, [], ◌∷◌, replicate, Option, Some, None}
 use Rattle.roam_cells.specs.Width.{width_of}
 use Rattle.roam_charset.specs.Charsets.{mapped_by}
@@ -23,12 +22,12 @@ use Rattle.roam_text.specs.declared.functions.Function.{Function}
 use Rattle.roam_text.specs.declared.functions.Function.TheVariants.{Print, C0, C1, Esc, Csi, Size}
 use Rattle.roam_term.specs.Terminal.{Live, glyph_in, writing_under, is_alternate_mode, private_mode_set, changed_by}
 
--- what contracts see of the screens of a terminal: what lives, and the marks of 200 rows of the screen that is shown
+-- the value of a terminal's screens for contracts: the live state, and the marks of 200 rows of the screen that is shown
 pub record CanvasView : Type 0 where
   pub live : Live
   pub marks : List Bool
 
--- moves: what goes up by LF, VT, FF, IND and NEL, and down by RI
+-- moves: the rows that go up by LF, VT, FF, IND and NEL, and down by RI
 abbrev pub marks_moved_by : Motion → Screen → List Bool → List Bool
 marks_moved_by LineFeed s marks = marks_indexed s marks
 marks_moved_by Index s marks = marks_indexed s marks
@@ -82,7 +81,7 @@ marks_repeated n (Some c) s marks =
     if width_of c == 0 then marks
     else marks_put_all (replicate n (glyph_in c s.pen)) (writing_under s.modes) s.screen marks
 
--- a screen is chosen: all where it isn't shown already
+-- a screen is chosen: all rows if it isn't shown already
 abbrev pub marks_chosen : Bool → Live → List Bool → List Bool
 marks_chosen alternate s marks =
     if (alternate && not s.alternate) then all_on

@@ -1,4 +1,4 @@
--- Moves of the cursor: what they make of a screen.
+-- Moves of the cursor: their effect on a screen.
 use Rattle.std.specs.Prelude.{ℕ, ◌+◌, ◌-◌, min, Bool, if◌then◌else◌}
 use Rattle.roam_grid.specs.Screen.{Screen}
 use Rattle.roam_grid.specs.Tabbing.{after_tabs, after_back_tabs}
@@ -7,11 +7,11 @@ use Rattle.roam_controls.specs.declared.modes.Modes.{Modes}
 use Rattle.roam_controls.specs.declared.motions.Motion.{Motion}
 use Rattle.roam_controls.specs.declared.motions.Motion.TheVariants.{Backspace, CarriageReturn, LineFeed, Index, NextLine, Up, Down, Right, Left, NextLines, PreviousLines, Column, Row, Position, ReverseIndex, Tab, BackTab}
 
--- a row from 1 as a row from 0: from the top margin and at most the bottom margin where the origin is there (DECOM)
+-- a row from 1 as a row from 0: under DECOM from the top margin and at most the bottom margin
 abbrev pub row_under : Bool → ℕ → Screen → ℕ
 row_under origin row s = if origin then min (s.top + (row - 1)) s.bottom else row - 1
 
--- home: the first column of the first row, or of the top margin's where the origin is there (DECOM)
+-- home: the first column of the first row, or of the top margin's under DECOM
 abbrev pub after_home : Bool → Screen → Screen
 after_home origin s = moved_to (row_under origin 1 s) 0 s
 

@@ -1,4 +1,4 @@
--- What a terminal shows.
+-- The picture of a terminal.
 use Rattle.std.specs.Prelude.{ℕ, ◌+◌, ◌-◌, ◌*◌, Bool, false, not, ◌&&◌, nat_le, min, if◌then◌else◌, List, ◌++◌, length, map, take, drop}
 use Rattle.std.specs.List.{flat_map}
 use Rattle.roam_cells.specs.Glyph.{Glyph}
@@ -8,7 +8,7 @@ use Rattle.roam_text.specs.Log.{Item}
 use Rattle.roam_history.specs.Histories.{Scrollback}
 use Rattle.roam_term.specs.Terminal.{Live, term}
 
--- a style with its reverse flag turned where the whole screen is reversed (DECSCNM, VT220 Programmer Reference)
+-- a style with its reverse flag turned if the whole screen is reversed (DECSCNM, VT220 Programmer Reference)
 abbrev pub shown_style : Bool → Style → Style
 shown_style reversed style = if reversed then record style { reverse = not style.reverse } else style
 
@@ -37,10 +37,10 @@ picture_with v l h =
       visible = l.modes.cursor_visible && nat_le (l.screen.row + 1 + v) l.screen.rows;
     }
 
--- what lives and the history show, scrolled back by a view
+-- the picture of a live state and a history, scrolled back by a view
 abbrev pub picture_of : Live → Scrollback → ℕ → Screenshot
 picture_of l h view = picture_with (rows_in_view l h view) l h
 
--- what a log shows
+-- the picture of a log
 unfoldable pub picture : ℕ → ℕ → ℕ → List Item → ℕ → Screenshot
 picture rows cols lines log view = picture_of (term rows cols lines log).live (term rows cols lines log).history view

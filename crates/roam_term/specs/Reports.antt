@@ -1,4 +1,4 @@
--- Reports: what is answered.
+-- Reports: the answers.
 use Rattle.std.specs.Prelude.{ℕ, ◌+◌, ◌-◌, Bool, if◌then◌else◌, List, ◌++◌, ◌∷◌, codes, decimal}
 use Rattle.roam_grid.specs.Screen.{Screen}
 use Rattle.roam_controls.specs.declared.modes.Modes.{Modes}

@@ -1,4 +1,4 @@
--- Logs whose sizes are those of screens, and what they show.
+-- Logs whose sizes are those of screens, and their pictures.
 use Rattle.std.specs.Prelude.{◌≡◌, ℕ, List, [], ◌∷◌}
 use Rattle.roam_cells.specs.Limits.{IsSize}
 use Rattle.roam_screens.specs.Screenshot.{Screenshot, IsScreenshot}

@@ -1,4 +1,4 @@
--- What stays set: what becomes of the screen at once.
+-- Settings: their effect on the screen at once.
 use Rattle.std.specs.Prelude.{ℕ, ◌-◌, ◌==◌, ◌||◌, nat_lt, Bool, if◌then◌else◌}
 use Rattle.roam_grid.specs.Screen.{Screen}
 use Rattle.roam_grid.specs.Scrolling.{with_margins}
@@ -9,7 +9,7 @@ use Rattle.roam_term.specs.Motions.{after_home}
 abbrev pub bottom_of : ℕ → Screen → ℕ
 bottom_of bottom s = if (bottom == 0 || nat_lt s.rows bottom) then s.rows - 1 else bottom - 1
 
--- margins of rows from 1 are taken where the top one is above the bottom one, and then the cursor goes home (DECSTBM, VT220)
+-- margins of rows from 1 are taken if the top one is above the bottom one, and then the cursor goes home (DECSTBM, VT220)
 abbrev pub margins_set : ℕ → ℕ → Bool → Screen → Screen
 margins_set top bottom origin s =
     if nat_lt (top - 1) (bottom_of bottom s) then after_home origin (with_margins (top - 1) (bottom_of bottom s) s)

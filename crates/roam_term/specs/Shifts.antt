@@ -1,4 +1,4 @@
--- Graphic sets: what a shift or a designation makes of them (ECMA-35, section 14; VT220 Programmer Reference, chapter 4).
+-- Graphic sets: the effect of a shift or a designation (ECMA-35, section 14; VT220 Programmer Reference, chapter 4).
 use Rattle.std.specs.Prelude.{Some}
 use Rattle.roam_charset.specs.Sets.{after_designation}
 use Rattle.roam_charset.specs.declared.sets.Sets.{Sets}

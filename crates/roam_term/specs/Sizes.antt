@@ -1,4 +1,4 @@
--- Other sizes: what was prepared for a terminal.
+-- Other sizes: the memory prepared for a terminal.
 use Rattle.std.specs.Prelude.{◌≡◌, ℕ}
 use Rattle.roam_cells.specs.Limits.{IsSize}
 use Rattle.roam_history.specs.Fitting.{HistorySize}

@@ -1,4 +1,4 @@
--- What a terminal stands for.
+-- The log that a terminal models.
 use Rattle.std.specs.Prelude.{◌≡◌, ℕ, ◌+◌, ◌*◌, ◌≤◌, Bool, List, [], ◌∷◌, ◌++◌, map, length}
 use Rattle.roam_history.specs.Limits.{most_lines}
 use Rattle.roam_term.specs.Limits.{most_output, longest_piece}
@@ -11,8 +11,8 @@ use Rattle.roam_text.specs.declared.functions.Function.{Function}
 use Rattle.roam_term.specs.Marks.{marked_through}
 use Rattle.roam_term.specs.Terminal.{Live, term, reports}
 
--- what contracts see of a terminal: its reader, what lives, the marks of the screen that is shown, the history, and the answered bytes
--- that wait
+-- the value of a terminal for contracts: its reader, the live state, the marks of the screen that is shown, the history, and the queued
+-- answers
 pub record TermView : Type 0 where
   pub reader : View
   pub live : Live
@@ -25,7 +25,7 @@ pub record IsTermSize (rows cols lines : ℕ) : Type 0 where
   pub screen : IsSize rows cols
   pub history : lines ≤ most_lines
 
--- a terminal stands for a size, a number of lines and a log: it is what they make
+-- a terminal models a size, a number of lines and a log
 pub record Stands (t : TermView) (rows cols lines : ℕ) (log : List Item) : Type 0 where
   pub reads : Reads t.reader log
   pub live : t.live ≡ (term rows cols lines log).live
@@ -40,19 +40,19 @@ pub record IsAccepted (waiting piece : List ℕ) : Type 0 where
   pub short : length piece ≤ longest_piece
   pub room : length waiting + 12 * length piece ≤ most_output
 
--- the queue grew by what the answers gained from one log to a later one
+-- the queue grew by the answers gained from one log to a later one
 pub record Gains (old new : List ℕ) (rows cols lines : ℕ) (log later : List Item) : Type 0 where
   pub more : List ℕ
   pub answers : reports rows cols lines later ≡ reports rows cols lines log ++ more
   pub queue : new ≡ old ++ more
 
--- the marks became what the functions make of them that came between one log and a later one
+-- the marks changed by the functions between one log and a later one
 pub record GainsMarks (old new : TermView) (log later : List Item) : Type 0 where
   pub more : List Function
   pub functions : functions_of later ≡ functions_of log ++ more
   pub marks : new.marks ≡ marked_through old.live more old.marks
 
--- items make one terminal of another: for every log that the old one stood for, the new one stands for it followed by the items
+-- items make one terminal of another: for every log that the old one models, the new one models it followed by the items
 pub record Follows (old new : TermView) (items : List Item) : Type 0 where
   pub stands : (rows cols lines : ℕ) (log : List Item) → Stands old rows cols lines log → Stands new rows cols lines (log ++ items)
   pub gains : (rows cols lines : ℕ) (log : List Item) → Stands old rows cols lines log

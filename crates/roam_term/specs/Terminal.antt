@@ -48,13 +48,13 @@ pub record Live : Type 0 where
   pub pen : InkValue
   pub modes : Modes
   pub sets : GraphicSets
-  -- what DECSC kept on the main and on the alternate screen
+  -- the states that DECSC saved on the main and on the alternate screen
   pub saved : Option Saved
   pub saved_alternate : Option Saved
   -- the character that REP repeats
   pub printed : Option ℕ
 
--- the state of a terminal: what lives, the last rows that left at the top, and all bytes answered
+-- the state of a terminal: the live state, the last rows that scrolled off, and all answers
 pub record Terminal : Type 0 where
   pub live : Live
   pub history : Scrollback
@@ -89,14 +89,14 @@ written_again n c s =
     if width_of c == 0 then s
     else record s { screen = put_all (replicate n (glyph_in c s.pen)) (writing_under s.modes) s.screen }
 
--- REP (ECMA-48, section 8.3.103): nothing where no character is kept
+-- REP (ECMA-48, section 8.3.103): no effect if no character is kept
 abbrev pub repeated_on : ℕ → Option ℕ → Live → Live
 repeated_on n None s = s
 repeated_on n (Some c) s = written_again n c s
 
 -- ---- what DECSC keeps
 
--- what DECSC keeps (VT220 Programmer Reference)
+-- the state that DECSC saves (VT220 Programmer Reference)
 abbrev pub keepsake : Live → Saved
 keepsake s =
     record { row = s.screen.row; col = s.screen.col; pending = s.screen.pending; pen = s.pen; sets = s.sets; origin = s.modes.origin }
@@ -107,7 +107,7 @@ saved_on s =
     if s.alternate then record s { saved_alternate = Some (keepsake s) }
     else record s { saved = Some (keepsake s) }
 
--- what was kept for the screen that is shown, and else the start's values
+-- the saved state of the screen that is shown, and else the start's values
 abbrev pub kept_of : Live → Saved
 kept_of s = unwrap_or (if s.alternate then s.saved_alternate else s.saved) nothing_saved
 
@@ -147,7 +147,7 @@ main_shown p s =
     else if p == 1049 then restored_to (kept_of (screens_switched s)) (screens_switched s)
     else screens_switched s
 
--- where the chosen screen is shown already, nothing happens
+-- if the chosen screen is shown already, nothing happens
 abbrev pub screen_chosen : Bool → ℕ → Live → Live
 screen_chosen alternate p s =
     if (alternate && not s.alternate) then alternate_shown p s
@@ -185,7 +185,7 @@ reset s =
 
 -- ---- the table
 
--- a mode, and a private mode with what it makes of the screen at once
+-- a mode, and a private mode with its effect on the screen at once
 abbrev pub mode_set : Bool → Live → ℕ → Live
 mode_set on s p = record s { modes = with_mode on p s.modes }
 
@@ -194,7 +194,7 @@ private_mode_set on s p =
     if is_alternate_mode p then screen_chosen on p s
     else record s { modes = with_private_mode on p s.modes; screen = after_private_mode on p s.screen }
 
--- what a setting makes of what lives; modes are set in the order of their numbers' places
+-- the effect of a setting on the live state; modes are set in the order of their numbers' places
 abbrev pub set_by : Setting → List ℕ → Live → Live
 set_by (Mode on) params s = fold (mode_set on) s params
 set_by (PrivateMode on) params s = fold (private_mode_set on) s params
@@ -210,7 +210,7 @@ set_by SetStop params s = record s { screen = stop_set s.screen }
 set_by ClearStop params s = record s { screen = stop_cleared s.screen }
 set_by ClearStops params s = record s { screen = stops_cleared s.screen }
 
--- what a command makes of what lives, but for what REP remembers
+-- the effect of a command on the live state, without the character that REP remembers
 abbrev pub performed_by : Command → List ℕ → Live → Live
 performed_by Nothing params s = s
 performed_by (Prints c) params s = printed_on c s
@@ -226,7 +226,7 @@ performed_by (Repeats n) params s = repeated_on n s.printed s
 abbrev pub remembering : Bool → Live → Live
 remembering forgotten s = if forgotten then record s { printed = None } else s
 
--- what a command answers
+-- the answer of a command
 abbrev pub answered_by : Command → Live → List ℕ
 answered_by (Reports report) s = answer_to report s.modes s.screen
 answered_by Nothing s = []
@@ -240,8 +240,8 @@ answered_by (Repeats n) s = []
 
 -- ---- another size
 
--- another size of the screen that is shown, after rows have left at its top so that the cursor's row stays; the other one is cut or
--- padded at the bottom and the right (this project's profile)
+-- another size of the screen that is shown, after rows have scrolled off at its top so that the cursor's row stays; the other screen is cut
+-- or padded at the bottom and the right (this project's profile)
 abbrev pub sized_to : ℕ → ℕ → Live → Live
 sized_to rows cols s =
     record s {
@@ -281,11 +281,11 @@ left_by (Reports report) s = []
 
 -- ---- one function, and all of them
 
--- what a command makes of what lives
+-- the effect of a command on the live state
 abbrev pub commanded_by : Command → List ℕ → Live → Live
 commanded_by command params s = remembering (forgets command) (performed_by command params s)
 
--- what a function makes of what lives
+-- the effect of a function on the live state
 unfoldable pub changed_by : Function → Live → Live
 changed_by (Size rows cols) s = sized_to rows cols s
 changed_by (Print c) s = commanded_by (command_of (Print c)) (parameters_of (Print c)) s
@@ -295,7 +295,7 @@ changed_by (Esc inter b) s = commanded_by (command_of (Esc inter b)) (parameters
 changed_by (Csi marker params inter b) s =
     commanded_by (command_of (Csi marker params inter b)) (parameters_of (Csi marker params inter b)) s
 
--- what a function answers, on the state before it
+-- the answer of a function, on the state before it
 unfoldable pub answer : Function → Live → List ℕ
 answer f s = answered_by (command_of f) s
 
@@ -332,7 +332,7 @@ abbrev pub run : Terminal → List Function → Terminal
 run t [] = t
 run t (f ∷ fs) = run (after f t) fs
 
--- what functions one after another make of what lives and of the history, and what they answer
+-- the effect of functions one after another on the live state and the history, and their answers
 abbrev pub live_after : Live → List Function → Live
 live_after l [] = l
 live_after l (f ∷ fs) = live_after (changed_by f l) fs

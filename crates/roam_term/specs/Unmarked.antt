@@ -1,4 +1,4 @@
--- What marks say of what a terminal shows, whatever functions come (this project's profile).
+-- The meaning of marks for a terminal's picture, whatever functions come (this project's profile).
 use Rattle.std.specs.Prelude.{◌≡◌, ℕ, ◌<◌, Bool, false, ◌||◌, List, ◌++◌}
 use Rattle.roam_cells.specs.Limits.{IsSize}
 use Rattle.roam_cells.specs.Place.{row_of}
@@ -12,7 +12,7 @@ use Rattle.roam_term.specs.Picture.{picture}
 use Rattle.roam_term.specs.Screens.{AreSizes}
 use Rattle.roam_term.specs.Terminal.{Live, term}
 
--- functions put on the marks that they put on where none is, whatever was marked before: so none goes off
+-- functions put on the marks that they put on if none is on, whatever was marked before: so none goes off
 abbrev pub MarksAreAdded : Type 0
 MarksAreAdded =
     (l : Live) (fs : List Function) (marks : List Bool) (r : ℕ) → r < 200
@@ -23,7 +23,7 @@ pub record IsSameRow (r : ℕ) (p q : Screenshot) : Type 0 where
   pub cols : q.cols ≡ p.cols
   pub row : row_of q.cols q.cells r ≡ row_of p.cols p.cells r
 
--- functions that come between a log and a later one: at view 0 a row without a mark afterwards shows what it showed
+-- functions between a log and a later one: at view 0 a row without a mark afterwards shows the same cells as before
 abbrev pub UnmarkedRowsStay : Type 0
 UnmarkedRowsStay =
     (rows cols lines : ℕ) (log later : List Item) (fs : List Function) (marks : List Bool) → IsSize rows cols → AreSizes later

@@ -8,7 +8,7 @@ ghost use Rattle.roam_term.specs.Marks.{marks_chosen};
 use crate::canvases::Canvas;
 use std::mem;
 
-/// Whether a private mode chooses the screen that is shown: 47, 1047 and 1049 of xterm.
+/// Returns true if a private mode chooses the screen that is shown: 47, 1047 and 1049 of xterm.
 pub fn is_alternate_mode(number: u16) -> bool
     ensures alternate { result ≡ is_alternate_mode number }
 {
@@ -59,7 +59,7 @@ impl Canvas {
         }
     }
 
-    /// Shows the alternate or the main screen, by a mode that chooses it; where that one is shown already, nothing happens.
+    /// Shows the alternate or the main screen, by a mode that chooses it; no effect if that one is shown already.
     pub fn choose_screen(&mut self, alternate: bool, number: u16)
         ensures chosen { self.new.live ≡ screen_chosen alternate number self.old.live }
         ensures marks { self.new.marks ≡ marks_chosen alternate self.old.live self.old.marks }

@@ -1,4 +1,4 @@
-//! What lives of a terminal: its screens, its pen, its modes, its sets.
+//! The live state of a terminal: its screens, its pen, its modes, its sets.
 ghost use Rattle.std.specs.Prelude.{◌≡◌, ◌≤◌, ◌<◌, ◌+◌, ◌++◌, ◌↔◌, IfOk, IfErr, None, Some, IsTrue, length, fold, map, take, ◌==◌, if◌then◌else◌};
 ghost use Rattle.roam_cells.specs.Limits.{IsSize};
 ghost use Rattle.roam_cells.specs.Width.{width_of};
@@ -70,7 +70,7 @@ impl Model for Canvas {
     ghost invariant = { λ c. IsSameSize c.grid.screen c.other.screen };
 }
 
-// What writing depends on.
+// Returns the modes that writing depends on.
 #[inline]
 fn writing_under(modes: Modes) -> Writing
     ensures writing { result ≡ writing_under modes }
@@ -104,7 +104,7 @@ impl Canvas {
         })
     }
 
-    /// What is true of every screen.
+    /// Facts about every screen.
     pub fn facts(&self)
         ensures screen { IsScreen self.now.live.screen }
     {
@@ -133,7 +133,7 @@ impl Canvas {
         self.grid.clear_marks();
     }
 
-    /// Whether the alternate screen is shown.
+    /// Returns true if the alternate screen is shown.
     pub fn is_alternate(&self) -> bool
         ensures alternate { result ≡ self.now.live.alternate }
     {
@@ -147,7 +147,7 @@ impl Canvas {
         self.modes
     }
 
-    /// What writing depends on.
+    /// Returns the modes that writing depends on.
     pub fn writing(&self) -> Writing
         ensures writing { result ≡ writing_under self.now.live.modes }
     {
@@ -176,7 +176,7 @@ impl Canvas {
         Cell::of_char(c, self.pen)
     }
 
-    /// Whether printable ASCII prints itself.
+    /// Returns true if printable ASCII prints itself.
     #[inline]
     pub fn prints_ascii(&self) -> bool
         ensures ascii { IsTrue result ↔ ((set_in self.now.live.sets.locked self.now.live.sets ≡ Charset.Ascii)
@@ -289,7 +289,7 @@ impl Canvas {
         }
     }
 
-    // What DECRC restores on the screen that is shown.
+    // Returns the state that DECRC restores on the screen that is shown.
     fn kept(&self) -> Saved
         ensures kept { result ≡ kept_of self.now.live }
     {
@@ -418,7 +418,7 @@ impl Canvas {
         }
     }
 
-    // Does what a command asks for, but for what REP remembers.
+    // Carries out a command, without the character that REP remembers.
     fn act(&mut self, command: Command, params: &[u16], history: &mut History)
         requires cols { history.old.cols ≡ self.old.live.screen.cols }
         ensures performed { self.new.live ≡ performed_by command params.now self.old.live }
@@ -446,7 +446,7 @@ impl Canvas {
         }
     }
 
-    /// Does what a command asks for, whose parameters are lent; the rows that leave come into the history. It takes no memory.
+    /// Carries out a command, whose parameters are lent. Rows that scroll off go into the history. It takes no memory.
     pub fn perform(&mut self, command: Command, params: &[u16], history: &mut History)
         requires cols { history.old.cols ≡ self.old.live.screen.cols }
         ensures performed { self.new.live ≡ commanded_by command params.now self.old.live }
@@ -460,7 +460,7 @@ impl Canvas {
         }
     }
 
-    // Answers what a command asks for, on the state before it.
+    // Answers a command, on the state before it.
     pub(crate) fn answer(&self, command: Command, output: &mut Output)
         requires room { length output.old + 12 ≤ most_output }
         ensures answered { output.new ≡ output.old ++ answered_by command self.now.live }

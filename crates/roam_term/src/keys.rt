@@ -1,4 +1,4 @@
-//! What a keyboard sends to a terminal's output.
+//! The bytes of a keyboard in a terminal's output.
 ghost use Rattle.std.specs.Prelude.{◌≡◌, ◌+◌, ◌≤◌, ◌↔◌, ◌++◌, ℕ, List, length, IsOk, OnOk, OnErr, IsOkUnless};
 ghost use Rattle.roam_keys.specs.Sent.{bytes_of_key};
 ghost use Rattle.roam_text.specs.Log.{Item};
@@ -23,8 +23,8 @@ fn key_modes(modes: Modes) -> KeyModes
 }
 
 impl Term {
-    /// Puts the bytes that a key sends under the terminal's modes behind what waits. Refuses them as `Busy` where the queue hasn't as
-    /// many free bytes, and changes nothing then. It takes no memory.
+    /// Queues the bytes that a key sends under the terminal's modes. `Busy` if the queue hasn't as many free bytes; nothing changes then.
+    /// It takes no memory.
     pub fn key(&mut self, key: &Key) -> Result<(), Fault>
         ensures ok { IsOk result ↔ (length self.old.waiting + length (bytes_of_key (key_modes self.old.live.modes) key.now) ≤ most_output) }
         ensures waiting { OnOk result (self.new.waiting ≡ self.old.waiting ++ bytes_of_key (key_modes self.old.live.modes) key.now) }

@@ -13,10 +13,10 @@ pub fn nothing_read_answers_nothing()
     ensures silent { (rows cols lines : ℕ) → reports rows cols lines [] ≡ [] }
 {}
 
-/// What a terminal shows is a screen of the last size that it was given, whatever bytes and sizes came, and at every view of its history.
-/// Of a ground terminal, in whatever style, CUP (ECMA-48 8.3.21) places the cursor, SGR (8.3.117) sets a style, ED 2 (8.3.39) erases all,
-/// and DECTCEM (VT220 Programmer Reference) hides and shows the cursor; a character is printed or joins the one before it. RIS (ECMA-48
-/// 8.3.105) makes of any terminal a ground terminal with a blank screen.
+/// A terminal shows a screen of the last size that it was given, whatever bytes and sizes came, and at every view of its history. On a
+/// ground terminal in any style, CUP (ECMA-48 8.3.21) places the cursor, SGR (8.3.117) sets a style, ED 2 (8.3.39) erases all, and DECTCEM
+/// (VT220 Programmer Reference) hides and shows the cursor. A character is printed or joins the one before it. RIS (ECMA-48 8.3.105) makes
+/// of any terminal a ground terminal with a blank screen.
 pub fn what_a_terminal_shows()
     ensures screen { (rows cols lines : ℕ) (log : List Item) (view : ℕ) → IsSize rows cols → AreSizes log
         → IsScreenOf (rows, cols) log (picture rows cols lines log view) }
@@ -31,8 +31,8 @@ pub fn what_a_terminal_shows()
     ensures reset { AllIsReset }
 {}
 
-/// Marks are put on in the same rows whatever was marked before, so that none goes off; and a row without a mark shows, at view 0, what it
-/// showed.
+/// Marks are put on in the same rows whatever was marked before, so that none goes off. A row without a mark shows, at view 0, the same
+/// cells as before.
 pub fn what_marks_say()
     ensures added { MarksAreAdded }
     ensures stay { UnmarkedRowsStay }

@@ -9,7 +9,7 @@ use roam_controls::{Edit, Motion};
 use roam_grid::{Grid, Writing};
 use roam_history::History;
 
-/// What is true of every history: where no row comes in, it stays.
+/// A fact about every history: if no row comes in, it stays.
 pub fn stays(history: &History)
     ensures stays { with_rows [] history.now ≡ history.now }
 {
@@ -29,7 +29,7 @@ pub fn take_top_rows(grid: &Grid, n: usize, history: &mut History)
     }
 }
 
-// The first row comes in where it leaves.
+// Takes the first row into the history if it scrolls off.
 fn take_first_row(grid: &Grid, leaves: bool, history: &mut History)
     requires cols { history.old.cols ≡ grid.now.screen.cols }
     ensures history { history.new ≡ with_rows (if leaves then top_rows 1 grid.now.screen else []) history.old }
@@ -41,7 +41,7 @@ fn take_first_row(grid: &Grid, leaves: bool, history: &mut History)
     }
 }
 
-/// What a cell makes leave that will be written.
+/// Takes the rows that a cell to be written will scroll off.
 #[inline]
 pub fn leave_by_put(
     grid: &Grid,
@@ -59,7 +59,7 @@ pub fn leave_by_put(
     take_first_row(grid, leaves, history);
 }
 
-/// What a move makes leave that will be done.
+/// Takes the rows that a move to be done will scroll off.
 #[inline]
 pub fn leave_by_motion(grid: &Grid, motion: Motion, alternate: bool, history: &mut History)
     requires cols { history.old.cols ≡ grid.now.screen.cols }
@@ -78,7 +78,7 @@ pub fn leave_by_motion(grid: &Grid, motion: Motion, alternate: bool, history: &m
     }
 }
 
-/// What an edit makes leave that will be done.
+/// Takes the rows that an edit to be done will scroll off.
 pub fn leave_by_edit(grid: &Grid, edit: Edit, alternate: bool, history: &mut History)
     requires cols { history.old.cols ≡ grid.now.screen.cols }
     ensures history { history.new ≡ with_rows (on_main alternate (left_by_edit edit grid.now.screen)) history.old }
@@ -93,7 +93,7 @@ pub fn leave_by_edit(grid: &Grid, edit: Edit, alternate: bool, history: &mut His
     }
 }
 
-/// What another number of rows makes leave, so that the cursor's row stays.
+/// Takes the rows that another number of rows will scroll off, so that the cursor's row stays.
 pub fn leave_by_size(grid: &Grid, rows: usize, alternate: bool, history: &mut History)
     requires some { 0 < rows }
     requires cols { history.old.cols ≡ grid.now.screen.cols }

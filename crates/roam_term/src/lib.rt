@@ -1,9 +1,8 @@
-//! The terminal of a pane: bytes go in, a screen comes out.
+//! The terminal of a pane: it takes bytes and shows a screen.
 //!
-//! The model is a VT220 with the control functions of ECMA-48 (5th edition), in this project's profile: `roam_controls`
-//! is the table of functions, `specs/Terminal.antt` the state and what each of them makes of it. A function that the table
-//! doesn't list has no effect. Deviations from the VT220: erasing reaches guarded cells too where the function isn't
-//! selective, SUB shows no error character, and replies are seven-bit.
+//! The model is a VT220 with the control functions of ECMA-48 (5th edition), in this project's profile: `roam_controls` is the table of
+//! functions, `specs/Terminal.antt` the state and the effect of each. A function that the table doesn't list has no effect. Deviations from
+//! the VT220: a function that isn't selective erases guarded cells too, SUB shows no error character, and replies are seven-bit.
 #![tactic(auto)]
 
 mod alternates;

@@ -25,7 +25,7 @@ impl Model for Output {
     ghost invariant = { λ o. (o.bytes.capacity ≡ most_output) × (length o.bytes.items ≤ most_output) };
 }
 
-// Writes bytes from a place on, as many as fit, and tells how many.
+// Writes bytes from a place on, as many as fit, and returns their number.
 fn fill(out: &mut [u8], at: usize, bytes: &[u8]) -> usize
     requires inside { at ≤ length out.old }
     ensures count { result ≡ min (length bytes.now) (length out.old - at) }
@@ -71,7 +71,7 @@ impl Output {
         self.push(buffer.format(n).as_bytes());
     }
 
-    /// Copies the first bytes that wait, as many as fit, and tells how many.
+    /// Copies the first queued bytes, as many as fit, and returns their number.
     pub fn copy_to(&self, out: &mut [u8]) -> usize
         ensures count { result ≡ min (length self.now) (length out.old) }
         ensures bytes { out.new ≡ take result self.now ++ drop result out.old }

@@ -1,11 +1,11 @@
-//! What printed characters look like, and what DECSC keeps.
+//! The style of printed characters, and the state that DECSC saves.
 ghost use Rattle.std.specs.Prelude.{◌≡◌};
 ghost use Rattle.roam_term.specs.Pens.{plain_pen, nothing_saved};
 
 use roam_cells::{Ink, Style};
 use roam_charset::Sets;
 
-/// What DECSC keeps of a screen (VT220 Programmer Reference, chapter 4). Rows and columns count from 0.
+/// The state that DECSC saves of a screen (VT220 Programmer Reference, chapter 4). Rows and columns count from 0.
 #[derive(Clone, Copy)]
 pub struct Saved {
     pub row: usize,
@@ -24,7 +24,7 @@ pub fn plain_pen() -> Ink
 }
 
 impl Saved {
-    /// What DECRC restores where nothing is saved: the start's values.
+    /// Returns the state that DECRC restores if nothing is saved: the start's values.
     pub fn new() -> Self
         ensures saved { result ≡ nothing_saved }
     {

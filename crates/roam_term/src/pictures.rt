@@ -9,7 +9,7 @@ use roam_history::History;
 use roam_screens::Shot;
 use std::alloc::{AllocError, Global};
 
-// A style with its reverse flag turned where the whole screen is reversed.
+// Returns a style with its reverse flag turned if the whole screen is reversed.
 fn shown_style(style: Style, reversed: bool) -> Style
     ensures style { result ≡ shown_style reversed style }
 {
@@ -23,7 +23,7 @@ fn shown_style(style: Style, reversed: bool) -> Style
     }
 }
 
-// A cell as it is shown: unguarded, and in reverse where the whole screen is.
+// Returns a cell as it is shown: unguarded, and in reverse if the whole screen is.
 fn shown_cell(cell: &Cell, reversed: bool) -> Cell
     ensures cell { result ≡ shown_glyph reversed cell.now }
 {

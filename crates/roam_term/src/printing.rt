@@ -13,7 +13,7 @@ use roam_cells::Cell;
 use roam_grid::{Grid, Writing};
 use roam_history::History;
 
-// Writes a cell anywhere; what it makes leave comes in. It is no part of the loop over characters, which would be slower with it.
+// Writes a cell anywhere, and takes the rows that scroll off. It is not part of the loop over characters, which would be slower with it.
 #[inline(never)]
 fn put_at_edge(
     grid: &mut Grid,
@@ -33,7 +33,7 @@ fn put_at_edge(
     grid.put(cell, writing);
 }
 
-/// Writes a cell; what it makes leave comes in.
+/// Writes a cell, and takes the rows that scroll off.
 #[inline]
 pub fn put(grid: &mut Grid, cell: Cell, writing: Writing, alternate: bool, history: &mut History)
     requires no_half { is_right_half cell ≡ false }
@@ -51,7 +51,7 @@ pub fn put(grid: &mut Grid, cell: Cell, writing: Writing, alternate: bool, histo
     }
 }
 
-/// Writes a cell so many times; what it makes leave comes in.
+/// Writes a cell so many times, and takes the rows that scroll off.
 pub fn put_times(
     grid: &mut Grid,
     cell: Cell,
@@ -87,7 +87,7 @@ fn columns_left(grid: &Grid) -> usize
     }
 }
 
-// Writes as much of the front of a run as no row leaves after its first character, and tells how many bytes that were.
+// Writes as much of the front of a run as scrolls no row off after its first character, and returns the number of its bytes.
 #[inline]
 fn put_front(
     grid: &mut Grid,
@@ -117,7 +117,7 @@ fn put_front(
     count
 }
 
-// Writes printable ASCII bytes in the style and guard of a pen, as many at once as fit a row; what they make leave comes in.
+// Writes printable ASCII bytes in the style and guard of a pen, as many at once as fit a row, and takes the rows that scroll off.
 fn put_rows(
     grid: &mut Grid,
     pen: Cell,
@@ -142,7 +142,7 @@ fn put_rows(
     stays(history);
 }
 
-// Whether so many cells of one column fit into the rest of the cursor's row, and no wrap pends: then no row leaves.
+// Returns true if so many cells of one column fit into the rest of the cursor's row, and no wrap is pending: then no row scrolls off.
 #[inline]
 fn fits_row(grid: &Grid, n: usize) -> bool
     ensures settled { IsTrue result → grid.now.screen.pending ≡ false }
@@ -153,7 +153,7 @@ fn fits_row(grid: &Grid, n: usize) -> bool
     !grid.pending() && n <= grid.room()
 }
 
-/// Writes printable ASCII bytes in the style and guard of a pen; what they make leave comes in.
+/// Writes printable ASCII bytes in the style and guard of a pen, and takes the rows that scroll off.
 #[inline]
 pub fn put_run(
     grid: &mut Grid,

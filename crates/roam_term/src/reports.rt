@@ -1,4 +1,4 @@
-//! Reports: what is answered.
+//! Reports: the answers.
 ghost use Rattle.std.specs.Prelude.{◌≡◌, ◌+◌, ◌≤◌, ◌++◌, length};
 ghost use Rattle.roam_term.specs.Reports.{reported_row, answer_to};
 ghost use Rattle.roam_term.specs.Limits.{most_output};

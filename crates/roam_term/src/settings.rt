@@ -1,4 +1,4 @@
-//! What becomes of the screen when margins and modes are set.
+//! The effect of margins and modes on the screen.
 ghost use Rattle.std.specs.Prelude.{◌≡◌};
 ghost use Rattle.roam_grid.specs.Screen.{IsSameSize};
 ghost use Rattle.roam_term.specs.Settings.{bottom_of, margins_set, after_private_mode};
@@ -19,7 +19,7 @@ fn bottom_of(grid: &Grid, bottom: u16) -> usize
     }
 }
 
-/// Sets margins of rows from 1 where the top one is above the bottom one, and moves the cursor home.
+/// Sets margins of rows from 1 if the top one is above the bottom one, and moves the cursor home.
 pub fn set_margins(grid: &mut Grid, top: u16, bottom: u16, origin: bool)
     ensures set { grid.new.screen ≡ margins_set top bottom origin grid.old.screen }
     ensures marks { grid.new.marks ≡ grid.old.marks }
@@ -33,7 +33,7 @@ pub fn set_margins(grid: &mut Grid, top: u16, bottom: u16, origin: bool)
     }
 }
 
-/// What a private mode's change makes of the screen at once.
+/// Does the effect of a private mode's change on the screen at once.
 pub fn follow_private_mode(grid: &mut Grid, on: bool, number: u16)
     ensures followed { grid.new.screen ≡ after_private_mode on number grid.old.screen }
     ensures marks { grid.new.marks ≡ marks_followed number grid.old.marks }

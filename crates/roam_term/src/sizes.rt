@@ -93,8 +93,8 @@ impl Term {
         })
     }
 
-    /// Brings the terminal to the size that memory was made for, with as many lines of history: rows that leave the main screen go to
-    /// the history, and its rows get the new columns. It takes no memory.
+    /// Brings the terminal to the size that memory was made for, with as many lines of history: rows that leave the main screen go to the
+    /// history, and its rows get the new columns. It takes no memory.
     pub fn adopt(&mut self, fitted: Fitted)
         requires lines { fitted.lines ≡ self.old.history.lines }
         ensures sized { Sized self.old self.new fitted.rows fitted.cols }

@@ -25,7 +25,7 @@ use roam_text::{Dispatch, Dispatched, REPLACEMENT, Reader};
 use std::alloc::{AllocError, Global};
 use std::marker::Model;
 
-// What a dispatched function asks for, with what the reader lends.
+// Returns the command of a dispatched function, with the parts that the reader lends.
 #[inline]
 fn requested(reader: &Reader, dispatch: Dispatch) -> Command
     ensures command { result ≡ command_of (function_of dispatch reader.now.parameters reader.now.intermediates) }
@@ -155,7 +155,7 @@ impl Term {
         self.take_in(step);
     }
 
-    // Prints the printable ASCII at the front of a piece at once, where it shows itself, and tells how many bytes that were.
+    // Prints the printable ASCII at the front of a piece at once, if it shows itself, and returns the number of its bytes.
     #[inline]
     fn feed_plain(&mut self, piece: &[u8]) -> usize
         requires some { 0 < length piece.now }
@@ -175,7 +175,7 @@ impl Term {
         count
     }
 
-    // Prints the graphic character from U+00A0 up at the front of a piece at once, and tells how many bytes it took.
+    // Prints the graphic character from U+00A0 up at the front of a piece at once, and returns the number of its bytes.
     #[inline]
     fn feed_character(&mut self, piece: &[u8]) -> usize
         ensures within { result ≤ length piece.now }
@@ -192,7 +192,7 @@ impl Term {
         }
     }
 
-    // Prints the graphic characters from U+00A0 up at the front of a piece, and tells how many bytes they took.
+    // Prints the graphic characters from U+00A0 up at the front of a piece, and returns the number of their bytes.
     #[inline]
     fn feed_characters(&mut self, piece: &[u8]) -> usize
         ensures within { result ≤ length piece.now }
@@ -242,8 +242,8 @@ impl Term {
         }
     }
 
-    // Reads the parameters of a control sequence at the front of a piece at once, and then one byte more; it tells how many bytes that
-    // were.
+    // Reads the parameters of a control sequence at the front of a piece at once, and then one byte more; returns the number of these
+    // bytes.
     #[inline]
     fn feed_sequence(&mut self, piece: &[u8]) -> usize
         requires some { 0 < length piece.now }
@@ -262,7 +262,7 @@ impl Term {
         count + 1
     }
 
-    // Reads as much as goes by one way of the front of a piece that begins with no ASCII, and tells how many bytes that were.
+    // Reads as much of the front of a piece that doesn't begin with ASCII as goes by one way, and returns the number of its bytes.
     #[inline]
     fn feed_wide(&mut self, piece: &[u8]) -> usize
         requires some { 0 < length piece.now }
@@ -299,7 +299,7 @@ impl Term {
         self.feed_sequence(piece)
     }
 
-    // Reads as much of the front of a piece as goes by one way, and tells how many bytes that were.
+    // Reads as much of the front of a piece as goes by one way, and returns the number of its bytes.
     #[inline]
     fn feed_front(&mut self, piece: &[u8]) -> usize
         requires some { 0 < length piece.now }
@@ -329,9 +329,8 @@ impl Term {
         }
     }
 
-    /// Reads a piece of at most 1,024 bytes, of any content and cut anywhere. Refuses, in this order, a longer piece as
-    /// `TooLong`, and as `Busy` one for whose bytes the output queue hasn't 12 free bytes each; a refused piece changes
-    /// nothing. It takes no memory.
+    /// Reads a piece of at most 1,024 bytes, of any content and cut anywhere. `TooLong` for a longer piece, then `Busy` if the output queue
+    /// has fewer than 12 free bytes for each byte; a refused piece changes nothing. It takes no memory.
     pub fn feed(&mut self, piece: &[u8]) -> Result<(), Fault>
         ensures ok { IsOk result ↔ IsAccepted self.old.waiting piece.now }
         ensures fed { OnOk result (Fed self.old self.new piece.now) }
@@ -358,7 +357,7 @@ impl Term {
         self.output.len()
     }
 
-    /// Copies the first answered bytes that wait, as many as fit, and tells how many.
+    /// Copies the first queued answers, as many bytes as fit, and returns their number.
     pub fn copy_output(&self, out: &mut [u8]) -> usize
         ensures count { result ≡ min (length self.now.waiting) (length out.old) }
         ensures bytes { out.new ≡ take result self.now.waiting ++ drop result out.old }
@@ -379,8 +378,8 @@ impl Term {
         self.output.drop_front(n);
     }
 
-    /// For each row of the screen that is shown, from 0, whether it may show something else at view 0 than when the marks were last
-    /// cleared. At first all marks are on.
+    /// Returns a flag for each row of the screen that is shown, from 0: true if it may show something else at view 0 than when the marks
+    /// were last cleared. At first all marks are on.
     pub fn marks(&self) -> &[bool]
         ensures marks { result.now ≡ take self.now.live.screen.rows self.now.marks }
         ensures len { length result.now ≡ self.now.live.screen.rows }

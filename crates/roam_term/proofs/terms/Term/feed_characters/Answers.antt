@@ -5,7 +5,7 @@ use Rattle.roam_term.proofs.Lists.{all-after, append-nil}
 use Rattle.roam_term.proofs.Runs.{fed-none, fed-then}
 use Rattle.roam_term.proofs.terms.Term.feed_characters.Goals as goal
 
--- how long what is left of a piece is
+-- the length of the rest of a piece
 left_long : (at : ℕ) (piece : List ℕ) → length (take (length piece - at) (drop at piece)) ≡ length piece - at
 left_long at piece = ap (length {A = ℕ}) (all-after at piece) ∙ length-drop at piece
 
@@ -29,7 +29,7 @@ loop-at-preserved c =
       screen = (part.ensures.screen.0 ∙ c.loop-at.invariant.screen.0, part.ensures.screen.1 ∙ c.loop-at.invariant.screen.1);
     }
 
--- what was read stays where no character came
+-- the bytes read stay if no character came
 pub returns-then-size-eq0-clause-fed : goal.returns-then-size-eq0-clause-fed
 returns-then-size-eq0-clause-fed c =
     let piece = c.args.piece.now in

@@ -5,7 +5,7 @@ use Rattle.roam_term.proofs.Lists.{all-after}
 use Rattle.roam_term.proofs.Runs.{fed-none, fed-then}
 use Rattle.roam_term.proofs.terms.Term.feed_each.Goals as goal
 
--- how long what is left of a piece is
+-- the length of the rest of a piece
 left_long : (at : ℕ) (piece : List ℕ) → length (take (length piece - at) (drop at piece)) ≡ length piece - at
 left_long at piece = ap (length {A = ℕ}) (all-after at piece) ∙ length-drop at piece
 

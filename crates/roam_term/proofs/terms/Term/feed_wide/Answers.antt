@@ -10,7 +10,7 @@ nothing_read old new n piece none fed =
     let zero : n ≡ 0 = omega arith in
     subst (λ m. Fed old new (take m piece)) zero fed
 
--- where no more bytes wait, they are no more than after an answer
+-- if no more bytes wait, they are no more than after an answer
 none_more : (xs ys : List ℕ) (n : ℕ) → xs ≡ ys → length xs ≤ length ys + n
 none_more xs ys n e = omega (arith, ap (length {A = ℕ}) e)
 
