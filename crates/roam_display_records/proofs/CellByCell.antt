@@ -17,7 +17,7 @@ range_more a (suc n) =
     let same : a + 1 + n ≡ a + suc n = omega arith in
     ap (λ (t : List ℕ). a ∷ t) (range_more (a + 1) n ∙ ap (λ (k : ℕ). range_with_len (a + 1) n ++ k ∷ []) same)
 
--- what one more number adds
+-- the addition of one more number
 pub one_more : (f : ℕ → List ℕ) (n : ℕ) → flat_map f (range_with_len 0 (n + 1)) ≡ flat_map f (range_with_len 0 n) ++ f n
 one_more f n =
     let one : n + 1 ≡ suc n = omega arith in

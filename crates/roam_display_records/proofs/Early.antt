@@ -1,4 +1,4 @@
--- No line is told too early.
+-- No line is reported too early.
 use Rattle.std.proofs.Common.{◌≡◌, ◌⊎◌, ℕ, suc, ◌+◌, ◌-◌, ◌^◌, ◌≤◌, max, false, ltb, List, [], ◌∷◌, ◌++◌, length, length-append, Option, Some, None, refl, sym, ap, subst, ◌∙◌, arith, inl, inr}
 use Rattle.std.proofs.lemmas.Bool.{cases_Bool, ltb-true, ltb-false, le-ltb}
 use Rattle.std.proofs.lemmas.List.{append-nil, append_assoc}
@@ -29,7 +29,7 @@ more a (Some act ∷ log) other =
       | inr e ↦ rw e (omega (arith, m))
     ]
 
--- where all are done, those of what follows are too
+-- if all are done, those of the following lines are too
 all_done : (a : ℕ) (log other : List (Option ℕ)) → length log ≤ first_done a log → length log + first_done a other ≤ first_done a (log ++ other)
 all_done a [] other h = omega arith
 all_done a (None ∷ log) other h = let m = all_done a log other (omega (arith, h)) in omega (arith, m)
@@ -42,7 +42,7 @@ all_done a (Some act ∷ log) other h =
           rw e (omega (arith, m))
     ]
 
--- ---- what waits
+-- ---- the waiting lines
 
 abbrev top : ℕ
 top = 2 ^ 64 - 1
@@ -56,7 +56,7 @@ AreUpTo n waiting = All (λ (e : ℕ × ℕ). e.0 ≤ n) waiting
 raised : (l n : ℕ) (ws : List (ℕ × ℕ)) → l ≤ n → AreUpTo l ws → AreUpTo n ws
 raised l n ws le all = λ k d h. omega (arith, le, all k d h)
 
--- what no longer waits for so many acts doesn't for more
+-- a line that no longer waits for so many acts doesn't for more
 twice : (acts a : ℕ) (ws : List (ℕ × ℕ)) → acts ≤ a → left a (left acts ws) ≡ left a ws
 twice acts a [] le = refl
 twice acts a (e ∷ ws) le =
@@ -82,7 +82,7 @@ joined_last act [] e = refl
 joined_last act (w ∷ []) e = refl
 joined_last act (w ∷ v ∷ ws) e = ap (λ (t : List (ℕ × ℕ)). w ∷ t) (joined_last act (v ∷ ws) e)
 
--- ---- what holds after each step
+-- ---- the facts after each step
 
 record Holds (a : ℕ) (t : TakenView) (log : List (Option ℕ)) : Type 0 where
   lines : (t.lines ≡ length log) ⊎ (t.lines ≡ top)
@@ -111,7 +111,7 @@ module _ (a : ℕ) (t : TakenView) (log : List (Option ℕ)) (h : Holds a t log)
         | inr n ↦ let past = ltb-false t.lines top n in inr (omega (arith, past))
       ]
 
-  -- where all that was taken is done, a line more is, if its acts are
+  -- if all taken lines are done, one line more is, if its acts are
   on : (last : Option ℕ) → first_done a (last ∷ []) ≡ 1 → t.lines ≤ first_done a log → next ≤ first_done a (log ++ last ∷ [])
   on last one all =
       let m = more a log (last ∷ []) in
@@ -123,7 +123,7 @@ module _ (a : ℕ) (t : TakenView) (log : List (Option ℕ)) (h : Holds a t log)
         | inr e ↦ omega (arith, e, m, all)
       ]
 
-  -- what waits in front keeps its place
+  -- the waiting lines in front keep their places
   front : (last : Option ℕ) (ws others : List (ℕ × ℕ)) → done t.lines ws ≤ first_done a log
       → (t.lines ≤ first_done a log → done next others ≤ first_done a (log ++ last ∷ [])) → done next (ws ++ others) ≤ first_done a (log ++ last ∷ [])
   front last [] others e by = by e
@@ -235,7 +235,7 @@ nothing_holds a = record { lines = inl refl; low = omega arith; below = All-nil 
 pub never_early : NeverTooEarly
 never_early steps a low = (steps_hold a steps nothing_taken [] (nothing_holds a) low).early
 
--- ---- where as many wait as are kept apart
+-- ---- the case that as many wait as are kept apart
 
 pub joined_is : (line act : ℕ) (items kept pushed : List (ℕ × ℕ)) (last before most : ℕ) → most_waiting ≤ length items → items ≡ kept ++ (last, before) ∷ []
     → pushed ≡ kept ++ (last, most) ∷ [] → most ≡ max before act → pushed ≡ waits_for line act items

@@ -12,7 +12,7 @@ use Rattle.roam_display_records.specs.declared.looks.Looking.TheVariants.{Points
 use Rattle.roam_screens.specs.Screenshot.{Screenshot}
 use Rattle.roam_term.specs.ControlFunctions.{restyle}
 
--- between two cells of a row stands IS1 (ECMA-48 8.3.63), which no cell has
+-- between two cells of a row comes IS1 (ECMA-48 8.3.63), which no cell has
 abbrev pub between_cells : ℕ
 between_cells = 0x1F
 
@@ -21,7 +21,7 @@ abbrev pub style_before : List Glyph → ℕ → Style
 style_before row zero = default_style
 style_before row (suc c) = (glyph_at row c).style
 
--- SGR (ECMA-48 8.3.117) that sets a cell's style, where it is another one than before
+-- SGR (ECMA-48 8.3.117) that sets a cell's style, if it is another one than before
 abbrev pub styling : Looking → Style → Style → List ℕ
 styling Points before style = []
 styling Styled before style = if same_style style before then [] else flat_map spelling_of (restyle style)

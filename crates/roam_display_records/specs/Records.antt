@@ -1,10 +1,10 @@
--- The records that a front end is told over the stream of its terminal: a line each, and for some so many bytes behind it (this project's
+-- The records that a front end reads from the stream of its terminal: a line each, and for some so many bytes behind it (this project's
 -- profile).
 use Rattle.std.specs.Prelude.{ℕ, List, [], ◌∷◌, ◌++◌, length, codes, decimal}
 use Rattle.roam_display_records.specs.declared.records.Record.{Record}
 use Rattle.roam_display_records.specs.declared.records.Record.TheVariants.{Events, Size, Place, Paint, Anew, Screen, Silent, Heard, Refused, Taken, Full}
 
--- a line: a word, what is said with it, and LF
+-- a line: a word, its arguments, and LF
 abbrev pub line_of : List ℕ → List ℕ
 line_of words = words ++ 0x0A ∷ []
 
@@ -16,7 +16,7 @@ numbered word n = word ++ 0x20 ∷ decimal n
 abbrev pub paired : List ℕ → ℕ → ℕ → List ℕ
 paired word m n = word ++ (0x20 ∷ decimal m ++ 0x20 ∷ decimal n)
 
--- a line that says how many bytes stand behind it, and these
+-- a line with the number of bytes behind it, and these bytes
 abbrev pub carrying : List ℕ → List ℕ → List ℕ
 carrying word bytes = line_of (numbered word (length bytes)) ++ bytes
 

@@ -6,8 +6,8 @@ use Rattle.std.specs.List.{filter, fold}
 abbrev pub most_waiting : ℕ
 most_waiting = 64
 
--- how many lines were taken; of each of them with acts that aren't acknowledged its number, from 1, and that of its last act; and how many
--- lines were told
+-- the number of lines taken; for each with acts that aren't acknowledged its number, from 1, and that of its last act; and the number of
+-- lines reported
 pub record TakenView : Type 0 where
   pub lines : ℕ
   pub waiting : List (ℕ × ℕ)
@@ -28,7 +28,7 @@ behind line act waiting = waiting ++ (line, act) ∷ []
 abbrev pub with_act : ℕ → ℕ × ℕ → ℕ × ℕ
 with_act act entry = (entry.0, max entry.1 act)
 
--- where as many wait as are kept apart, the last one waits for this act too
+-- if as many wait as are kept apart, the last one waits for this act too
 abbrev pub joined : ℕ → List (ℕ × ℕ) → List (ℕ × ℕ)
 joined act [] = []
 joined act (entry ∷ []) = with_act act entry ∷ []
@@ -45,7 +45,7 @@ waiting_after (Some act) line waiting = waits_for line act waiting
 abbrev pub took : Option ℕ → TakenView → TakenView
 took last t = record t { lines = next_line t.lines; waiting = waiting_after last (next_line t.lines) t.waiting }
 
--- ---- what is acknowledged
+-- ---- acknowledged acts
 
 -- those whose acts aren't all among the first so many
 abbrev pub still_waiting : ℕ → List (ℕ × ℕ) → List (ℕ × ℕ)
@@ -56,11 +56,11 @@ abbrev pub done : ℕ → List (ℕ × ℕ) → ℕ
 done lines [] = lines
 done lines (entry ∷ others) = entry.0 - 1
 
--- so many of the first lines are taken and all their acts acknowledged, where so many acts are
+-- so many of the first lines are taken and all their acts acknowledged, if so many acts are
 abbrev pub done_after : ℕ → TakenView → ℕ
 done_after acknowledged t = done t.lines (still_waiting acknowledged t.waiting)
 
--- that is told where it rose
+-- that is reported if it rose
 abbrev pub risen : ℕ → ℕ → Option ℕ
 risen told now = if nat_lt told now then Some now else None
 

@@ -1,4 +1,4 @@
-//! The records that a front end is told over the stream of its terminal, and the text of a screen cell by cell.
+//! The records that a front end reads from the stream of its terminal, and the text of a screen cell by cell.
 #![tactic(auto)]
 
 pub mod laws;

@@ -1,4 +1,4 @@
-//! A screen as a text in which each cell stands apart.
+//! A screen as a text with its cells separated.
 ghost use Rattle.std.specs.Prelude.{◌≡◌, ◌<◌, ◌++◌, ◌==◌, ◌∷◌, [], length, OnOk, IfOk, IsOkUnless, if◌then◌else◌};
 ghost use Rattle.std.specs.List.{flat_map, range_with_len};
 ghost use Rattle.roam_cells.specs.Place.{glyph_at, row_of};
@@ -9,16 +9,16 @@ use roam_paint::{push_points, push_restyle};
 use roam_screens::Seen;
 use std::alloc::{AllocError, Global};
 
-/// What stands between two cells of a row: no cell has a control character.
+/// The separator of two cells of a row: no cell has a control character.
 const BETWEEN: &[u8] = b"\x1f";
 
-/// What is told of each cell.
+/// The content of each cell's text.
 #[derive(Clone, Copy, Debug, PartialEq, Eq)]
 pub enum Looking {
     /// Its code points.
     Points,
 
-    /// Its code points, and before them the SGR that sets its style, where that isn't the one of the cell before.
+    /// Its code points, and before them the SGR that sets its style, if that isn't the one of the cell before.
     Styled,
 }
 
@@ -36,7 +36,7 @@ fn style_before(row: &[Cell], col: usize) -> Style
 }
 
 impl Looking {
-    // Adds SGR that sets a style, where it is told and another one is set.
+    // Appends SGR that sets a style, if styles are shown and another one is set.
     fn push_styling(self, text: &mut Vec<u8>, before: Style, style: Style) -> Result<(), AllocError>
         ensures text { OnOk result (text.new.items ≡ text.old.items ++ styling self before style) }
     {
@@ -93,8 +93,8 @@ fn head_of<S: Seen>(alloc: Global, shot: &S) -> Result<Vec<u8>, Fault>
     Ok(text.into_bytes())
 }
 
-/// The text of a screen cell by cell: a line with its rows and columns, the cursor's row and column from 1, and `visible` or `hidden`; then
-/// a line for each row, in which cells stand apart by IS1 (U+001F, ECMA-48 8.3.63); a right half is empty. Refuses want of memory.
+/// Returns the text of a screen cell by cell: a line with its rows and columns, the cursor's row and column from 1, and `visible` or
+/// `hidden`. Then comes a line for each row, with cells separated by IS1 (U+001F, ECMA-48 8.3.63); a right half is empty. `OutOfMemory`.
 #[tactic(auto, using(crate::proofs::CellByCell::more, crate::proofs::CellByCell::none))]
 pub fn screen_text<S: Seen>(alloc: Global, looking: Looking, shot: &S) -> Result<Vec<u8>, Fault>
     ensures text { IfOk result (λ text. text.items ≡ screen_text looking (S.screen shot.now)) }

@@ -1,23 +1,23 @@
-//! What a front end is told, and how that is written.
+//! The records for a front end, and their text.
 ghost use Rattle.std.specs.Prelude.{◌≡◌, ◌++◌, ◌∷◌, IfOk, IsOkUnless, codes};
 ghost use Rattle.roam_display_records.specs.Records.{carrying, line_of, numbered, paired, text_of};
 
 use roam_cells::Fault;
 use std::alloc::Global;
 
-/// What a front end is told over the stream of its terminal.
+/// A record that a front end reads from the stream of its terminal.
 #[derive(Clone, Copy, Debug)]
 pub enum Record<'a> {
     /// Records come from here on.
     Events,
 
-    /// What is painted from here on has so many rows and columns.
+    /// Later paintings have so many rows and columns.
     Size(u16, u16),
 
     /// The part that is shown from here on begins at this row and this column of the screen, both from 0.
     Place(u16, u16),
 
-    /// This leads the terminal from what it shows to another screen.
+    /// This leads the terminal from its screen to another one.
     Paint(&'a [u8]),
 
     /// This opens the terminal, whatever it shows, and leads it to a screen.
@@ -60,7 +60,7 @@ fn paired(alloc: Global, word: &str, first: u16, second: u16) -> Result<Vec<u8>,
     Ok(text.into_bytes())
 }
 
-// A line that says how many bytes stand behind it, and these.
+// Returns a line with the number of bytes behind it, and these bytes.
 fn carrying(alloc: Global, word: &str, bytes: &[u8]) -> Result<Vec<u8>, Fault>
     ensures text { IfOk result (λ text. text.items ≡ carrying word.now bytes.now) }
     ensures fault { IsOkUnless result Fault.OutOfMemory }
@@ -79,7 +79,7 @@ fn refused(alloc: Global, line: u64, words: &str) -> Result<Vec<u8>, Fault>
     Ok(text.into_bytes())
 }
 
-// A text as it stands.
+// Returns a text as bytes.
 fn literal(alloc: Global, text: &str) -> Result<Vec<u8>, Fault>
     ensures text { IfOk result (λ bytes. bytes.items ≡ text.now) }
     ensures fault { IsOkUnless result Fault.OutOfMemory }
@@ -87,7 +87,7 @@ fn literal(alloc: Global, text: &str) -> Result<Vec<u8>, Fault>
     Ok(Vec::from_slice(alloc, text.as_bytes())?)
 }
 
-/// How a record is written: its line, and what stands behind it. Refuses want of memory.
+/// Returns the text of a record: its line, and the bytes behind it. `OutOfMemory`.
 pub fn record_text(alloc: Global, told: Record<'_>) -> Result<Vec<u8>, Fault>
     ensures text { IfOk result (λ text. text.items ≡ text_of told.entry) }
     ensures fault { IsOkUnless result Fault.OutOfMemory }

@@ -70,7 +70,7 @@ fn done_among(lines: u64, waiting: &[(u64, u64)], acts: u64) -> u64
 }
 
 impl TakenLines {
-    /// No line was taken, and none was told.
+    /// Returns a value with no line taken, and none reported.
     pub fn new() -> TakenLines
         ensures none { result ≡ nothing_taken }
     {
@@ -81,7 +81,7 @@ impl TakenLines {
         }
     }
 
-    /// One line more was taken; the last of its acts has this number, where it has acts.
+    /// Notes that one line more was taken; the last of its acts has this number, if it has acts.
     pub fn took(&mut self, last: Option<u64>)
         ensures took { self.new ≡ took last self.old }
     {
@@ -91,7 +91,8 @@ impl TakenLines {
         }
     }
 
-    /// How many of the first lines are taken, with all their acts acknowledged, where so many acts are; none where no more than were told.
+    /// Returns how many of the first lines are taken, with all their acts acknowledged, if so many acts are; `None` if no more than were
+    /// reported.
     pub fn risen(&self, acts: u64) -> Option<u64>
         ensures risen { result ≡ risen self.now.told (done_after acts self.now) }
     {
@@ -99,7 +100,8 @@ impl TakenLines {
         if done <= self.told { None } else { Some(done) }
     }
 
-    /// So many acts are acknowledged; how many of the first lines are taken, with all their acts acknowledged, where that rose.
+    /// Notes that so many acts are acknowledged; returns how many of the first lines are taken, with all their acts acknowledged, if that
+    /// rose.
     pub fn acknowledged(&mut self, acts: u64) -> Option<u64>
         ensures acknowledged { self.new ≡ acknowledged_of acts self.old }
         ensures risen { result ≡ risen self.old.told (done_after acts self.old) }

@@ -1,4 +1,4 @@
--- Panes stay distinct: how often a number is in a tree after a split and after a close, and that a free number is in none.
+-- Panes stay distinct: the count of a number in a tree after a split and after a close, and that a free number is in none.
 use Rattle.std.proofs.Common.{◌≡◌, ℕ, zero, suc, ◌+◌, ◌≤◌, ◌<◌, nat_le, Bool, true, false, ◌||◌, ◌==◌, cond, refl, ap, sym, ◌∙◌, inl, inr, length, arith, length-append}
 use Rattle.std.proofs.lemmas.Bool.{eqb-true, cases_lt, false≢true}
 use Rattle.std.proofs.lemmas.Bool.Decides.{nat_tests}
@@ -28,7 +28,7 @@ times_closed k p (Two w g a b) =
     (Two w g a (without_pane p b))
     (omega arith) (omega arith) (omega (arith, times_closed k p a)) (omega (arith, times_closed k p b))
 
--- what isn't in a tree is in it no times
+-- a number outside a tree is in it no times
 pub times_none : (p : ℕ) (t : Shape) → has p t ≡ false → times p t ≡ 0
 times_none p (One q) h = rw h refl
 times_none p (Two w g a b) h = by_side (has p a) (has p b) h (times_none p a) (times_none p b)
@@ -37,7 +37,7 @@ times_none p (Two w g a b) h = by_side (has p a) (has p b) h (times_none p a) (t
     by_side true y is l r = absurd (false≢true (sym is))
     by_side false y is l r = omega (arith, l refl, r is)
 
--- what is in a tree is in it some times
+-- a number in a tree is in it some times
 pub times_some : (p : ℕ) (t : Shape) → has p t ≡ true → 1 ≤ times p t
 times_some p (One q) h = rw h (omega arith)
 times_some p (Two w g a b) h = by_side (has p a) (has p b) h (times_some p a) (times_some p b)

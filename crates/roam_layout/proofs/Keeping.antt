@@ -1,4 +1,5 @@
--- What each act keeps: the tree fits, its panes are distinct and numbered 1 to 9, its shifts are modest, the focus is a pane.
+-- The invariants that each act keeps: the tree fits, its panes are distinct and numbered 1 to 9, its shifts are modest, the focus is a
+-- pane.
 use Rattle.std.proofs.Common.{◌≡◌, ℕ, ℤ, pos, ◌+◌, ◌-◌, ◌≤◌, ◌<◌, ◌+ℤ◌, max, nat_le, Bool, true, false, ◌||◌, ◌==◌, cond, refl, ap, sym, subst, ◌∙◌, inl, inr, List, [], ◌∷◌, ◌++◌, length, map, arith, ◌⊎◌, Option, Some, None, is_some}
 use Rattle.std.proofs.lemmas.Bool.{false≢true, eq-eqb, or_left, or_right, leb-true, eqb-true, le-leb}
 use Rattle.std.proofs.lemmas.Bool.Decides.{leb_tells}
@@ -78,7 +79,7 @@ spot_least p (Two Down g a b) r fits =
     either_fits true t x y h k = h
     either_fits false t x y h k = k
 
--- what holds of each choice holds of the one that is taken
+-- a property of each choice is one of the chosen one
 one_of_four : (P : Shape → Type 0) (x y z : Bool) (s t u v : Shape) → P s → P t → P u → P v → P (cond x s (cond y t (cond z u v)))
 one_of_four P true y z s t u v a b c d = a
 one_of_four P false true z s t u v a b c d = b
@@ -289,11 +290,11 @@ split_done w s f u t n vs h roomy ef eu et en ev =
     ∙ ap (λ k. with_subtree s.focus k s.tree) ef
     in rw (nat_le_no 9 (length (leaves s.tree)) h, roomy, e, ev, en) refl
 
--- what the length of the list of rectangles says
+-- the length of the list of rectangles
 pub counted : (t : Shape) (r : Rect) (xs : List (ℕ × Rect)) (n : ℕ) → n ≡ length xs → xs ≡ rects_of t r → n ≡ length (leaves t)
 counted t r xs n en ex = en ∙ ap length ex ∙ length_placed t r
 
--- a pane that has room is split, where there are fewer than nine
+-- a pane that has room is split, if there are fewer than nine
 pub split_laid : (w : Way) (a s : Plan) (xs : List (ℕ × Rect)) (r : Rect) (has : Bool) → a ≡ s → xs ≡ rects_of s.tree (area s.rows s.cols) → length xs < 9
     → r ≡ area a.rows a.cols → has ≡ is_roomy w (spot a.focus a.tree r) → has ≡ true → IsLaid (split w s)
 split_laid w a s xs r has same is few er room there =
@@ -317,7 +318,7 @@ is_there : (o : Option Shape) (b : Bool) (v : Shape) → is_some o ≡ true → 
 is_there o true v h e = e
 is_there o false v h e = absurd (false≢true (ap is_some (sym e) ∙ h))
 
--- where a pane may grow it does, in a copy of the tree too
+-- if a pane may grow it does, in a copy of the tree too
 pub does_grow : (s : Plan) (d : ℤ) (u v : Shape) (r : Rect) (may does : Bool) → u ≡ s.tree → is_some (after_growth s.focus d s.tree r) ≡ may → may ≡ true
     → after_growth s.focus d u r ≡ (if does then Some v else None) → after_growth s.focus d u r ≡ Some v
 does_grow s d u v r may does eu is can e = is_there (after_growth s.focus d u r) does v (ap (λ t. is_some (after_growth s.focus d t r)) eu ∙ is ∙ can) e

@@ -1,4 +1,4 @@
--- What an act makes of a layout is a layout, and its face is a screen.
+-- An act makes a layout of a layout, and its face is a screen.
 use Rattle.std.proofs.Common.{◌≡◌, ℕ, zero, suc, ℤ, pos, negsuc, ◌+◌, ◌-◌, ◌*◌, ◌/◌, ◌%◌, ◌<◌, ◌≤◌, ◌+ℤ◌, nat_le, inl, inr, true, false, not, ◌&&◌, cond, eqb, List, [], ◌∷◌, set, length, get_or, replicate, Option, Some, None, refl, sym, ap, ◌∙◌, subst, arith, length-set, get_or-set_same, get_or-set_other}
 use Rattle.std.specs.Char.{IsScalar}
 use Rattle.std.specs.Prelude.{slice_set, slice_index}
@@ -226,7 +226,7 @@ module _ (s : Plan) (picture : ℕ → Screenshot) (is : IsLayout s) (are : AreP
       (λ e. subst (λ (j : ℕ). IsShown (character (slice_index (status_row s) j) reverse_style)) (sym back) (printable_shown (slice_index (status_row s) c) text))
       (λ e. panes_shown picture (panes s) are r (c + 1) (first_with_place r (c + 1) (edges s)))
 
-  -- what shows screens of the panes' sizes in a layout is a screen
+  -- the face of screens of the panes' sizes is a screen
   pub face_screen : IsScreenshot (face s picture)
   face_screen = record {
     size = record {

@@ -135,7 +135,7 @@ counts_at [] k d h = absurd (omega (arith, h))
 counts_at (x ∷ xs) zero d h = let one = once_at x.0 x.0 refl in omega (arith, one)
 counts_at (x ∷ xs) (suc k) d h = let rest = counts_at xs k d (omega (arith, h)) in omega (arith, rest)
 
--- where no number is there twice, a list shows what it has by number
+-- if no number is there twice, a list shows its pictures by number
 shows_itself : (ss : List (ℕ × Screenshot)) → ((p : ℕ) → counts p ss ≤ 1) → Show (picture_in ss) ss
 shows_itself [] once k d h = absurd (omega (arith, h))
 shows_itself (y ∷ ss) once zero d h = ap (λ v. cond v y.1 (picture_in ss y.0)) (sym (eq-eqb y.0 y.0 refl))

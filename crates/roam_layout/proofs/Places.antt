@@ -1,4 +1,4 @@
--- Which pane or border has a place, and lists of cells that show what stands at each place of a row.
+-- The pane or border at a place, and lists of cells that show the cell at each place of a row.
 use Rattle.std.proofs.Common.{◌≡◌, ℕ, ◌+◌, ◌-◌, ◌<◌, ◌≤◌, Bool, true, false, ◌&&◌, cond, inl, inr, List, [], ◌∷◌, ◌++◌, map, replicate, length, get_or, Option, Some, None, refl, sym, ap, ◌∙◌, arith, length-append}
 use Rattle.std.specs.List.{range_with_len}
 use Rattle.std.proofs.lemmas.Bool.{cases_lt}
@@ -80,7 +80,7 @@ outside t x r c fits out =
     let all = covered t x fits r c in
     (not_found r c (rects_of t x) (omega (arith, all, none)), not_found r c (borders t x) (omega (arith, all, none)))
 
--- what a tree shows at a place
+-- the cell of a tree at a place
 abbrev pub tree_cell : (ℕ → Screenshot) → Shape → Rect → ℕ → ℕ → Glyph
 tree_cell picture t x r c = pane_cell picture r c (first_with_place r c (rects_of t x)) (first_with_place r c (borders t x))
 

@@ -22,7 +22,7 @@ halves_panes = refl
 halves_edges : edges halves ≡ (Right, record { row = 1; col = 40; rows = 23; cols = 1 }) ∷ []
 halves_edges = refl
 
--- the pane in focus is the second child: it grows where the first child shrinks
+-- the pane in focus is the second child: it grows as the first child shrinks
 grown_by_three : outcome_of halves (Grow (pos 3)) ≡ Laid (record halves { tree = Two Right (negsuc 2) (One 1) (One 2) })
 grown_by_three = refl
 
@@ -44,7 +44,7 @@ round = refl
 no_pane : outcome_of halves (Focus 3) ≡ Refused NoPane
 no_pane = refl
 
--- a size outside the limits is told before one that is too small for the tree
+-- a size outside the limits is reported before one that is too small for the tree
 outside : outcome_of halves (Size 4 7) ≡ Refused BadSize
 outside = refl
 

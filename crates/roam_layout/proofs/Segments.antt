@@ -72,7 +72,7 @@ module _ (r : ℕ) (picture : ℕ → Screenshot) where
       let edge : Way × Rect = (w, border_part w g a b x) in
       woven a xa (rects_of b xb) edge (borders b xb) ∙ ap (λ l. strip r picture a xa ++ (border_segment r edge ++ l)) (woven_last b xb)
 
--- ---- what the segments show
+-- ---- the cells of the segments
 
 within_less : (first n k m r : ℕ) → k + m ≤ n → within first n r ≡ false → within (first + k) m r ≡ false
 within_less first n k m r le e =
@@ -84,7 +84,7 @@ within_less first n k m r le e =
       ]
     ]
 
--- where the whole has no row, no part has one
+-- if the whole has no row, no part has one
 strip_none : (r : ℕ) (picture : ℕ → Screenshot) (t : Shape) (x : Rect) → Fits t x → within x.row x.rows r ≡ false → strip r picture t x ≡ []
 strip_none r picture (One p) x fits e = ap (λ v. cond v (row_of (picture p).cols (picture p).cells (r - x.row)) []) e
 strip_none r picture (Two Right g a b) x fits e =
@@ -214,7 +214,7 @@ module _ (r : ℕ) (picture : ℕ → Screenshot) (a b : Shape) (x : Rect) (n : 
       sym (is c ∙ second_cell picture Down a b upper level lower fa fb r c (not_row r c upper (within_above x.row n r (omega (arith, low))))
       (not_row r c level not_level))))
 
--- a row's segments show what the tree shows there
+-- a row's segments show the same as the tree there
 pub strip_shows : (r : ℕ) (picture : ℕ → Screenshot) (t : Shape) (x : Rect) → Fits t x → ArePictured picture (rects_of t x)
     → within x.row x.rows r ≡ true → Shows (strip r picture t x) x.col x.cols (tree_cell picture t x r)
 strip_shows r picture (One p) x fits pictured e = pane_shows r picture p x pictured.0 e

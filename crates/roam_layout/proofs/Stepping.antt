@@ -42,7 +42,7 @@ segments_step r ps es ss k d e h j =
     (drop (k + 1) ss)))
     (drop-drop 1 k es)
 
--- what was there, a pane's segment and a border's
+-- the segments so far, a pane's segment and a border's
 pub segments_more : (was mid now pane edge rest old all : List Glyph) → old ≡ pane ++ (edge ++ rest) → mid ≡ was ++ pane → now ≡ mid ++ edge
     → was ++ old ≡ all → now ++ rest ≡ all
 segments_more was mid now pane edge rest old all eo em en ea =

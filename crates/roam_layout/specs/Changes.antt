@@ -1,4 +1,4 @@
--- What an act changes of the panes: told by the panes with their rectangles before it and after it.
+-- The changes of the panes by an act, from the panes with their rectangles before it and after it.
 use Rattle.std.specs.Prelude.{ℕ, ◌==◌, ◌&&◌, List, [], ◌∷◌, Option, Some, None, if◌then◌else◌}
 use Rattle.std.specs.List.{filter_map}
 use Rattle.roam_layout.specs.Rects.{rect_in}
@@ -19,7 +19,7 @@ abbrev pub size_unless_there : ℕ × Rect → Option Rect → Option PaneSize
 size_unless_there x None = Some (size_of x)
 size_unless_there x (Some r) = None
 
--- a pane's size, where it had a rectangle of another size
+-- a pane's size, if it had a rectangle of another size
 abbrev pub size_if_other : ℕ × Rect → Option Rect → Option PaneSize
 size_if_other x None = None
 size_if_other x (Some r) = if (r.rows == x.1.rows) && (r.cols == x.1.cols) then None else Some (size_of x)

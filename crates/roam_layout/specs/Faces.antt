@@ -1,4 +1,4 @@
--- The face of a session: what its panes show, the borders between them, and the status text (this project's profile).
+-- The face of a session: the pictures of its panes, the borders between them, and the status text (this project's profile).
 use Rattle.std.specs.Prelude.{◌≡◌, ℕ, ◌+◌, ◌-◌, ◌<◌, Bool, true, false, ◌==◌, slice_index_or, List, [], ◌∷◌, ◌++◌, map, drop, replicate, slice_index, Option, Some, None, if◌then◌else◌}
 use Rattle.std.specs.List.{range_with_len, All}
 use Rattle.roam_cells.specs.Glyph.{Glyph, blank, default_style}
@@ -36,7 +36,7 @@ abbrev pub first_with_place : {A : Type 0} → ℕ → ℕ → List (A × Rect) 
 first_with_place r c [] = None
 first_with_place r c (x ∷ xs) = if inside r c x.1 then Some x else first_with_place r c xs
 
--- what a picture that stands in a rectangle shows at a place
+-- the cell at a place of a picture in a rectangle
 abbrev pub cell_in : Rect → Screenshot → ℕ → ℕ → Glyph
 cell_in x picture r c = cell_at picture.cols picture.cells (r - x.row) (c - x.col)
 
@@ -50,7 +50,7 @@ abbrev pub pane_cell : (ℕ → Screenshot) → ℕ → ℕ → Option (ℕ × R
 pane_cell picture r c None border = border_cell border
 pane_cell picture r c (Some x) border = cell_in x.1 (picture x.0) r c
 
--- what a place shows, row and column from 1: in the last row the status text in reverse, above it panes and borders
+-- the cell at a place, row and column from 1: in the last row the status text in reverse, above it panes and borders
 abbrev pub face_at : Plan → (ℕ → Screenshot) → ℕ → ℕ → Glyph
 face_at s picture r c =
     if r == s.rows then character (slice_index (status_row s) (c - 1)) reverse_style
@@ -60,11 +60,11 @@ face_at s picture r c =
 abbrev pub face_row : Plan → (ℕ → Screenshot) → ℕ → List Glyph
 face_row s picture r = map (λ c. face_at s picture r (c + 1)) (range_with_len 0 s.cols)
 
--- where the pane in focus stands
+-- the rectangle of the pane in focus
 abbrev pub focus_rect : Plan → Rect
 focus_rect s = spot s.focus s.tree (area s.rows s.cols)
 
--- the face of a layout and of what each pane shows; the cursor is that of the pane in focus, where this pane stands
+-- the face of a layout and of the picture of each pane; the cursor is that of the pane in focus, moved to its rectangle
 abbrev pub face : Plan → (ℕ → Screenshot) → Screenshot
 face s picture =
     record {
@@ -86,7 +86,7 @@ picture_size x = record { pane = x.0; rows = x.1.rows; cols = x.1.cols }
 abbrev pub ArePictures : List (ℕ × Rect) → List (ℕ × Screenshot) → Type 0
 ArePictures panes shots = map picture_size shots ≡ map size_of panes
 
--- the picture of a pane in a list; a blank one where the list has none
+-- the picture of a pane in a list; a blank one if the list has none
 abbrev pub picture_in : List (ℕ × Screenshot) → ℕ → Screenshot
 picture_in [] p = blank_screenshot 2 4
 picture_in (x ∷ xs) p = if x.0 == p then x.1 else picture_in xs p
@@ -101,7 +101,7 @@ Show picture shots = All (λ (x : ℕ × Screenshot). x.1 ≡ picture x.0) shots
 
 -- ---- the segments of a row
 
--- a pane's segment of a row: a row of its picture, nothing where its rectangle doesn't have the row
+-- a pane's segment of a row: a row of its picture, nothing if its rectangle doesn't have the row
 abbrev pub pane_segment : ℕ → Rect → Screenshot → List Glyph
 pane_segment r x picture = if within x.row x.rows r then row_of picture.cols picture.cells (r - x.row) else []
 

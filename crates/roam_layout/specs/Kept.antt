@@ -1,4 +1,4 @@
--- What the fields of a layout show, and what they keep.
+-- The value of a layout's fields, and their invariants.
 use Rattle.std.specs.Prelude.{◌≡◌}
 use Rattle.roam_layout.specs.Trees.{shape_of}
 use Rattle.roam_layout.specs.Layouts.{Plan, IsPlan, panes, edges}

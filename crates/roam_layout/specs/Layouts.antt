@@ -20,7 +20,7 @@ pub record Plan : Type 0 where
   pub focus : ℕ
   pub views : List ℕ
 
--- what an act comes to
+-- the outcome of an act
 pub data Outcome : Type 0 where
   Laid : Plan → Outcome
   Refused : Fault → Outcome
@@ -56,7 +56,7 @@ start rows cols =
       views = 0 ∷ 0 ∷ 0 ∷ 0 ∷ 0 ∷ 0 ∷ 0 ∷ 0 ∷ 0 ∷ 0 ∷ [];
     }
 
--- what is true of every layout
+-- the facts about every layout
 pub record IsPlan (s : Plan) : Type 0 where
   pub size : IsSessionSize s.rows s.cols
   pub fits : Fits s.tree (area s.rows s.cols)
@@ -90,7 +90,7 @@ close s =
 abbrev pub focus_on : ℕ → Plan → Outcome
 focus_on p s = if has p s.tree then Laid (record s { focus = p }) else Refused NoPane
 
--- what comes after p in a list, else first
+-- the element behind p in a list, else first
 abbrev pub after : ℕ → ℕ → List ℕ → ℕ
 after first p [] = first
 after first p (x ∷ []) = first
@@ -126,7 +126,7 @@ view_in_range (negsuc n) = 0
 abbrev pub scroll : ℤ → Plan → Outcome
 scroll d s = Laid (record s { views = slice_set s.views s.focus (view_in_range (pos (slice_index s.views s.focus) +ℤ d)) })
 
--- what an act makes of a layout; a key leaves it
+-- the outcome of an act on a layout; a key leaves it
 abbrev pub outcome_of : Plan → Act → Outcome
 outcome_of s (Key k) = Laid s
 outcome_of s SplitRight = split Right s
@@ -143,7 +143,7 @@ abbrev pub IsLaid : Outcome → Type 0
 IsLaid (Laid s) = Unit {0}
 IsLaid (Refused fault) = ⊥
 
--- an answer is what an act comes to, but for want of memory where it is laid: what is refused needs none
+-- a result is the outcome of the act, except for want of memory if it is laid: a refusal needs none
 abbrev pub Answers : Outcome → Result Plan Fault → Type 0
 Answers o (Ok s) = o ≡ Laid s
 Answers o (Err e) = ((e ≡ OutOfMemory) × IsLaid o) ⊎ (o ≡ Refused e)

@@ -27,7 +27,7 @@ abbrev pub nearest_in_range : ℤ → ℕ → ℕ → ℕ
 nearest_in_range (pos n) low high = max low (min n high)
 nearest_in_range (negsuc n) low high = low
 
--- half of what the border leaves of a length
+-- half of the length that the border leaves
 abbrev pub middle : ℕ → ℕ
 middle whole = (whole - 1) / 2
 
@@ -91,7 +91,7 @@ is_roomy Down r = nat_le 5 r.rows
 
 -- ---- growing
 
--- a split whose first child is to have a length: its shift is set so that this length comes out; none where a child would be too small
+-- a split whose first child should have a length: its shift is set so that this length results; none if a child would be too small
 abbrev pub after_stretch : Way → ℤ → Shape → Shape → Rect → Option Shape
 after_stretch w wanted a b r =
     if int_le (pos (least w a)) wanted && int_le wanted (pos (most_first w b r))
@@ -125,7 +125,7 @@ within first n k = nat_le first k && nat_lt k (first + n)
 abbrev pub inside : ℕ → ℕ → Rect → Bool
 inside r c x = within x.row x.rows r && within x.col x.cols c
 
--- 1 where a place is in a rectangle, else 0
+-- 1 if a place is in a rectangle, else 0
 abbrev pub once : ℕ → ℕ → Rect → ℕ
 once r c x = if inside r c x then 1 else 0
 

@@ -4,7 +4,7 @@ use Rattle.std.specs.List.{flat_map}
 use Rattle.roam_layout.specs.Trees.{leaves}
 use Rattle.roam_layout.specs.Layouts.{Plan}
 
--- a pane's number, in brackets where it has the focus and else between spaces
+-- a pane's number, in brackets if it has the focus and else between spaces
 abbrev pub label : ℕ → ℕ → List ℕ
 label focus p = if (p == focus) then codes "[" ++ decimal p ++ codes "]" else codes " " ++ decimal p ++ codes " "
 

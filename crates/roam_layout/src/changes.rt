@@ -1,4 +1,4 @@
-//! What an act changes of the panes.
+//! The changes of the panes by an act.
 ghost use Rattle.std.specs.Prelude.{◌≡◌, ◌++◌, IfOk};
 ghost use Rattle.roam_layout.specs.Changes.{size_of, panes_closed, panes_made, panes_sized, first_of, size_if_other};
 
@@ -28,7 +28,7 @@ pub struct Changes {
 }
 
 impl Changes {
-    /// What is between the panes with their rectangles before an act and those after it.
+    /// Returns the changes between the panes with their rectangles before an act and those after it.
     pub fn between(
         alloc: Global,
         old: &[(u8, Rect)],

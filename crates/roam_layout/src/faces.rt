@@ -48,7 +48,7 @@ fn cells_of(alloc: Global, layout: &Layout, shots: &[(u8, Shot)]) -> Result<Vec<
     Ok(cells)
 }
 
-/// The cursor of the face, that of the pane in focus where this pane stands, and whether it is visible.
+/// Returns the cursor of the face, that of the pane in focus moved to its rectangle, and true if it is visible.
 pub(crate) fn cursor<P: Pictures>(layout: &Layout, pictures: &P) -> ((u16, u16), bool)
     requires pictures { ArePictures (panes layout.now) (P.shots pictures.now) }
     ensures place { IsPlace layout.now.rows layout.now.cols result.0.0 result.0.1 }
@@ -66,8 +66,7 @@ pub(crate) fn cursor<P: Pictures>(layout: &Layout, pictures: &P) -> ((u16, u16),
     ((rect.row + row - 1, rect.col + col - 1), visible)
 }
 
-/// Adds a row of the face, from 1, to a list of cells: of each picture that has a part of it, that row alone is looked at. Refuses want of
-/// memory.
+/// Appends a row of the face, from 1, to a list of cells; it reads only that row of each picture that has a part of it. `OutOfMemory`.
 pub fn push_row<P: Pictures>(
     alloc: Global,
     layout: &Layout,

@@ -64,9 +64,9 @@ fn put_marked<P: Pictures>(
     Ok(())
 }
 
-/// The face of a layout whose panes show these pictures, made of a screen of its size that has each of the face's rows that isn't marked;
-/// only marked rows are built, and nothing else is looked at of the pictures but the cursor of the pane in focus; the other rows are
-/// shared. Refuses want of memory.
+/// Returns the face of a layout whose panes show these pictures. It is made of a screen of its size that has each of the face's unmarked
+/// rows. Only marked rows are built, and nothing else is read of the pictures but the cursor of the pane in focus; the other rows are
+/// shared. `OutOfMemory`.
 pub fn face_over<P: Pictures>(
     alloc: Global,
     layout: &Layout,

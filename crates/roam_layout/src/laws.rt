@@ -7,7 +7,7 @@ ghost use Rattle.roam_layout.specs.Layouts.{Plan, IsPlan, Laid, outcome_of, pane
 ghost use Rattle.roam_layout.specs.Changes.{panes_closed, panes_made};
 ghost use Rattle.roam_layout.specs.Faces.{picture_in, ArePictures, Show};
 
-/// The number of a new pane is free where there are fewer than nine panes, and every number from 1 on below it is a pane's.
+/// The number of a new pane is free if there are fewer than nine panes, and every number from 1 on below it is a pane's.
 pub fn new_numbers_are_the_smallest_free()
     ensures free { (tree : Shape) → length (leaves tree) < 9 → has (free tree) tree ≡ false }
     ensures smallest { (tree : Shape) (pane : ℕ) → 1 ≤ pane → pane < free tree → has pane tree ≡ true }

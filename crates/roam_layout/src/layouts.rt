@@ -88,7 +88,7 @@ fn pane_after(first: u8, pane: u8, list: &[(u8, Rect)]) -> u8
 }
 
 impl Layout {
-    // The layout of these parts: the one place where a layout is made.
+    // Returns the layout of these parts: the one place that makes a layout.
     fn of(
         alloc: Global,
         rows: u16,
@@ -127,7 +127,7 @@ impl Layout {
         Ok(Layout::of(alloc, rows, cols, Tree::Leaf(1), 1, [0; 10])?)
     }
 
-    /// What is true of every layout.
+    /// Facts about every layout.
     pub fn facts(&self)
         ensures plan { IsPlan self.now }
     {
@@ -171,7 +171,7 @@ impl Layout {
         self.focus
     }
 
-    /// By how many rows a pane is scrolled back, 0 to 500, or `None` where there is no such pane.
+    /// Returns by how many rows a pane is scrolled back, 0 to 500, or `None` if there is no such pane.
     pub fn view(&self, pane: u8) -> Option<u16>
         ensures view { result ≡ (if has pane self.now.tree then Some (slice_index self.now.views pane) else None) }
     {
@@ -300,7 +300,7 @@ impl Layout {
         }
     }
 
-    /// Does an act, and tells which panes it closed, made and sized. A refused act leaves the layout.
+    /// Does an act, and returns the panes that it closed, made and resized. A refused act leaves the layout.
     pub fn apply(&mut self, alloc: Global, act: &Act) -> Result<Changes, Fault>
         requires in_range { IsInRange act.now }
         ensures laid { OnOk result (outcome_of self.old act.now ≡ Laid self.new) }
@@ -317,7 +317,7 @@ impl Layout {
         Ok(changes)
     }
 
-    /// Where the pane in focus stands.
+    /// Returns the rectangle of the pane in focus.
     pub(crate) fn focus_rect(&self) -> Rect
         ensures rect { result ≡ focus_rect self.now }
     {
@@ -331,8 +331,8 @@ impl Layout {
         self.views[usize::from(self.focus)]
     }
 
-    /// The status text, cut or padded to the columns: each pane's number in tree order, the one in focus in brackets, and its view
-    /// where that is above 0.
+    /// Returns the status text, cut or padded to the columns: each pane's number in tree order, the one in focus in brackets, and its view
+    /// if that is above 0.
     pub fn status(&self, alloc: Global) -> Result<Vec<u8>, Fault>
         ensures text { IfOk result (λ text. text.items ≡ status_row self.now) }
         ensures printable { IfOk result (λ text. All IsPrintable text.items) }

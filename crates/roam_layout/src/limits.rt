@@ -11,7 +11,7 @@ const LEAST_COLUMNS: u16 = 8;
 /// The most rows of its history that a pane's view may go back.
 pub(crate) const MOST_VIEW: u16 = roam_acts::limits::MOST_VIEW as u16;
 
-/// Whether a session may have this size, in rows and columns.
+/// Returns true if a session may have this size, in rows and columns.
 pub(crate) fn is_session_size(rows: u16, cols: u16) -> bool
     ensures test { result ≡ is_session_size rows cols }
     ensures size { IsTrue result ↔ IsSessionSize rows cols }

@@ -1,4 +1,4 @@
-//! What the panes of a layout show, of which a row can be asked without the whole.
+//! The pictures of a layout's panes, of which a row can be read without the whole.
 ghost use Rattle.std.specs.Prelude.{◌≡◌, ◌<◌, ◌++◌, ℕ, List, length, IfOk};
 ghost use Rattle.std.specs.List.{All};
 ghost use Rattle.roam_cells.specs.Place.{row_of};
@@ -14,7 +14,7 @@ pub trait Pictures {
     /// The pictures.
     ghost shots: { Self → List (ℕ × Screenshot) };
 
-    /// What is true of every picture.
+    /// Facts about every picture.
     fn facts(&self)
         ensures screenshots { All (λ (x : ℕ × Screenshot). IsScreenshot x.1) (shots self.now) };
 
@@ -25,8 +25,8 @@ pub trait Pictures {
         ensures row { IfOk result (λ _. cells.new.items ≡ cells.old.items
             ++ row_of (picture_at (shots self.now) index).cols (picture_at (shots self.now) index).cells row) };
 
-    /// The cursor of a pane's picture, row and column from 1, and whether it is visible; where the list has no such pane, a visible one in
-    /// the first row and column.
+    /// Returns the cursor of a pane's picture, row and column from 1, and true if it is visible. If the list has no such pane, the cursor
+    /// is visible in the first row and column.
     fn cursor(&self, pane: u8) -> ((u16, u16), bool)
         ensures row { result.0.0 ≡ (picture_in (shots self.now) pane).cursor_row }
         ensures col { result.0.1 ≡ (picture_in (shots self.now) pane).cursor_col }
@@ -49,7 +49,7 @@ impl Pictures for &[(u8, Shot)] {
     }
 }
 
-// What is true of pictures in a list.
+// Facts about pictures in a list.
 fn facts_of(shots: &[(u8, Shot)])
     ensures screenshots { All (λ (x : ℕ × Screenshot). IsScreenshot x.1) shots.now }
 {

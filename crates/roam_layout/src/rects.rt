@@ -2,12 +2,12 @@
 ghost use Rattle.std.specs.Prelude.{◌≡◌};
 ghost use Rattle.roam_layout.specs.Rects.{rect_in, length_along, within};
 
-/// Along which line the children of a split stand.
+/// The direction in which the children of a split follow each other.
 #[derive(Clone, Copy, Debug, PartialEq, Eq)]
 pub enum Way {
-    /// The second child stands at the right of the first, and the border is a column.
+    /// The second child is at the right of the first, and the border is a column.
     Right,
-    /// The second child stands below the first, and the border is a row.
+    /// The second child is below the first, and the border is a row.
     Down,
 }
 
@@ -35,7 +35,7 @@ impl Rect {
         }
     }
 
-    /// Whether it has a row, from 1.
+    /// Returns true if it has a row, from 1.
     pub fn has_row(self, row: u16) -> bool
         ensures row { result ≡ within self.row self.rows row }
     {

@@ -65,7 +65,7 @@ impl Split {
         first_of(whole, self.shift, self.first.least(self.way), high)
     }
 
-    /// Sets the shift so that the first child's length is the one that is wanted, and tells whether the children's least lengths allow it.
+    /// Sets the shift so that the first child has the wanted length, and returns true if the children's least lengths allow it.
     fn stretch(&mut self, wanted: i16, rect: Rect) -> bool
         requires fits { Fits (Two self.now.way self.now.shift (shape_of self.now.first) (shape_of self.now.second)) rect }
         requires limits { IsOnScreen rect }
@@ -82,7 +82,7 @@ impl Split {
         true
     }
 
-    /// Whether the children's least lengths allow the first child this length.
+    /// Returns true if the children's least lengths allow the first child this length.
     fn can_stretch(&self, wanted: i16, rect: Rect) -> bool
         requires fits { Fits (Two self.now.way self.now.shift (shape_of self.now.first) (shape_of self.now.second)) rect }
         requires limits { IsOnScreen rect }
@@ -93,7 +93,7 @@ impl Split {
         low as i16 <= wanted && wanted <= high as i16
     }
 
-    // Whether the children's least lengths allow that the first child is so much longer.
+    // Returns true if the children's least lengths allow that the first child is so much longer.
     fn can_lengthen(&self, by: i16, rect: Rect) -> bool
         requires fits { Fits (Two self.now.way self.now.shift (shape_of self.now.first) (shape_of self.now.second)) rect }
         requires limits { IsOnScreen rect }
@@ -107,7 +107,7 @@ impl Split {
         self.can_stretch(length + by, rect)
     }
 
-    // Whether the children's least lengths allow that the first child is so much shorter.
+    // Returns true if the children's least lengths allow that the first child is so much shorter.
     fn can_shorten(&self, by: i16, rect: Rect) -> bool
         requires fits { Fits (Two self.now.way self.now.shift (shape_of self.now.first) (shape_of self.now.second)) rect }
         requires limits { IsOnScreen rect }
@@ -225,7 +225,7 @@ impl Tree {
         }
     }
 
-    /// Whether a pane is in it.
+    /// Returns true if a pane is in it.
     pub fn has(&self, pane: u8) -> bool
         ensures has { result ≡ has pane (shape_of self.now) }
     {
@@ -235,7 +235,7 @@ impl Tree {
         }
     }
 
-    /// The smallest number from 1 on that no pane has; 9 where 1 to 8 are panes.
+    /// Returns the smallest number from 1 on that no pane has; 9 if 1 to 8 are panes.
     pub fn free(&self) -> u8
         ensures number { result ≡ free (shape_of self.now) }
         ensures range { (1 ≤ result) × (result ≤ 9) }
@@ -255,7 +255,7 @@ impl Tree {
         }
     }
 
-    /// Whether it is this pane alone.
+    /// Returns true if it is this pane alone.
     pub fn is_one(&self, pane: u8) -> bool
         ensures one { result ≡ is_one pane (shape_of self.now) }
     {
@@ -275,7 +275,7 @@ impl Tree {
         }
     }
 
-    /// The pane that gets the focus where a pane is closed: the first one of its sibling.
+    /// Returns the pane that gets the focus when a pane is closed: the first one of its sibling.
     pub fn heir(&self, pane: u8) -> u8
         ensures pane { result ≡ heir pane (shape_of self.now) }
     {
@@ -402,7 +402,7 @@ impl Tree {
         }
     }
 
-    /// Whether a pane's rectangle can be split.
+    /// Returns true if a pane's rectangle can be split.
     pub fn has_room(&self, pane: u8, way: Way, rect: Rect) -> bool
         requires fits { Fits (shape_of self.now) rect }
         requires limits { IsOnScreen rect }
@@ -416,7 +416,7 @@ impl Tree {
         }
     }
 
-    /// Whether the lengths allow that a pane grows along its own split.
+    /// Returns true if the lengths allow that a pane grows along its own split.
     pub fn can_grow(&self, pane: u8, by: i16, rect: Rect) -> bool
         requires fits { Fits (shape_of self.now) rect }
         requires limits { IsOnScreen rect }
@@ -441,7 +441,7 @@ impl Tree {
         }
     }
 
-    /// Lets a pane grow along its own split, and tells whether the lengths allow it; where they don't, the tree stays.
+    /// Lets a pane grow along its own split, and returns true if the lengths allow it; if they don't, the tree stays.
     pub fn grow(&mut self, pane: u8, by: i16, rect: Rect) -> bool
         requires fits { Fits (shape_of self.now) rect }
         requires limits { IsOnScreen rect }

@@ -15,7 +15,7 @@ use Rattle.roam_paint.proofs.Places.{shown_inside, shown_right}
 use Rattle.roam_scroll_paint.specs.Sequences.{text_of}
 use Rattle.roam_scroll_paint.specs.Rows.{Marks, KeepsMarks, row_functions, row_style_left, IsPlan, AreDrawn, nothing, stays, written, AddsRow, AddsRows}
 
--- a row of a screen shows what the screen shows there
+-- a row of a screen shows the same as the screen there
 pub row_shows : (p : Screenshot) (r c : ℕ) → r < p.rows → length p.cells ≡ p.rows * p.cols → shown_at p r c ≡ glyph_at (row_of p.cols p.cells r) c
 row_shows p r c low count =
     elim (cases_lt c p.cols) [

@@ -1,4 +1,4 @@
--- SGR with what a style has and another hasn't makes the one of the other.
+-- SGR with the aspects that one style has and another hasn't makes the one of the other.
 use Rattle.std.proofs.Common.{◌≡◌, ℕ, Bool, true, false, not, ◌&&◌, ◌||◌, List, [], ◌∷◌, ◌++◌, length, refl, sym, ap, ◌∙◌}
 use Rattle.std.specs.Prelude.{fold, if◌then◌else◌, nat_lt, nat_le}
 use Rattle.std.proofs.lemmas.Bool.{le-leb, and_parts, false≢true}
@@ -13,7 +13,7 @@ use Rattle.roam_controls.specs.declared.renditions.Awaited.TheVariants.{Aspect}
 use Rattle.roam_controls.specs.Renditions.{Rendition, with_parameter, styled_by}
 use Rattle.roam_scroll_paint.specs.Styles.{flag_added, colour_words, change_codes, ends_flag, ends_alone, adds}
 
--- ---- what a test says that a rule asks
+-- ---- the requirement of a rule, by its test
 
 either_false : (a b : Bool) → (a || b) ≡ false → (a ≡ false) × (b ≡ false)
 either_false true b e = absurd (false≢true (sym e))
@@ -54,7 +54,7 @@ abbrev style : Bool → Bool → Bool → Bool → Bool → Bool → Bool → Bo
 style b f i u k r c s x y =
     record { bold = b; faint = f; italic = i; underline = u; blink = k; reverse = r; conceal = c; strike = s; foreground = x; background = y }
 
--- a flag that comes, where none goes
+-- a flag that comes, if none goes
 flag_is : (make : Bool → Style) (code : ℕ) → ((a : Bool) → folded (shown_as (make a)) (code ∷ []) ≡ shown_as (make true)) → (a b : Bool) → (a && not b) ≡ false
     → Makes (make a) (flag_added a b code) (make b)
 flag_is make code sets true true e = record { is = refl }

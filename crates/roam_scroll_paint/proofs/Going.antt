@@ -18,7 +18,7 @@ use Rattle.roam_scroll_paint.specs.Bands.{taken, moved_source, set_margins, to_r
 use Rattle.roam_scroll_paint.proofs.Wholes.{IsWhole, whole_taken, cells_whole}
 use Rattle.roam_scroll_paint.proofs.Moves.{within, sets_margins, goes_to_row, feeds, indexes_back, resets_margins}
 
--- ---- where the rows of a band come from
+-- ---- the sources of the rows of a band
 
 abbrev upward : ℕ → ℕ → ℕ → Band
 upward top bottom n = record { top = top; bottom = bottom; count = n; up = true }
@@ -45,7 +45,7 @@ module _ (top bottom n r : ℕ) where
   down_none : top ≤ r → r < bottom → r < top + n → moved_source (downward top bottom n) r ≡ None
   down_none h k l = grind (arith, common_steps)
 
--- ---- where the rows of a scroll come from
+-- ---- the sources of the rows of a scroll
 
 module _ (top bottom r d : ℕ) where
   scrolls_out : (r < top) ⊎ (bottom < r) → up top bottom 1 r d ≡ From r d
@@ -69,7 +69,7 @@ module _ (top bottom r d : ℕ) where
 -- ---- one row further
 
 module _ (rows cols wide : ℕ) (over : Places) (whole : IsWhole wide over) (fits : wide ≤ cols) (top bottom : ℕ) (two : top + 1 < bottom) (inside : bottom ≤ rows) where
-  -- what is shown once the band went so many rows
+  -- the cells after the band went so many rows
   abbrev pub gone : Bool → ℕ → Places
   gone b n r c = taken over (moved_source (record { top = top; bottom = bottom; count = n; up = b }) r) c
 

@@ -163,7 +163,7 @@ module _ (still : Constants) (old new : Screenshot) (old_rows : old.rows ≤ sti
           (plain-styled style default_style tt tt)
           (plain-placed (new.cursor_row - 1) (new.cursor_col - 1) (omega (arith, row, tall)) (omega (arith, col, broad)))))
 
-  -- ---- what stands at the end
+  -- ---- the end
 
   abbrev ended : List Glyph → Live
   ended cells = at_work still cells (new.cursor_row - 1) (new.cursor_col - 1) false default_style new.visible None
@@ -210,7 +210,7 @@ last_of a b c d t =
     acted-append a (b ++ (c ++ d)) t ∙ acted-append b (c ++ d) (acted a t) ∙ acted-append c d (acted b (acted a t))
     ∙ ap (acted d) (sym (acted-append b c (acted a t)) ∙ sym (acted-append a (b ++ c) t))
 
--- what stands at the end of a painting
+-- the state at the end of a painting
 record Ends (still : Constants) (new : Screenshot) (t : Live) : Type 0 where
   cells : List Glyph
   is : t ≡ at_work still cells (new.cursor_row - 1) (new.cursor_col - 1) false default_style new.visible None

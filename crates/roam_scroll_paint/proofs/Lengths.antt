@@ -45,7 +45,7 @@ first_rows old new r n bytes p q =
     let e : r + (n - r) ≡ n = omega (arith, p) in
     omega (arith, ap (λ k. length (rows_text old new k)) e, grows old new r (n - r), q)
 
--- ---- what comes behind and before
+-- ---- the text behind and before
 
 abbrev shown_text : Bool → List ℕ
 shown_text visible = if visible then 0x1B ∷ 0x5B ∷ 0x3F ∷ 0x32 ∷ 0x35 ∷ 0x68 ∷ [] else []

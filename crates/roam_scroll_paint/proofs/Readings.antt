@@ -36,7 +36,7 @@ pub record IsRead (f : Function) : Type 0 where
   pub bytes : text_of f ≡ encode_utf8_all letters
   pub gives : (rest : List Sign) → functions (map character letters ++ rest) ≡ f ∷ functions rest
 
--- what a painter that leaves nothing out spells so is read so
+-- a function with a painter's full spelling is read as that function
 pub as_legible : (f : Function) → text_of f ≡ spelling_of f → Legible f → IsRead f
 as_legible f e h = record { letters = h.letters; good = h.good; bytes = e ∙ h.bytes; gives = h.gives }
 
@@ -212,7 +212,7 @@ module _ (log : List Item) (fs : List Function) (rest : AtRest log) (read : AreR
     to_come = λ more. after_all more ∙ sym (ap (λ l. l ++ functions more) reads);
   }
 
-  -- and they are what the terminal does
+  -- and the terminal does these functions
   pub term-acted : (rows cols lines : ℕ) → (term rows cols lines later).live ≡ acted fs (term rows cols lines log).live
   unfolding term
   term-acted rows cols lines =

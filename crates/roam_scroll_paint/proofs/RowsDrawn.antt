@@ -59,7 +59,7 @@ module _ (still : Constants) (prows pcols : ℕ) (over new : Places) (rows_in : 
     pub last : Option ℕ
     pub is : t ≡ at_work still cells row col pending g false last
 
-  -- which shows the new screen in the first rows, and wherever that is what it showed at first
+  -- it shows the new screen in the first rows, and in each place that already shows the new screen
   pub record Ready (r : ℕ) (g : Style) (t : Live) : Type 0 where
     pub works : Works g t
     pub above : (i j : ℕ) → i < r → i < rows → j < cols → cell_at cols works.cells i j ≡ new i j
@@ -72,7 +72,7 @@ module _ (still : Constants) (prows pcols : ℕ) (over new : Places) (rows_in : 
     abbrev m : ℕ → ℕ → Bool
     m = is_marked marks
 
-    -- in this row what is marked, in the others what differs
+    -- in this row the marked places, in the others the places that differ
     abbrev d : ℕ → ℕ → Bool
     d i j = if i == r then m r j else unlike i j
 
@@ -121,7 +121,7 @@ module _ (still : Constants) (prows pcols : ℕ) (over new : Places) (rows_in : 
     walked : (k : ℕ) → k ≤ pcols → W k (style_in d new r g k) (drawn_to k)
     walked k k_in = row still prows pcols d new rows_in cols_in whole.wide whole.half paintable r k g t r_in k_in begins
 
-    -- ---- what is written is as a painter does it that leaves nothing out
+    -- ---- the text is that of a painter which leaves nothing out
 
     drawn_same : (c : ℕ) → is_drawn m new r c ≡ is_drawn d new r c
     drawn_same c =
@@ -203,7 +203,7 @@ module _ (still : Constants) (prows pcols : ℕ) (over new : Places) (rows_in : 
     wrote : W end style (drawn_to end)
     wrote = walked end plan.inside
 
-    -- every place of the row shows what it is to show, and the others what they showed
+    -- every place of the row has the right cell, and the others stay
     pub record Finished (h : Style) (u : Live) : Type 0 where
       pub works : Works h u
       pub here : (j : ℕ) → j < cols → cell_at cols works.cells r j ≡ new r j
@@ -232,7 +232,7 @@ module _ (still : Constants) (prows pcols : ℕ) (over new : Places) (rows_in : 
       abbrev ready_to : Style → Option ℕ → Live
       ready_to s last = at_work still wrote.cells r end false s false last
 
-      -- the cursor stands at the column from which the row is erased
+      -- the cursor is at the column from which the row is erased
       stands_there : (b : Bool) → ends_at m r end ≡ b → (last : Option ℕ) × (acted (if b then [] else placing_at r end ∷ []) (drawn_to end) ≡ ready_to style last)
       stands_there true e =
           let parts = and_parts (nat_lt 0 end) (m r (end - 1)) e in
@@ -318,7 +318,7 @@ module _ (still : Constants) (prows pcols : ℕ) (over new : Places) (rows_in : 
           ];
         }
 
-  -- ---- a row that shows already what it is to show
+  -- ---- a row that already shows the right cells
 
   pub stays_ready : (r : ℕ) (g : Style) (t : Live) → Ready r g t → ((c : ℕ) → c < pcols → over r c ≡ new r c) → Ready (suc r) g t
   stays_ready r g t ready same_row = record {

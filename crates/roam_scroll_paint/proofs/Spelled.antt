@@ -66,7 +66,7 @@ rendition_text t (p ∷ ps) some =
     ∙ append_assoc t (0x1B ∷ 0x5B ∷ (decimal p ++ tail)) (0x6D ∷ [])
     ∙ ap (λ l. t ++ (0x1B ∷ 0x5B ∷ (l ++ 0x6D ∷ []))) (sym (joined-tail p ps))
 
--- ---- functions without a number that is to be found
+-- ---- functions without a number
 
 pub hide_text : (t : List ℕ) → t ++ 0x1B ∷ 0x5B ∷ 0x3F ∷ 0x32 ∷ 0x35 ∷ 0x6C ∷ [] ≡ t ++ text_of hide_cursor
 unfolding digits

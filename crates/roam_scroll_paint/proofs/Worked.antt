@@ -120,7 +120,7 @@ row-two_runs : flat_map text_of (row_functions (true ∷ false ∷ true ∷ []) 
 unfolding row_functions written_row written_cell erasing_from style_after change_codes adds char_width digits encode_utf8
 row-two_runs = refl
 
--- the gap between them too, and the end is erased where the cursor stands: ESC[1Habc ESC[K
+-- the gap between them too, and the end is erased at the cursor: ESC[1Habc ESC[K
 row-gap : flat_map text_of (row_functions (true ∷ true ∷ true ∷ []) (shown_at abc) 8 0 3 default_style)
     ≡ 0x1B ∷ 0x5B ∷ 0x31 ∷ 0x48 ∷ 0x61 ∷ 0x62 ∷ 0x63 ∷ 0x1B ∷ 0x5B ∷ 0x4B ∷ []
 unfolding row_functions written_row written_cell erasing_from style_after change_codes adds char_width digits encode_utf8
@@ -132,7 +132,7 @@ row-end : flat_map text_of (row_functions [] (shown_at abc) 8 0 3 bold)
 unfolding row_functions written_row written_cell erasing_from style_after change_codes adds char_width digits encode_utf8
 row-end = refl
 
--- behind the rows the default style, where another is set, and the cursor's place: ESC[0m ESC[1H
+-- behind the rows the default style, if another is set, and the cursor's place: ESC[0m ESC[1H
 row-settling : flat_map text_of (settling abc bold) ≡ 0x1B ∷ 0x5B ∷ 0x30 ∷ 0x6D ∷ 0x1B ∷ 0x5B ∷ 0x31 ∷ 0x48 ∷ []
 unfolding change_codes adds digits
 row-settling = refl

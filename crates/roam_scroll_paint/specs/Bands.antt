@@ -14,12 +14,12 @@ pub record IsBand (rows : ℕ) (b : Band) : Type 0 where
   pub two : b.top + 1 < b.bottom
   pub inside : b.bottom ≤ rows
 
--- where there is a band, it is one of so many rows
+-- a band, if there is one, is one of so many rows
 abbrev pub FitsBand : ℕ → Option Band → Type 0
 FitsBand rows None = Unit {0}
 FitsBand rows (Some b) = IsBand rows b
 
--- ---- what is shown afterwards
+-- ---- the result
 
 -- the row, from 0, that a row of a band shows once all its rows went up or down; none: it came in blank
 abbrev pub band_source : Band → ℕ → Option ℕ
@@ -31,18 +31,18 @@ band_source b r =
 abbrev pub moved_source : Band → ℕ → Option ℕ
 moved_source b r = if (nat_le b.top r && nat_lt r b.bottom) then band_source b r else Some r
 
--- the row of the old screen that a row shows before rows are drawn, where sizes are the same or not
+-- the row of the old screen that a row shows before rows are drawn, by whether sizes are equal
 abbrev pub source_of : Bool → Option Band → ℕ → Option ℕ
 source_of false band r = None
 source_of true None r = Some r
 source_of true (Some b) r = moved_source b r
 
--- what a place shows that takes its row from there
+-- the cell of a place that takes its row from there
 abbrev pub taken : Places → Option ℕ → ℕ → Glyph
 taken over (Some r) c = over r c
 taken over None c = blank
 
--- what rows are drawn over: the old screen after its band moved, and blanks where sizes differ
+-- the cells under the drawn rows: the old screen after its band moved, and blanks if sizes differ
 abbrev pub drawn_over : Screenshot → Screenshot → Option Band → Places
 drawn_over old new band r c = taken (shown_at old) (source_of (same_size old new) band r) c
 
@@ -72,7 +72,7 @@ reverse_index = C1 0x8D
 abbrev pub steps : Band → List Function
 steps b = if b.up then replicate b.count line_feed else replicate b.count reverse_index
 
--- the row, from 1, at which the cursor stands for them
+-- the row of the cursor for them, from 1
 abbrev pub edge_row : Band → ℕ
 edge_row b = if b.up then b.bottom else b.top + 1
 
@@ -84,7 +84,7 @@ abbrev pub moving : Option Band → List Function
 moving None = []
 moving (Some b) = moves_band b
 
--- what comes before all rows: a band moves, or where sizes differ all is erased
+-- the functions before all rows: a band moves, or if sizes differ all is erased
 abbrev pub preparing : Bool → Option Band → List Function
 preparing true band = moving band
 preparing false band = erase_all ∷ []

@@ -1,4 +1,4 @@
--- What it is that a text leads a terminal from one screen to another.
+-- The meaning of: a text leads a terminal from one screen to another.
 use Rattle.std.specs.Prelude.{ℕ, ◌≤◌, List, ◌++◌, map, drop, length}
 use Rattle.roam_screens.specs.Screenshot.{Screenshot, IsScreenshot}
 use Rattle.roam_text.specs.Log.{Item, Byte}
@@ -20,7 +20,7 @@ Leads old new text =
     → new.rows ≤ (term rows cols lines log).live.screen.rows → new.cols ≤ (term rows cols lines log).live.screen.cols
     → IsLedTo rows cols lines log text new
 
--- what was added to a text
+-- the part that was added to a text
 abbrev pub added : List ℕ → List ℕ → List ℕ
 added before after = drop (length before) after
 

@@ -1,4 +1,4 @@
--- What leads from one screen to another: first as functions, and then as text.
+-- The functions and the text that lead from one screen to another.
 use Rattle.std.specs.Prelude.{◌≡◌, ℕ, ◌-◌, Bool, false, if◌then◌else◌, List, [], ◌∷◌, ◌++◌, Option}
 use Rattle.std.specs.List.{flat_map}
 use Rattle.roam_cells.specs.Glyph.{default_style}
@@ -14,11 +14,11 @@ use Rattle.roam_scroll_paint.specs.Sequences.{text_of}
 use Rattle.roam_scroll_paint.specs.Rows.{AreDrawn, placing_at}
 use Rattle.roam_scroll_paint.specs.Styles.{styled_from}
 
--- the default style, where another is set, and the cursor's place
+-- the default style, if another is set, and the cursor's place
 abbrev pub settling : Screenshot → Style → List Function
 settling new g = styled_from g default_style ++ placing_at (new.cursor_row - 1) (new.cursor_col - 1) ∷ []
 
--- the cursor is hidden before, and shown behind where it is visible; or it stays as it is
+-- the cursor is hidden before, and shown behind if it is visible; or it stays
 abbrev pub hiding : Bool → List Function
 hiding hides = if hides then hide_cursor ∷ [] else []
 
@@ -33,7 +33,7 @@ pub record ArePainting (old new : Screenshot) (fs : List Function) : Type 0 wher
   pub rows : List Function
   pub drawn : AreDrawn (drawn_over old new band) (shown_at new) new.cols new.rows style rows
   pub hides : Bool
-  -- a cursor that isn't hidden is as visible as it is to be
+  -- a cursor that isn't hidden already has the right visibility
   pub stays : hides ≡ false → old.visible ≡ new.visible
   pub all : fs ≡ hiding hides ++ (preparing (same_size old new) band ++ (rows ++ (settling new style ++ revealing hides new.visible)))
 

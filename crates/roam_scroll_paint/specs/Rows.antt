@@ -1,4 +1,4 @@
--- One row after another is drawn: what is written of a row, and where its end is erased.
+-- Rows are drawn one after another: the text of a row, and the erasure of its end.
 use Rattle.std.specs.Prelude.{◌≡◌, ℕ, zero, suc, ◌+◌, ◌-◌, ◌<◌, ◌≤◌, ◌==◌, ◌&&◌, nat_lt, Bool, true, false, if◌then◌else◌, List, [], ◌∷◌, ◌++◌, map, slice_index_or, None}
 use Rattle.roam_cells.specs.Glyph.{blank, default_style}
 use Rattle.roam_cells.specs.Place.{row_of}
@@ -24,7 +24,7 @@ is_marked marks r c = slice_index_or marks c false
 abbrev pub placing_at : ℕ → ℕ → Function
 placing_at r c = if c == 0 then to_row (r + 1) else place_cursor (r + 1) (c + 1)
 
--- the cursor goes to a column of a row, but where what was written before ends there
+-- the cursor goes to a column of a row, unless the text before ends there
 abbrev pub placed_in : (ℕ → ℕ → Bool) → ℕ → ℕ → List Function
 placed_in d r c = if goes_on d r c then [] else placing_at r c ∷ []
 
@@ -42,11 +42,11 @@ written_row d new r g (suc c) = written_row d new r g c ++ written_cell d new r 
 abbrev pub erase_line : Function
 erase_line = csi None (0 ∷ []) 0x4B
 
--- whether the cursor stands at a column, since what was written ends there
+-- true if the cursor is at a column since the text before ends there
 abbrev pub ends_at : (ℕ → ℕ → Bool) → ℕ → ℕ → Bool
 ends_at d r c = nat_lt 0 c && d r (c - 1)
 
--- a row is erased from a column on, in the default style, where that is one of its columns
+-- a row is erased from a column on, in the default style, if that is one of its columns
 unfoldable pub erasing_from : (ℕ → ℕ → Bool) → ℕ → ℕ → ℕ → Style → List Function
 erasing_from d r end cols g =
     if nat_lt end cols
@@ -57,7 +57,7 @@ erasing_from d r end cols g =
 unfoldable pub style_left : ℕ → ℕ → Style → Style
 style_left end cols g = if nat_lt end cols then default_style else g
 
--- a row: what is written before a column, and the erasure from there on
+-- a row: the text before a column, and the erasure from there on
 unfoldable pub row_functions : Marks → Places → ℕ → ℕ → ℕ → Style → List Function
 row_functions marks new cols r end g =
     written_row (is_marked marks) new r g end ++ erasing_from (is_marked marks) r end cols (style_in (is_marked marks) new r g end)
@@ -66,16 +66,16 @@ row_functions marks new cols r end g =
 unfoldable pub row_style_left : Marks → Places → ℕ → ℕ → ℕ → Style → Style
 row_style_left marks new cols r end g = style_left end cols (style_in (is_marked marks) new r g end)
 
--- marks and a column that make a row show what it is to show
+-- marks and a column that give a row the right cells
 pub record IsPlan (over new : Places) (cols r : ℕ) (marks : Marks) (end : ℕ) : Type 0 where
-  -- what isn't marked shows that already
+  -- an unmarked place already has the right cell
   pub covers : (c : ℕ) → c < cols → is_marked marks r c ≡ false → over r c ≡ new r c
   pub short : (c : ℕ) → cols ≤ c → is_marked marks r c ≡ false
   pub inside : end ≤ cols
-  -- what is erased is to be blank
+  -- the erased places should be blank
   pub blanks : (c : ℕ) → end ≤ c → c < cols → new r c ≡ blank
 
--- the first rows are drawn over what is shown by these functions, and a style is set then
+-- these functions draw the first rows over the old cells, and a style is set then
 pub data AreDrawn (over new : Places) (cols : ℕ) : ℕ → Style → List Function → Type 0 where
   nothing : AreDrawn over new cols 0 default_style []
   stays : (r : ℕ) (g : Style) (fs : List Function) → AreDrawn over new cols r g fs → ((c : ℕ) → c < cols → over r c ≡ new r c)
@@ -91,7 +91,7 @@ KeepsMarks old new = (c : ℕ) → slice_index_or new c false ≡ false → slic
 abbrev pub KeepsCosts : List ℕ → List ℕ → Type 0
 KeepsCosts old new = (r : ℕ) → slice_index_or new r 1 ≡ 0 → slice_index_or old r 1 ≡ 0
 
--- a text is longer by one row, which is drawn over what is shown
+-- a text is longer by one row, drawn over the old cells
 pub record AddsRow (over new : Places) (cols r : ℕ) (g h : Style) (before after : List ℕ) : Type 0 where
   pub functions : List Function
   pub added : after ≡ before ++ flat_map text_of functions

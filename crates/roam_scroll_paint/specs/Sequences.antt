@@ -1,4 +1,4 @@
--- How control functions and characters are spelled where a parameter may be left out.
+-- The spelling of control functions and characters, if a parameter may be left out.
 use Rattle.std.specs.Prelude.{ℕ, ◌-◌, ◌==◌, ◌&&◌, not, Bool, false, if◌then◌else◌, List, [], ◌∷◌, ◌++◌}
 use Rattle.roam_text.specs.declared.functions.Function.{Function}
 use Rattle.roam_text.specs.declared.functions.Function.TheVariants.{C0, C1, Csi}
@@ -10,8 +10,8 @@ is_one_zero [] = false
 is_one_zero (p ∷ []) = p == 0
 is_one_zero (p ∷ q ∷ params) = false
 
--- a control, a C1 control after ESC (ECMA-48 5.3), and a control sequence, whose only parameter isn't written where it is 0, but for SGR's
--- (ECMA-48 5.4.2: what isn't written is the default); the rest as a painter spells it that leaves nothing out
+-- A control, a C1 control after ESC (ECMA-48 5.3), and a control sequence. Its only parameter isn't written if it is 0, except for SGR's
+-- (ECMA-48 5.4.2: the default). Everything else is spelled in full.
 abbrev pub text_of : Function → List ℕ
 text_of (C0 b) = b ∷ []
 text_of (C1 b) = 0x1B ∷ (b - 0x40) ∷ []

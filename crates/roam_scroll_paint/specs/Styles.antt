@@ -1,4 +1,4 @@
--- What sets a style where another one is set: all of it, or what it has that the other hasn't (SGR, ECMA-48 8.3.117).
+-- The functions that set a style in place of another one: all of it, or its additions (SGR, ECMA-48 8.3.117).
 use Rattle.std.specs.Prelude.{ℕ, ◌&&◌, ◌||◌, not, nat_lt, nat_le, Bool, true, false, if◌then◌else◌, List, [], ◌∷◌, ◌++◌, length, None}
 use Rattle.roam_cells.specs.Same.{same_colour, same_style}
 use Rattle.roam_cells.specs.declared.styles.Style.{Style}
@@ -17,7 +17,7 @@ colour_words code ending Default = ending ∷ []
 colour_words code ending (Index n) = code ∷ 5 ∷ n ∷ []
 colour_words code ending (Rgb r g b) = code ∷ 2 ∷ r ∷ g ∷ b ∷ []
 
--- and where another colour is set
+-- and if another colour is set
 abbrev pub colour_added : Colour → Colour → ℕ → ℕ → List ℕ
 colour_added before after code ending = if same_colour before after then [] else colour_words code ending after
 
@@ -45,7 +45,7 @@ abbrev pub ends_alone : Colour → Colour → Colour → Colour → Bool
 ends_alone before after other_before other_after =
     not (is_default before) && (is_default after && (is_default other_after || not (same_colour other_before other_after)))
 
--- what is added to a style where that is shorter; a sequence has sixteen parameters at most
+-- the additions to a style, if they are shorter; a sequence has at most sixteen parameters
 unfoldable pub adds : Style → Style → Bool
 adds g s =
     not (ends_flag g s)
@@ -53,10 +53,10 @@ adds g s =
     && (not (ends_alone g.background s.background g.foreground s.foreground)
     && (nat_lt 0 (length (change_codes g s)) && nat_le (length (change_codes g s)) 16)))
 
--- a style is set where another one is: by what is added, or whole
+-- a style is set in place of another one: by its additions, or whole
 abbrev pub changing : Style → Style → List Function
 changing g s = if adds g s then csi None (change_codes g s) 0x6D ∷ [] else restyle s
 
--- and nothing where it is the one that is set
+-- and nothing if it is already set
 abbrev pub styled_from : Style → Style → List Function
 styled_from g s = if same_style s g then [] else changing g s

@@ -11,7 +11,7 @@ pub struct Band {
     pub bottom: u16,
     /// How many rows they go.
     pub count: u16,
-    /// Whether they go up.
+    /// True if they go up.
     pub up: bool,
 }
 
@@ -41,7 +41,7 @@ fn moved_source(band: Band, row: u16) -> Option<u16>
     Some(row)
 }
 
-/// The row of the old screen that a row shows before rows are drawn, where sizes are the same or not; none: it is blank.
+/// Returns the row of the old screen that a row shows before rows are drawn, by whether sizes are equal; `None` if it is blank.
 pub fn source_of(same: bool, band: Option<Band>, row: u16) -> Option<u16>
     ensures source { result ≡ source_of same band row }
 {

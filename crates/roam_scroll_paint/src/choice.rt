@@ -11,18 +11,18 @@ use roam_cells::{Cell, are_same_cells};
 use roam_screens::Seen;
 use std::alloc::{AllocError, Global};
 
-/// Where no more rows differ no band is looked for, and what they cost isn't either.
+/// If no more rows differ, no band is looked for, and their costs aren't computed.
 const FEW_ROWS: u32 = 2;
-/// What a row costs beside its cells: a move to it.
+/// The cost of a row beyond its cells: a move to it.
 const ROW_COST: u32 = 6;
-/// What the erasure of its blank end costs.
+/// The cost of the erasure of its blank end.
 const END_COST: u32 = 3;
 /// Where all rows cost less than this together no band is looked for.
 const LEAST_COST: u32 = 48;
-/// What a band has to save, since its move costs about as much.
+/// The least saving of a band, since its move costs about as much.
 const LEAST_GAIN: u32 = 16;
 
-// The best band so far, and what it saves.
+// The best band so far, and its saving.
 #[derive(Clone, Copy)]
 struct Found {
     band: Option<Band>,
@@ -42,7 +42,7 @@ fn is_same_row<O: Seen, N: Seen>(old: &O, from: u16, new: &N, row: u16) -> bool
     are_same_cells(old.row(from), new.row(row))
 }
 
-// What a row costs on a blank one.
+// Returns the cost of a row on a blank one.
 fn bare_cost(cells: &[Cell]) -> u32 {
     let end = blank_from(cells);
     if end == 0 {
@@ -71,7 +71,7 @@ fn differing(over: &[Cell], cells: &[Cell], from: usize, to: usize) -> u32
     count
 }
 
-// What a row costs where it stays that is to show something else.
+// Returns the cost of a row that stays and has to change.
 fn cost_of(over: &[Cell], cells: &[Cell]) -> u32
     requires len { length over.now ≡ length cells.now }
     ensures some { 0 < result }
@@ -86,8 +86,8 @@ fn cost_of(over: &[Cell], cells: &[Cell]) -> u32
     }
 }
 
-/// What each row costs where it stays: nothing where it shows already what it is to show, and 1 where few others differ. Where sizes differ
-/// there are no costs.
+/// Returns the cost of each row that stays: nothing if it already has the right cells, and 1 if few others differ. There are no costs if
+/// sizes differ.
 pub fn costs_of<O: Seen, N: Seen>(alloc: Global, old: &O, new: &N) -> Result<Vec<u32>, AllocError>
     ensures none { IfOk result (λ costs. (r : ℕ) → slice_index_or costs.items r 1 ≡ 0
         → IsSameRow (O.screen old.now) (N.screen new.now) r) }
@@ -129,7 +129,7 @@ fn push_differences<O: Seen, N: Seen>(
     Ok(())
 }
 
-// Each row that differs costs what it costs.
+// Computes the cost of each row that differs.
 fn weigh<O: Seen, N: Seen>(costs: &mut [u32], old: &O, new: &N)
     requires rows { (O.screen old.now).rows ≡ (N.screen new.now).rows }
     requires cols { (O.screen old.now).cols ≡ (N.screen new.now).cols }
@@ -196,7 +196,7 @@ fn alike_after<O: Seen, N: Seen>(old: &O, new: &N, from: u16, row: u16, end: u16
     count
 }
 
-// The band that brings an old row to where a new one is the same, with all rows beside it that are the same too.
+// Returns the band that brings an old row to an equal new one, with all rows beside it that are equal too.
 fn band_of<O: Seen, N: Seen>(old: &O, new: &N, changed: Changed, from: u16, row: u16) -> Band
     requires inside { (changed.to ≤ (O.screen old.now).rows) × (changed.to ≤ (N.screen new.now).rows) }
     requires from { (changed.from ≤ from) × (from < changed.to) }
@@ -214,7 +214,7 @@ fn band_of<O: Seen, N: Seen>(old: &O, new: &N, changed: Changed, from: u16, row:
     }
 }
 
-// What a band saves: what its rows cost where they stay, without what those cost that come in blank.
+// Returns the saving of a band: the cost of its rows if they stay, without that of the rows that come in blank.
 fn gain_of<N: Seen>(new: &N, costs: &[u32], band: Band) -> u32
     requires band { IsBand (N.screen new.now).rows band }
     requires costs { length costs.now ≡ (N.screen new.now).rows }
@@ -361,7 +361,7 @@ fn best_of<O: Seen, N: Seen>(old: &O, new: &N, costs: &[u32]) -> Found
     best
 }
 
-/// The band that is moved, where one saves more than its move costs; by what the rows cost.
+/// Returns the band to move, if one saves more than its move costs, by the costs of the rows.
 pub fn choose<O: Seen, N: Seen>(old: &O, new: &N, costs: &[u32]) -> Option<Band>
     ensures band { FitsBand (N.screen new.now).rows result }
 {
@@ -374,7 +374,7 @@ pub fn choose<O: Seen, N: Seen>(old: &O, new: &N, costs: &[u32]) -> Option<Band>
     best_of(old, new, costs).band
 }
 
-/// Whether no band moves and a row is known to show what it is to show.
+/// Returns true if no band moves and a row is known to have the right cells.
 pub fn is_known(band: Option<Band>, costs: &[u32], row: u16) -> bool
     ensures none { result ≡ true → band ≡ None }
     ensures cost { result ≡ true → slice_index_or costs.now row 1 ≡ 0 }

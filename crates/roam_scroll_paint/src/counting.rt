@@ -19,14 +19,14 @@ use crate::rows::is_drawn;
 use roam_cells::{Cell, Colour, Style};
 use roam_screens::Seen;
 
-// What was counted, and the style that is set then.
+// The count so far, and the style that is set then.
 #[derive(Clone, Copy)]
 struct Counted {
     bytes: usize,
     style: Style,
 }
 
-// Whether a place and those beside it differ.
+// True if a place and those beside it differ.
 #[derive(Clone, Copy)]
 struct Differences {
     before: bool,
@@ -161,7 +161,7 @@ fn is_other(one: &Cell, other: &Cell) -> bool
     !one.is_same(other)
 }
 
-// Whether a place of screens of one size, from 0, or the one behind the last column differs.
+// Returns true if a place of screens of one size, from 0, or the one behind the last column differs.
 fn differs<O: Seen, N: Seen>(old: &O, new: &N, row: usize, col: usize) -> bool
     requires size { same_size (O.screen old.now) (N.screen new.now) ≡ true }
     requires rows { (O.screen old.now).rows ≡ (N.screen new.now).rows }
@@ -202,7 +202,7 @@ fn row_bytes<O: Seen, N: Seen>(old: &O, new: &N, row: usize, style: Style) -> Co
     Counted { bytes, style: set }
 }
 
-// A row that may be known to be as it is to be already.
+// Counts a row that may be known to have the right cells.
 fn changed_row_bytes<O: Seen, N: Seen>(
     old: &O,
     new: &N,
@@ -246,7 +246,7 @@ fn rows_bytes<O: Seen, N: Seen>(old: &O, new: &N, costs: &[u32], limit: usize) -
     bytes
 }
 
-// What comes behind the rows: the default style, the cursor's place, and the cursor where it is visible.
+// Returns the bytes behind the rows: the default style, the cursor's place, and the cursor if it is visible.
 #[tactic(auto, using(crate::proofs::Lengths::closing_least))]
 fn closing_bytes<N: Seen>(new: &N) -> usize
     ensures least { result ≤ length (closing_text (N.screen new.now).cursor_row (N.screen new.now).cursor_col (N.screen new.now).visible) }
@@ -266,7 +266,7 @@ pub fn plain_bytes<O: Seen, N: Seen>(old: &O, new: &N, costs: &[u32], limit: usi
     if !is_same_size(old, new) {
         return 0;
     }
-    // Most often a key's text is no longer than what comes before the rows and behind them, and no row is counted.
+    // Most often a key's text is no longer than the text before the rows and behind them, and no row is counted.
     let around = closing_bytes(new).saturating_add(6);
     rows_bytes(old, new, costs, limit.saturating_sub(around)).saturating_add(around)
 }

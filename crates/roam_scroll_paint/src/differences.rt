@@ -1,4 +1,4 @@
-//! What is read of two screens.
+//! Reads two screens.
 ghost use Rattle.std.specs.Prelude.{◌≡◌, ℕ, ◌<◌, length, true, IfSome};
 ghost use Rattle.roam_cells.specs.Glyph.{blank};
 ghost use Rattle.roam_cells.specs.Place.{glyph_at};
@@ -9,7 +9,7 @@ ghost use Rattle.roam_paint.specs.Painting.{same_size};
 use roam_cells::Cell;
 use roam_screens::Seen;
 
-/// Whether two screens have one size.
+/// Returns true if two screens have one size.
 pub fn is_same_size<O: Seen, N: Seen>(old: &O, new: &N) -> bool
     ensures same { result ≡ same_size (O.screen old.now) (N.screen new.now) }
     ensures rows { result ≡ true → (O.screen old.now).rows ≡ (N.screen new.now).rows }

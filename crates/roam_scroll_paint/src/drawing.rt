@@ -1,4 +1,4 @@
-//! One row after another is drawn over what is shown.
+//! Draws rows one after another over the old cells.
 ghost use Rattle.std.specs.Prelude.{◌≡◌, ℕ, ◌+◌, ◌<◌, OnOk, IfOk, IfSome, length, slice_index_or, true};
 ghost use Rattle.roam_cells.specs.Glyph.{blank};
 ghost use Rattle.roam_cells.specs.Place.{glyph_at};
@@ -39,7 +39,7 @@ fn draw_row<N: Seen>(
     Ok(left)
 }
 
-// A row that may be as it is to be already, which may be known.
+// Draws a row that may already have the right cells, which may be known.
 fn draw_changed_row<N: Seen>(
     text: &mut Vec<u8>,
     over: &[Cell],

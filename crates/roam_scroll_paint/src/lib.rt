@@ -1,5 +1,5 @@
-//! Paints screens on a terminal, and moves the rows that are there: the text that leads a ground terminal from one screen to another, and
-//! is never longer than that of a painter which writes every place that differs.
+//! Paints screens on a terminal, and moves rows that are there: the text that leads a ground terminal from one screen to another. It is
+//! never longer than that of a painter which writes every place that differs.
 #![tactic(auto)]
 
 mod bands;

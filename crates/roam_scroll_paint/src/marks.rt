@@ -1,4 +1,4 @@
-//! Which columns of a row are written, and where its end is erased: those that differ, and the gaps that are shorter than a move.
+//! The columns of a row to write, and the beginning of its erased end: the columns that differ, and gaps that are shorter than a move.
 ghost use Rattle.std.specs.Prelude.{◌≡◌, ℕ, ◌+◌, ◌<◌, ◌≤◌, length, slice_index_or, true, false};
 ghost use Rattle.std.specs.Char.{encode_utf8};
 ghost use Rattle.std.specs.List.{flat_map};
@@ -11,7 +11,7 @@ use roam_cells::Cell;
 
 /// The most columns of a gap that is written through.
 const WIDEST_GAP: usize = 8;
-/// What another style in a gap is taken to cost, in bytes.
+/// The assumed cost of another style in a gap, in bytes.
 const STYLE_COST: usize = 6;
 
 /// Marks the columns in which two rows of one length differ, and no others.
@@ -54,12 +54,12 @@ pub fn bytes_of(cell: &Cell) -> usize
     bytes
 }
 
-// What another style costs.
+// Returns the cost of another style.
 fn style_cost(one: u64, other: u64) -> usize {
     if one == other { 0 } else { STYLE_COST }
 }
 
-// What it costs to write the columns from one on and before another: their bytes, and the styles that there wouldn't be without them.
+// Returns the cost of the columns from one on and before another: their bytes, and the styles that only they need.
 fn gap_cost(cells: &[Cell], from: usize, to: usize) -> usize
     requires before { 0 < from }
     requires some { from < to }
@@ -93,7 +93,7 @@ pub fn digits(number: usize) -> usize
     }
 }
 
-/// What CUP to a row and a column costs, both from 0.
+/// Returns the cost of CUP to a row and a column, both from 0.
 pub fn move_cost(row: usize, col: usize) -> usize
     requires few { (row < 1000) × (col < 1000) }
     ensures size { result ≡ move_size row col }
@@ -101,7 +101,7 @@ pub fn move_cost(row: usize, col: usize) -> usize
     4 + digits(row + 1) + digits(col + 1)
 }
 
-// Whether it costs less to write the columns from one on and before another than to move over them, where something is written before.
+// Returns true if writing the columns from one on and before another costs less than a move over them, if something is written before.
 fn is_gap(cells: &[Cell], row: usize, from: usize, to: usize) -> bool
     requires inside { to < length cells.now }
     requires few { (row < 1000) × (length cells.now < 1000) }
@@ -112,7 +112,7 @@ fn is_gap(cells: &[Cell], row: usize, from: usize, to: usize) -> bool
         && gap_cost(cells, from, to) < move_cost(row, to)
 }
 
-// A gap between what is marked before one column and from another on is marked, where it is one.
+// Marks a gap between the marked columns before one and those from another on, if it is one.
 fn close_gap(marks: &mut [bool], cells: &[Cell], row: usize, from: usize, to: usize)
     requires len { length marks.old ≡ length cells.now }
     requires inside { to < length cells.now }
@@ -150,7 +150,7 @@ pub fn mark_gaps(marks: &mut [bool], cells: &[Cell], row: usize)
     }
 }
 
-/// Whether a cell is blank.
+/// Returns true if a cell is blank.
 pub fn is_blank(cell: &Cell) -> bool
     ensures blank { result ≡ true → cell.now ≡ blank }
 {
@@ -184,7 +184,7 @@ fn first_of_three(marks: &[bool], from: usize) -> Option<usize> {
     if count < 3 { None } else { first }
 }
 
-// The column behind the last that is marked before one; 0 where there is none.
+// Returns the column behind the last marked one before a column; 0 if there is none.
 fn marked_before(marks: &[bool], to: usize) -> usize
     requires inside { to ≤ length marks.now }
     ensures before { result ≤ to }
@@ -196,8 +196,8 @@ fn marked_before(marks: &[bool], to: usize) -> usize
     end
 }
 
-// The column at which what is erased from one column on may begin, where the first that differs is another: where the cursor stands, behind
-// a gap, or at that other one.
+// Returns the column at which the erasure from one column on may begin, if the first that differs is another: at the cursor, behind a gap,
+// or at that other one.
 fn erased_from(marks: &mut [bool], cells: &[Cell], row: usize, from: usize, first: usize) -> usize
     requires len { length marks.old ≡ length cells.now }
     requires from { from ≤ length cells.now }
@@ -216,9 +216,9 @@ fn erased_from(marks: &mut [bool], cells: &[Cell], row: usize, from: usize, firs
     first.max(from).min(cells.len())
 }
 
-/// The column from which on a row is erased: behind the last one where it isn't.
+/// Returns the column from which on a row is erased, and the one behind the last if it isn't.
 ///
-/// A row is erased where three columns or more of its blank end are marked.
+/// A row is erased if three columns or more of its blank end are marked.
 pub fn end_of(marks: &mut [bool], cells: &[Cell], row: usize) -> usize
     requires len { length marks.old ≡ length cells.now }
     requires few { (row < 1000) × (length cells.now < 1000) }

@@ -1,4 +1,4 @@
-//! What leads a ground terminal from one screen to another.
+//! The text that leads a ground terminal from one screen to another.
 ghost use Rattle.std.specs.Prelude.{◌≡◌, ℕ, ◌≤◌, ◌<◌, ◌++◌, length, OnOk, OnErr, IfOk, IsOkUnless, replicate, [], true, slice_index_or};
 ghost use Rattle.std.specs.List.{flat_map};
 ghost use Rattle.roam_cells.specs.Glyph.{blank};
@@ -21,10 +21,10 @@ use roam_paint::paint;
 use roam_screens::Seen;
 use std::alloc::{AllocError, Global};
 
-/// A text of fewer bytes doesn't hide the cursor, where the cursor stays as visible as it is.
+/// A text of fewer bytes doesn't hide the cursor, if its visibility stays.
 const SHORT: usize = 128;
 
-// The default style, where another is set, and the cursor's place.
+// Appends the default style, if another is set, and the cursor's place.
 #[tactic(auto, using(crate::proofs::Settled::settling_text))]
 fn push_settling<N: Seen>(text: &mut Vec<u8>, new: &N, style: Style) -> Result<(), AllocError>
     ensures text { OnOk result (text.new.items ≡ text.old.items ++ flat_map text_of (settling (N.screen new.now) style)) }
@@ -74,7 +74,7 @@ fn body_of<O: Seen, N: Seen>(
     Ok(text)
 }
 
-// The cursor is hidden before, and shown behind where it is visible.
+// Returns a text with the cursor hidden before, and shown behind if it is visible.
 fn hidden(alloc: Global, body: &[u8], visible: bool) -> Result<Vec<u8>, AllocError>
     ensures text { IfOk result (λ text. text.items
         ≡ flat_map text_of (hiding true) ++ (body.now ++ flat_map text_of (revealing true visible))) }
@@ -88,7 +88,7 @@ fn hidden(alloc: Global, body: &[u8], visible: bool) -> Result<Vec<u8>, AllocErr
     Ok(text)
 }
 
-// Whether the cursor is as visible on both screens.
+// Returns true if the cursor is as visible on both screens.
 fn is_as_visible<O: Seen, N: Seen>(old: &O, new: &N) -> bool
     ensures same { result ≡ true → (O.screen old.now).visible ≡ (N.screen new.now).visible }
 {
@@ -112,7 +112,7 @@ fn moving_text<O: Seen, N: Seen>(
     Ok(text)
 }
 
-// The text that leaves nothing out, or the one that moves rows where that isn't longer.
+// Returns the text that leaves nothing out, or the one that moves rows if that isn't longer.
 fn shorter_of<O: Seen, N: Seen>(old: &O, new: &N, moving: Vec<u8>) -> Result<Vec<u8>, Fault>
     requires leads { Leads (O.screen old.now) (N.screen new.now) moving.items }
     ensures leads { IfOk result (λ text. Leads (O.screen old.now) (N.screen new.now) text.items) }
@@ -129,7 +129,7 @@ fn shorter_of<O: Seen, N: Seen>(old: &O, new: &N, moving: Vec<u8>) -> Result<Vec
     Ok(plain)
 }
 
-// The other text is written only where what is counted of it doesn't tell that it is longer.
+// The other text is written only if its count doesn't show that it is longer.
 fn shorter_text<O: Seen, N: Seen>(alloc: Global, old: &O, new: &N) -> Result<Vec<u8>, Fault>
     ensures leads { IfOk result (λ text. Leads (O.screen old.now) (N.screen new.now) text.items) }
     ensures shorter { IfOk result (λ text. length text.items ≤ length (text_between (O.screen old.now) (N.screen new.now))) }
@@ -146,11 +146,12 @@ fn shorter_text<O: Seen, N: Seen>(alloc: Global, old: &O, new: &N) -> Result<Vec
     shorter_of(old, new, moving)
 }
 
-/// Adds a text that leads a ground terminal from one screen to another, never longer than that of `roam_paint`; refuses want of memory,
-/// which leaves `out` as it was.
+/// Appends a text that leads a ground terminal from one screen to another, never longer than that of `roam_paint`. `OutOfMemory` leaves
+/// `out` as it was.
 ///
-/// A band of rows goes up or down where that is shorter, by margins (DECSTBM) and LF (ECMA-48 8.3.74) or RI (8.3.104) at their edge. What
-/// differs afterwards is written, and short gaps with it; a blank end of a row is erased (EL, 8.3.41); SGR (8.3.117) says what changes.
+/// A band of rows goes up or down if that is shorter, by margins (DECSTBM) and LF (ECMA-48 8.3.74) or RI (8.3.104) at their edge. Places
+/// that differ afterwards are written, and short gaps with them. A blank end of a row is erased (EL, 8.3.41). SGR (8.3.117) names the
+/// changes.
 pub fn paint_moved<O: Seen, N: Seen>(old: &O, new: &N, out: &mut Vec<u8>) -> Result<(), Fault>
     ensures leads { OnOk result (Leads (O.screen old.now) (N.screen new.now) (added out.old.items out.new.items)) }
     ensures shorter { OnOk result (length (added out.old.items out.new.items)

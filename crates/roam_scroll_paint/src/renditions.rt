@@ -1,4 +1,4 @@
-//! What sets a style where another one is set.
+//! The functions that set a style in place of another one.
 ghost use Rattle.std.specs.Prelude.{◌≡◌, [], ◌∷◌, ◌++◌, ◌<◌, length, true, OnOk, IfOk};
 ghost use Rattle.std.specs.List.{flat_map};
 ghost use Rattle.roam_cells.specs.Same.{same_colour, same_style};
@@ -9,7 +9,7 @@ use crate::sequences::{push_rendition, push_restyle};
 use roam_cells::{Colour, Style};
 use std::alloc::{AllocError, Global};
 
-/// Whether two styles are one.
+/// Returns true if two styles are equal.
 pub fn is_same_style(one: Style, other: Style) -> bool
     ensures same { result ≡ same_style one other }
 {
@@ -108,7 +108,7 @@ fn change_codes(alloc: Global, from: Style, to: Style) -> Result<Vec<u16>, Alloc
     Ok(codes)
 }
 
-// Whether a flag of one style isn't in the other.
+// Returns true if a flag of one style isn't in the other.
 fn ends_flag(from: Style, to: Style) -> bool
     ensures ends { result ≡ ends_flag from to }
 {
@@ -122,7 +122,7 @@ fn ends_flag(from: Style, to: Style) -> bool
         || (from.strike && !to.strike)
 }
 
-// Whether a colour goes back to the default and the other isn't kept.
+// Returns true if a colour goes back to the default and the other isn't kept.
 fn ends_alone(before: Colour, after: Colour, other_before: Colour, other_after: Colour) -> bool
     ensures ends { result ≡ ends_alone before after other_before other_after }
 {
@@ -164,7 +164,7 @@ fn push_changing(text: &mut Vec<u8>, from: Style, to: Style) -> Result<(), Alloc
     push_restyle(text, to)
 }
 
-/// What sets a style where another one is set; nothing where they are one.
+/// Appends the text that sets a style in place of another one; nothing if they are equal.
 pub fn push_styled_from(text: &mut Vec<u8>, from: Style, to: Style) -> Result<(), AllocError>
     ensures text { OnOk result (text.new.items ≡ text.old.items ++ flat_map text_of (styled_from from to)) }
 {

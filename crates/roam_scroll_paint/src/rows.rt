@@ -16,14 +16,14 @@ use roam_cells::{Cell, Style};
 use roam_screens::Seen;
 use std::alloc::AllocError;
 
-/// Whether a column is marked; those behind the last aren't.
+/// Returns true if a column is marked; those behind the last aren't.
 pub fn mark_at(marks: &[bool], col: usize) -> bool
     ensures mark { result ≡ slice_index_or marks.now col false }
 {
     if col < marks.len() { marks[col] } else { false }
 }
 
-/// Whether a cell begins at a column, and it or its right half is marked.
+/// Returns true if a cell begins at a column, and it or its right half is marked.
 pub fn is_drawn(cell: &Cell, here: bool, after: bool) -> bool
     ensures drawn { result ≡ (not (is_right_half cell.now) && (here || (is_wide cell.now && after))) }
 {
@@ -112,7 +112,7 @@ fn write_row<N: Seen>(
     Ok(set)
 }
 
-// Whether the cursor stands at a column, since what was written ends there.
+// Returns true if the cursor is at a column since the text before ends there.
 fn ends_at(marks: &[bool], row: usize, col: usize) -> bool
     ensures ends { result ≡ ends_at (is_marked marks.now) row col }
 {
@@ -137,7 +137,7 @@ fn push_end(
     Ok(())
 }
 
-// The row is erased from a column on, where that is one of its columns; answers the style that is set then.
+// Erases the row from a column on, if that is one of its columns; returns the style that is set then.
 #[tactic(auto, unfolding(crate::specs::Rows::erasing_from, crate::specs::Rows::style_left))]
 fn erase_from(
     text: &mut Vec<u8>,
@@ -159,7 +159,7 @@ fn erase_from(
     Ok(Style::default())
 }
 
-/// A row: what is marked before a column, and the erasure from there on; answers the style that is set then.
+/// Appends a row: the marked cells before a column, and the erasure from there on; returns the style that is set then.
 pub fn push_row<N: Seen>(
     text: &mut Vec<u8>,
     new: &N,

@@ -1,4 +1,4 @@
-//! The text of what a painter asks of a terminal.
+//! The text of a painter's functions.
 ghost use Rattle.std.specs.Prelude.{◌≡◌, ◌∷◌, [], ◌++◌, ◌<◌, ◌+◌, OnOk, decimal, length, replicate, true, None, IfSome};
 ghost use Rattle.std.specs.List.{flat_map};
 ghost use Rattle.std.specs.Char.{encode_utf8};
@@ -166,7 +166,7 @@ fn push_set_style(text: &mut Vec<u8>, style: Style) -> Result<(), AllocError>
     Ok(())
 }
 
-// SGR that sets a colour, after 38 or 48, where it is a mixture.
+// Appends SGR that sets a colour, after 38 or 48, if it is a mixture.
 #[tactic(auto, using(crate::proofs::Spelled::mixture_text))]
 fn push_mixture(text: &mut Vec<u8>, code: u16, colour: Colour) -> Result<(), AllocError>
     ensures text { OnOk result (text.new.items ≡ text.old.items ++ flat_map text_of (set_mixture code colour)) }
@@ -266,7 +266,7 @@ fn push_erase_all(text: &mut Vec<u8>) -> Result<(), AllocError>
     text.extend_from_slice(b"\x1B[2J")
 }
 
-/// What comes before all rows: a band moves, or where sizes differ all is erased.
+/// Appends the text before all rows: a band moves, or if sizes differ all is erased.
 pub fn push_preparing(text: &mut Vec<u8>, same: bool, band: Option<Band>) -> Result<(), AllocError>
     requires band { IfSome band (λ b. b.top + 1 < b.bottom) }
     ensures text { OnOk result (text.new.items ≡ text.old.items ++ flat_map text_of (preparing same band)) }

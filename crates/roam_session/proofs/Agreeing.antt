@@ -72,7 +72,7 @@ placed_given (Some from) (Some to) (Some old) (Some new) is size = placed_moved 
 
 -- ---- calls on one pane
 
--- a rule does to a terminal what a change does to its pane
+-- a rule changes a terminal as a change does its pane
 abbrev pub Does' : (TermView → TermView → Type 0) → (Pane → Pane) → Type 0
 Does' rule change = (old new : TermView) (pane : Pane) → rule old new → IsOf old pane → IsOf new (change pane)
 

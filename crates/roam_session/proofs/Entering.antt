@@ -1,4 +1,4 @@
--- One entry more: what the session stands for afterwards.
+-- One entry more: the log that the session models afterwards.
 use Rattle.std.proofs.Common.{◌≡◌, ℕ, ◌+◌, ◌<◌, Bool, true, false, cond, eqb, ltb, inl, inr, ◌⊎◌, Result, Ok, Err, List, [], ◌∷◌, ◌++◌, length, Option, Some, None, refl, sym, ap, ◌∙◌, subst, arith}
 use Rattle.std.specs.Option.{option_map}
 use Rattle.std.specs.Prelude.{OnOk, OnErr, IfErr}
@@ -28,7 +28,7 @@ use Rattle.roam_session.proofs.Living.{counted_more, counts_kept, first_generati
 use Rattle.roam_session.proofs.Rectangles.{none_above}
 use Rattle.roam_session.proofs.Busyness.{never_busy}
 
--- a session stands for a log with one entry more where it agrees with what the entry makes
+-- a session models a log with one entry more if it agrees with the result of the entry
 stands_after : (s t : SessionView) (size : SessionSize) (log : List Entry) (entry : Entry) (now : SessionState) → Stands s size log
     → session size (log ++ entry ∷ []) ≡ now → t.plan ≡ now.plan → ((k : ℕ) → Agrees (term_at t.terms k) (now.pane k))
     → CountsGenerations s.plan t.plan s.generations t.generations → Stands t size (log ++ entry ∷ [])
@@ -67,7 +67,7 @@ stands_refused s client act fault no_key e size log h =
     ∙ ap (λ o. laid_out o d) e)
     h.plan h.panes (counts_kept s s size log h refl refl)
 
--- what was prepared and then done gives each number what its rectangles ask
+-- preparing and then doing gives each number the result that its rectangles ask for
 pub brought : (before : List (ℕ × Rect)) (new : Plan) (xs ys : List (ℕ × Rect)) (ts zs us : List (Option TermView)) (steps : List Step)
     → IsPlan new
     → xs ≡ before → ys ≡ panes new → zs ≡ ts → length us ≡ 10
@@ -157,7 +157,7 @@ stands_keyed s t client act key is plan generations changes size log h =
     (plan ∙ h.plan)
     (agrees_at f (IsKeyed key) (after_key key) (does_keyed key) s.terms t.terms changes d.pane h.panes) (counts_kept s t size log h plan generations)
 
--- ---- what waits
+-- ---- the queued bytes
 
 waits : (t : Option TermView) (pane : Option Pane) → Agrees t pane → option_map (λ (x : TermView). x.waiting) t ≡ waiting_in pane
 waits None None of = refl
@@ -170,7 +170,7 @@ pub waiting_is : (s : SessionView) (p : ℕ) (size : SessionSize) (log : List En
 unfolding output_at
 waiting_is s p size log h = waits (term_at s.terms p) ((session size log).pane p) (h.panes p)
 
--- a queue is full for a key where the key is refused
+-- a queue is full for a key if the key is refused
 abbrev pub fault_if : Bool → Option Fault
 fault_if v = cond v (Some Busy) None
 
@@ -209,12 +209,12 @@ pub on_three : {A E : Type 0} (r : Result A E) (P Q S R : Type 0) → (P → Q �
 on_three (Ok x) P Q S R f p q s = f p q s
 on_three (Err e) P Q S R f p q s = tt
 
--- what holds anyway holds of each answer
+-- a fact is one about each answer
 pub on_any : {A E : Type 0} (r : Result A E) (P : Type 0) → P → OnOk r P
 on_any (Ok x) P p = p
 on_any (Err e) P p = tt
 
--- a key is stopped exactly where it is refused
+-- a key is stopped exactly if it is refused
 pub busy_if : (v : Bool) (o : Option Fault) → o ≡ fault_if v → (o ≡ Some Busy → v ≡ true) × (v ≡ true → o ≡ Some Busy)
 busy_if true o e = (λ h. refl, λ h. e)
 busy_if false o e = (λ h. let no : None ≡ Some Busy = sym e ∙ h in cc, λ h. cc)

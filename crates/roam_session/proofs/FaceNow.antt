@@ -1,4 +1,4 @@
--- The face now: that of the log that a session stands for, and what the kept face has of it.
+-- The face now: that of the log that a session models, and the part of it that the kept face has.
 use Rattle.std.proofs.Common.{◌≡◌, ℕ, Bool, false, List, Option, Some, None, take, refl, sym, ap, ◌∙◌, subst, arith}
 use Rattle.std.specs.Prelude.{slice_index}
 use Rattle.std.proofs.lemmas.List.{get_or-take}

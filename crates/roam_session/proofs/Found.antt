@@ -1,4 +1,4 @@
--- What stands at a place in two lists of rectangles that agree in its row.
+-- The entry at a place in two lists of rectangles that agree in its row.
 use Rattle.std.proofs.Common.{◌≡◌, ℕ, suc, ◌+◌, ◌<◌, ◌≤◌, Bool, true, false, not, ◌&&◌, ◌||◌, cond, eqb, inl, inr, ◌⊎◌, List, [], ◌∷◌, length, get_or, Option, Some, None, refl, sym, ap, ◌∙◌, arith}
 use Rattle.std.specs.List.{list_any}
 use Rattle.std.proofs.lemmas.Bool.{and_parts, eqb-true}
@@ -14,7 +14,7 @@ abbrev pub In : {A : Type 0} → A → List A → Type 0
 In x [] = ⊥
 In x (y ∷ ys) = (x ≡ y) ⊎ In x ys
 
--- what is found is an entry, and has the place
+-- the found value is an entry, and has the place
 pub record IsFound {A : Type 0} (r c : ℕ) (x : A × Rect) (xs : List (A × Rect)) : Type 0 where
   pub there : In x xs
   pub has : inside r c x.1 ≡ true

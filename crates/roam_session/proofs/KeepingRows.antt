@@ -53,7 +53,7 @@ face_kept plan picture r low off = face_rows plan picture r low
 
 -- ---- the panes of a layout
 
--- what is found in a row is a pane of the layout, by its number
+-- the entry found in a row is a pane of the layout, by its number
 record IsPane (s : Plan) (r c : ℕ) (x : ℕ × Rect) : Type 0 where
   rect : rect_in x.0 (panes s) ≡ Some x.1
   there : has x.0 s.tree ≡ true
@@ -75,7 +75,7 @@ pane_of s r c x is e =
 
 -- ---- lists of pictures
 
--- what shows the pictures of a list makes the same rows of the face
+-- functions that show the pictures of a list make the same rows of the face
 shown_alike : (s : Plan) → IsPlan s → (p q : ℕ → Screenshot) (ss : List (ℕ × Screenshot)) → ArePictures (panes s) ss → Show p ss → Show q ss
     → (r : ℕ) → face_row s q r ≡ face_row s p r
 shown_alike s is p q ss are show_p show_q r = by_row (eqb r s.rows) refl

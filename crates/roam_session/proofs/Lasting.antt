@@ -1,4 +1,4 @@
--- What generations tell: a pane stands exactly where the layout has a rectangle, so it begins where its number is made.
+-- Generations: a pane is there exactly if the layout has a rectangle, so it begins when its number is made.
 use Rattle.std.proofs.Common.{◌≡◌, ℕ, ◌+◌, ◌%◌, ◌^◌, true, not, ◌&&◌, cond, eqb, List, [], ◌∷◌, ◌++◌, Option, Some, None, refl, sym, ap, ◌∙◌, add-zero}
 use Rattle.std.specs.Prelude.{is_some}
 use Rattle.std.specs.List.{fold}
@@ -15,7 +15,7 @@ use Rattle.roam_session.specs.Generations.{is_made, begins, ever_made, generatio
 use Rattle.roam_session.proofs.Logs.{session-append}
 use Rattle.roam_session.proofs.Living.{ever_more}
 
--- ---- a pane stands exactly where the layout has a rectangle
+-- ---- a pane is there exactly if the layout has a rectangle
 
 abbrev IsThere : Option Rect → Option Pane → Type 0
 IsThere r pane = is_some r ≡ is_some pane

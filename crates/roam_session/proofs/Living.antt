@@ -1,4 +1,4 @@
--- Lives: what an entry adds to the panes that were ever made.
+-- Generations: the panes that an entry adds to those ever made.
 use Rattle.std.proofs.Common.{◌≡◌, ℕ, zero, suc, ◌+◌, ◌%◌, ◌^◌, ◌<◌, inl, inr, false, cond, eqb, List, [], ◌∷◌, ◌++◌, length, get_or, Option, Some, None, refl, sym, ap, ◌∙◌, arith, add_assoc, add-zero, zero-add}
 use Rattle.std.specs.List.{fold}
 use Rattle.std.specs.Option.{option_map}
@@ -36,7 +36,7 @@ ever_more size log entry p =
 
 -- ---- the counts
 
--- counts that have what is made between two layouts have what an entry makes
+-- counts of the panes made between two layouts are those that an entry makes
 pub counted_more : (s t : SessionView) (size : SessionSize) (log : List Entry) (entry : Entry) → Stands s size log
     → t.plan ≡ (session size (log ++ entry ∷ [])).plan → CountsGenerations s.plan t.plan s.generations t.generations
     → AreCounted t.generations size (log ++ entry ∷ [])

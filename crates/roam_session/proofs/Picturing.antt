@@ -34,7 +34,7 @@ pane_there s plan k d h =
     let x = get_or (panes s) k d in
     sym (lists_placed x.0 s.tree (area s.rows s.cols)) ∙ listed_some x.0 x.1 (panes s) (found_by_number s plan k d h)
 
--- what a list has the number of is there
+-- a number in a list is found
 found_some : (p : ℕ) (xs : List (ℕ × Rect)) → lists p xs ≡ true → is_some (rect_in p xs) ≡ true
 found_some p [] e = cc
 found_some p (x ∷ xs) e = by_case (found_some p xs) (eqb x.0 p) e

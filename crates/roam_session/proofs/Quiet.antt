@@ -1,4 +1,4 @@
--- What a terminal's marks say of what it shows now, and terminals that stay quiet.
+-- A terminal's marks and its picture now, and terminals that stay quiet.
 use Rattle.std.proofs.Common.{◌≡◌, ℕ, ◌<◌, ◌∷◌, [], ◌++◌, map, Bool, true, false, eqb, List, Option, Some, None, refl, sym, ap, ◌∙◌, subst}
 use Rattle.std.proofs.lemmas.Bool.{eqb-true, eq-eqb, false≢true}
 use Rattle.roam_cells.specs.Limits.{IsSize}
@@ -21,7 +21,7 @@ use Rattle.roam_session.specs.Steps.{IsGiven, IsMoved}
 use Rattle.roam_session.specs.Queues.{Both, ChangesAt, Keeps, IsFed, IsKeyed, IsDrained}
 use Rattle.roam_session.proofs.Screening.{sizes-append, bytes_sizes}
 
--- ---- what a terminal shows
+-- ---- the picture of a terminal
 
 pub shows_now : (t : TermView) (rows cols lines : ℕ) (log : List Item) (view : ℕ) → TermStands t rows cols lines log
     → picture_of t.live t.history view ≡ picture rows cols lines log view

@@ -11,7 +11,7 @@ use Rattle.roam_layout.specs.declared.rects.Rect.{Rect}
 
 -- ---- sizes
 
--- what holds of each entry of a list
+-- a property of each entry of a list
 abbrev Each : (ℕ × Rect → Type 0) → List (ℕ × Rect) → Type 0
 Each P [] = Unit {0}
 Each P (x ∷ xs) = P x × Each P xs

@@ -1,4 +1,4 @@
--- What a layout command leaves of a layout, where it shows no row anew.
+-- The parts of a layout that a layout command leaves, if it shows no row anew.
 use Rattle.std.proofs.Common.{◌≡◌, ◌≢◌, ℕ, true, false, cond, leb, length, Option, Some, None, refl, sym, ap, ◌∙◌, subst, get_or-set_other}
 use Rattle.std.specs.Prelude.{slice_index}
 use Rattle.std.proofs.lemmas.Bool.{cond_both, false≢true, leb-false}

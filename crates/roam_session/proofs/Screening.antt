@@ -22,7 +22,7 @@ use Rattle.roam_session.specs.Panes.{Pane, is_same_size, after_move, pane_after_
 use Rattle.roam_session.specs.Sessions.{Entry, Given, Did, Drained, SessionSize, SessionState, at_pane, laid_out, key_in, after_act, after_entry, first_state, session}
 use Rattle.roam_session.proofs.Rectangles.{sizes_in, found_by_number}
 
--- ---- what panes are given
+-- ---- the input of panes
 
 pub sizes-append : (log more : List Item) → AreSizes log → AreSizes more → AreSizes (log ++ more)
 sizes-append [] more h k = k
@@ -50,7 +50,7 @@ record IsPaneOf (r : Rect) (p : Pane) : Type 0 where
   sizes : AreSizes p.log
   size : size_after (p.rows, p.cols) p.log ≡ (r.rows, r.cols)
 
--- where a layout has a rectangle, such a pane stands
+-- if a layout has a rectangle, such a pane is there
 abbrev IsPlaced : Option Rect → Option Pane → Type 0
 IsPlaced None pane = Unit {0}
 IsPlaced (Some r) None = ⊥

@@ -1,4 +1,4 @@
--- What is true of every session stays so after each call.
+-- The invariant of every session stays true after each call.
 use Rattle.std.proofs.Common.{◌≡◌, ℕ, Bool, true, false, eqb, Result, Ok, Err, List, Option, Some, None, refl, sym, ap, ◌∙◌, subst}
 use Rattle.std.specs.Prelude.{OnOk, OnErr, slice_index}
 use Rattle.std.specs.Option.{option_map}
@@ -33,9 +33,9 @@ pub on_taken : {A : Type 0} (r : Result A Fault) (o : Option Fault) (P Q : Type 
 on_taken (Ok x) o P Q e f p = f e p
 on_taken (Err x) o P Q e f p = tt
 
--- ---- calls that leave what a terminal shows
+-- ---- calls that leave a terminal's picture
 
--- what a rule leaves of a terminal's size
+-- a rule keeps a terminal's size
 abbrev pub KeepsSize : (TermView → TermView → Type 0) → Type 0
 KeepsSize rule = (old new : TermView) → rule old new → HasSize new old.live.screen.rows old.live.screen.cols
 

@@ -7,12 +7,12 @@ use Rattle.roam_layout.specs.Faces.{face as face_of}
 use Rattle.roam_session.specs.Panes.{Pane}
 use Rattle.roam_session.specs.Sessions.{Entry, SessionSize, SessionState, session}
 
--- what a pane shows at a view; a number without a pane shows nothing anywhere
+-- the picture of a pane at a view; a number without a pane shows nothing
 abbrev pub picture_at : ℕ → Option Pane → Screenshot
 picture_at view None = blank_screenshot 2 4
 picture_at view (Some p) = picture p.rows p.cols pane_lines p.log view
 
--- what stands at a number, at its view in the layout
+-- the picture at a number, at its view in the layout
 abbrev pub pictures_of : SessionState → ℕ → Screenshot
 pictures_of s k = picture_at (slice_index s.plan.views k) (s.pane k)
 

@@ -24,8 +24,8 @@ use Rattle.roam_session.specs.Sessions.{Entry, Given, Did, Drained, SessionState
 abbrev pub view_in : Plan → ℕ → Option ℕ
 view_in plan p = if has p plan.tree then Some (slice_index plan.views p) else None
 
--- the rows, from 0, of a session of so many rows that a pane in a rectangle changes at a view: those of its terminal that are named, or,
--- scrolled back, all and the status row
+-- The rows, from 0, of a session of so many rows that a pane in a rectangle changes at a view: the named ones of its terminal, or, scrolled
+-- back, all and the status row.
 abbrev pub is_touched : Rect → ℕ → ℕ → List Bool → ℕ → Bool
 is_touched x view rows named r =
     if view == 0 then within x.row x.rows (r + 1) && is_marked named (r + 1 - x.row)
@@ -109,7 +109,7 @@ marks_after s (Given p bytes) marks =
 marks_after s (Did client act) marks = marks_acted (key_in act) act s marks
 marks_after s (Drained p n) marks = marks
 
--- an entry puts on the marks that it puts on where none is, whatever was marked before: so none goes off
+-- an entry puts on the marks that it puts on if none is on, whatever was marked before: so none goes off
 abbrev pub MarksAreAdded : Type 0
 MarksAreAdded =
     (s : SessionState) (entry : Entry) (marks : List Bool) (r : ℕ) → r < 200

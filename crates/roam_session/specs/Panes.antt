@@ -1,4 +1,4 @@
--- A pane of a session: what its terminal was given, and the bytes that wait for the pane's program (this project's profile).
+-- A pane of a session: the input of its terminal, and the bytes queued for the pane's program (this project's profile).
 use Rattle.std.specs.Prelude.{ℕ, ◌==◌, ◌&&◌, Bool, List, [], ◌∷◌, ◌++◌, map, drop, length, Option, Some, None, if◌then◌else◌}
 use Rattle.std.specs.Option.{option_map}
 use Rattle.roam_term.specs.Limits.{pane_lines}
@@ -16,13 +16,13 @@ pub record Pane : Type 0 where
   pub log : List Item
   pub waiting : List ℕ
 
--- ---- what a pane is given
+-- ---- the input of a pane
 
 -- a pane that begins in a rectangle
 abbrev pub new_pane : Rect → Pane
 new_pane r = record { rows = r.rows; cols = r.cols; log = []; waiting = [] }
 
--- what a pane's terminal answers to bytes, after all that it was given before
+-- the answers of a pane's terminal to bytes, after all of its earlier input
 abbrev pub answers : Pane → List ℕ → List ℕ
 answers p bytes = drop (length (reports p.rows p.cols pane_lines p.log)) (reports p.rows p.cols pane_lines (p.log ++ map Byte bytes))
 
@@ -30,7 +30,7 @@ answers p bytes = drop (length (reports p.rows p.cols pane_lines p.log)) (report
 abbrev pub after_feed : List ℕ → Pane → Pane
 after_feed bytes p = record { rows = p.rows; cols = p.cols; log = p.log ++ map Byte bytes; waiting = p.waiting ++ answers p bytes }
 
--- what lives of the pane's terminal
+-- the live state of the pane's terminal
 abbrev pub live_of : Pane → Live
 live_of p = (term p.rows p.cols pane_lines p.log).live
 
@@ -38,7 +38,7 @@ live_of p = (term p.rows p.cols pane_lines p.log).live
 abbrev pub key_bytes : Key → Pane → List ℕ
 key_bytes key p = bytes_of_key (key_modes (live_of p).modes) key
 
--- they wait behind what waits
+-- they are queued behind the earlier ones
 abbrev pub after_key : Key → Pane → Pane
 after_key key p = record { rows = p.rows; cols = p.cols; log = p.log; waiting = p.waiting ++ key_bytes key p }
 
@@ -52,14 +52,14 @@ after_drain n p = record { rows = p.rows; cols = p.cols; log = p.log; waiting = 
 abbrev pub is_same_size : Rect → Rect → Bool
 is_same_size old new = (old.rows == new.rows) && (old.cols == new.cols)
 
--- a pane goes from a rectangle to another: where that has another size, the terminal is given the size
+-- a pane goes from a rectangle to another: if that has another size, the terminal gets the size
 abbrev pub after_move : Rect → Rect → Pane → Pane
 after_move old new p =
     if is_same_size old new then p
     else record { rows = p.rows; cols = p.cols; log = p.log ++ Resized new.rows new.cols ∷ []; waiting = p.waiting }
 
--- what stands at a number that has one rectangle before an act and another after it: a pane whose rectangle goes ends, and one begins where
--- there was none
+-- the pane at a number that has one rectangle before an act and another after it: a pane whose rectangle goes ends, and one begins if there
+-- was none
 abbrev pub pane_after_act : Option Rect → Option Rect → Option Pane → Option Pane
 pane_after_act old None pane = None
 pane_after_act None (Some new) pane = Some (new_pane new)

@@ -1,4 +1,4 @@
--- What the panes of a layout show at their views.
+-- The pictures of the panes of a layout at their views.
 use Rattle.std.specs.Prelude.{◌≡◌, ℕ, true, is_some, List, map, Option}
 use Rattle.std.specs.List.{All}
 use Rattle.std.specs.Coded.{Unit-prop, le_prop}
@@ -20,7 +20,7 @@ shots_of plan terms = map (λ (x : ℕ × Rect). (x.0, shown_by plan terms x.0))
 abbrev pub AreThere : Plan → List (Option TermView) → Type 0
 AreThere plan terms = (p : ℕ) → has p plan.tree ≡ true → is_some (term_at terms p) ≡ true
 
--- what they show are screens
+-- the pictures are screens
 abbrev pub AreScreens : Plan → List (Option TermView) → Type 0
 AreScreens plan terms = All (λ (x : ℕ × Screenshot). IsScreenshot x.1) (shots_of plan terms)
 

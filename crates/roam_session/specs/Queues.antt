@@ -1,4 +1,4 @@
--- What calls make of the terminal of one pane, and of the bytes that wait in it.
+-- The effect of calls on the terminal of one pane, and on its queued bytes.
 use Rattle.std.specs.Prelude.{◌≡◌, ℕ, ◌+◌, ◌≤◌, ◌++◌, nat_lt, min, Bool, List, take, drop, length, Option, Some, None, if◌then◌else◌}
 use Rattle.roam_term.specs.Limits.{most_output}
 use Rattle.roam_cells.specs.declared.faults.Fault.{Fault}
@@ -14,14 +14,14 @@ use Rattle.roam_layout.specs.Layouts.{Plan, panes}
 use Rattle.roam_session.specs.Marks.{touched_marks, view_in}
 use Rattle.roam_session.specs.Stands.{term_at}
 
--- a terminal stands for what it stood for, and what lives, the history and the marks are the same
+-- a terminal models the same log, and the live state, the history and the marks are the same
 pub record Keeps (old new : TermView) : Type 0 where
   pub stands : (rows cols lines : ℕ) (log : List Item) → TermStands old rows cols lines log → TermStands new rows cols lines log
   pub live : new.live ≡ old.live
   pub history : new.history ≡ old.history
   pub marks : new.marks ≡ old.marks
 
--- bytes were given to the terminal of a pane; the rows that it marked were marked in the session, and its own marks were put off
+-- bytes were fed to the terminal of a pane; the rows that it marked were marked in the session, and its own marks were cleared
 pub record IsFed (bytes : List ℕ) (plan : Plan) (p : ℕ) (before after : List Bool) (old new : TermView) : Type 0 where
   pub read : TermView
   pub fed : Fed old read bytes
@@ -29,7 +29,7 @@ pub record IsFed (bytes : List ℕ) (plan : Plan) (p : ℕ) (before after : List
   pub marks : after ≡ touched_marks (rect_in p (panes plan)) (view_in plan p) plan.rows read.marks before
   pub quiet : new ≡ record read { marks = all_off }
 
--- a key's bytes were put behind what waits
+-- a key's bytes were queued behind the earlier ones
 pub record IsKeyed (key : Key) (old new : TermView) : Type 0 where
   pub keeps : Keeps old new
   pub waiting : new.waiting ≡ old.waiting ++ bytes_of_key (key_modes old.live.modes) key
@@ -39,7 +39,7 @@ pub record IsDrained (n : ℕ) (old new : TermView) : Type 0 where
   pub keeps : Keeps old new
   pub waiting : new.waiting ≡ drop n old.waiting
 
--- a rule holds between two terminals, or there are none
+-- a rule relates two terminals, or there are none
 abbrev pub Both : (TermView → TermView → Type 0) → Option TermView → Option TermView → Type 0
 Both rule None None = Unit {0}
 Both rule None (Some new) = ⊥
@@ -52,7 +52,7 @@ pub record ChangesAt (p : ℕ) (rule : TermView → TermView → Type 0) (old ne
   pub here : Both rule (term_at old p) (term_at new p)
   pub others : (k : ℕ) → (k ≡ p → ⊥) → term_at new k ≡ term_at old k
 
--- n is at most what waits, where anything does
+-- n is at most the number of queued bytes, if there are any
 abbrev pub IsWithin : ℕ → Option (List ℕ) → Type 0
 IsWithin n None = Unit {0}
 IsWithin n (Some waiting) = n ≤ length waiting

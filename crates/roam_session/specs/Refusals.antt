@@ -1,4 +1,4 @@
--- What a session refuses after a log, and the bytes that wait in its panes (this project's profile).
+-- The refusals of a session after a log, and the bytes queued in its panes (this project's profile).
 use Rattle.std.specs.Prelude.{ℕ, ◌+◌, ◌*◌, Bool, false, nat_lt, List, length, Option, Some, None, Result, Ok, Err, if◌then◌else◌}
 use Rattle.std.specs.Option.{option_map}
 use Rattle.roam_term.specs.Limits.{most_output, longest_piece}
@@ -9,7 +9,7 @@ use Rattle.roam_cells.specs.declared.faults.Fault.TheVariants.{NoPane, TooLong, 
 use Rattle.roam_session.specs.Panes.{Pane, key_bytes}
 use Rattle.roam_session.specs.Sessions.{Entry, SessionSize, SessionState, key_in, session}
 
--- the bytes that wait in what stands at a number
+-- the bytes queued in the pane at a number
 abbrev pub waiting_in : Option Pane → Option (List ℕ)
 waiting_in pane = option_map (λ (p : Pane). p.waiting) pane
 
@@ -17,8 +17,8 @@ waiting_in pane = option_map (λ (p : Pane). p.waiting) pane
 unfoldable pub output_at : SessionSize → List Entry → ℕ → Option (List ℕ)
 output_at size log p = waiting_in ((session size log).pane p)
 
--- why bytes aren't taken where these wait: there is no pane, they are more than 1,024, or the queue of 65,536 bytes hasn't 12 free bytes
--- for each of them; in this order
+-- The reason for which bytes aren't taken: there is no pane, they are more than 1,024, or the queue of 65,536 bytes hasn't 12 free bytes
+-- for each of them; in this order.
 abbrev pub bytes_refused : List ℕ → Option (List ℕ) → Option Fault
 bytes_refused bytes None = Some NoPane
 bytes_refused bytes (Some waiting) =

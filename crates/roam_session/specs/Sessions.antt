@@ -9,8 +9,8 @@ use Rattle.roam_layout.specs.Rects.{rect_in}
 use Rattle.roam_layout.specs.Layouts.{Plan, Outcome, Laid, Refused, start, outcome_of, panes}
 use Rattle.roam_session.specs.Panes.{Pane, pane_after_act, after_feed, after_key, after_drain}
 
--- what happens in a session: bytes of a pane's program are given to the pane, an act of a client is done, and so many bytes that wait in
--- a pane go to its program
+-- an event of a session: bytes of a pane's program are fed to the pane, an act of a client is done, or so many queued bytes of a pane go to
+-- its program
 pub data Entry : Type 0 where
   Given : (pane : ℕ) → (bytes : List ℕ) → Entry
   Did : (client : ℕ) → (act : Act) → Entry
@@ -21,14 +21,14 @@ pub record SessionSize : Type 0 where
   pub rows : ℕ
   pub cols : ℕ
 
--- a session: its layout, and what stands at each number
+-- a session: its layout, and the pane at each number
 pub record SessionState : Type 0 where
   pub plan : Plan
   pub pane : ℕ → Option Pane
 
 -- ---- one entry
 
--- what a change of one pane makes of a session
+-- the effect of a change of one pane on a session
 abbrev pub at_pane : ℕ → (Pane → Pane) → SessionState → SessionState
 at_pane p change s = record { plan = s.plan; pane = (λ k. if k == p then option_map change (s.pane k) else s.pane k) }
 
@@ -36,7 +36,7 @@ at_pane p change s = record { plan = s.plan; pane = (λ k. if k == p then option
 abbrev pub panes_given : Plan → Plan → (ℕ → Option Pane) → ℕ → Option Pane
 panes_given old new pane k = pane_after_act (rect_in k (panes old)) (rect_in k (panes new)) (pane k)
 
--- what a layout command comes to; a refused one leaves all as it is
+-- the effect of a layout command; a refused one has none
 abbrev pub laid_out : Outcome → SessionState → SessionState
 laid_out (Laid plan) s = record { plan = plan; pane = panes_given s.plan plan s.pane }
 laid_out (Refused fault) s = s

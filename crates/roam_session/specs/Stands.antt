@@ -1,4 +1,4 @@
--- What a session of the code stands for.
+-- The log that a session of the code models.
 use Rattle.std.specs.Prelude.{◌≡◌, ℕ, ◌<◌, ◌∷◌, ◌++◌, [], Bool, false, List, slice_index, slice_index_or, length, Option, Some, None}
 use Rattle.std.specs.Option.{option_map}
 use Rattle.roam_term.specs.Limits.{pane_lines}
@@ -19,8 +19,8 @@ use Rattle.roam_session.specs.Sessions.{Entry, SessionSize, session}
 use Rattle.roam_session.specs.Marks.{marks_after}
 use Rattle.roam_session.specs.Generations.{AreCounted}
 
--- what contracts see of a session: its layout, a terminal or none at each number from 0 to 9, the marks of 200 rows, the face that was
--- kept, and how many panes of each number from 0 to 9 were ever made, modulo 2 ^ 64
+-- the value of a session for contracts: its layout, a terminal or none at each number from 0 to 9, the marks of 200 rows, the kept face,
+-- and how many panes of each number from 0 to 9 were ever made, modulo 2 ^ 64
 pub record SessionView : Type 0 where
   pub plan : Plan
   pub terms : List (Option TermView)
@@ -40,7 +40,7 @@ waiting_at terms p = option_map (λ (t : TermView). t.waiting) (term_at terms p)
 abbrev pub generation_at : SessionView → ℕ → Option ℕ
 generation_at s p = option_map (λ (t : TermView). slice_index s.generations p) (term_at s.terms p)
 
--- ---- what is true of every session
+-- ---- the facts about every session
 
 -- a terminal of its rectangle's size, or neither
 abbrev pub IsPlaced : Option Rect → Option TermView → Type 0
@@ -68,12 +68,12 @@ abbrev pub IsQuietAt : Option TermView → Type 0
 IsQuietAt None = Unit {0}
 IsQuietAt (Some t) = IsQuiet t
 
--- what a terminal shows at a view; none shows nothing anywhere
+-- the picture of a terminal at a view; none shows nothing
 abbrev pub shown_at : ℕ → Option TermView → Screenshot
 shown_at view None = blank_screenshot 2 4
 shown_at view (Some t) = picture_of t.live t.history view
 
--- what stands at a number, at its view in a layout
+-- the picture at a number, at its view in a layout
 abbrev pub shown_by : Plan → List (Option TermView) → ℕ → Screenshot
 shown_by plan terms k = shown_at (slice_index plan.views k) (term_at terms k)
 
@@ -81,7 +81,7 @@ shown_by plan terms k = shown_at (slice_index plan.views k) (term_at terms k)
 abbrev pub face_now : SessionView → Screenshot
 face_now s = face_of s.plan (shown_by s.plan s.terms)
 
--- each pane has its terminal, whose own marks are off, and the face that was kept has each row of the face now whose mark is off
+-- each pane has its terminal, whose own marks are cleared, and the kept face has each unmarked row of the face now
 pub record IsSession (s : SessionView) : Type 0 where
   pub ten : length s.terms ≡ 10
   pub placed : ArePlaced s.plan s.terms
@@ -99,20 +99,20 @@ pub record IsOf (t : TermView) (p : Pane) : Type 0 where
   pub stands : TermStands t p.rows p.cols pane_lines p.log
   pub waiting : t.waiting ≡ p.waiting
 
--- a terminal stands where a pane stands, and none where none
+-- a terminal is there exactly if a pane is
 abbrev pub Agrees : Option TermView → Option Pane → Type 0
 Agrees None None = Unit {0}
 Agrees None (Some p) = ⊥
 Agrees (Some t) None = ⊥
 Agrees (Some t) (Some p) = IsOf t p
 
--- the session is what a size and a log make
+-- the session is the result of a size and a log
 pub record Stands (s : SessionView) (size : SessionSize) (log : List Entry) : Type 0 where
   pub plan : s.plan ≡ (session size log).plan
   pub panes : (k : ℕ) → Agrees (term_at s.terms k) ((session size log).pane k)
   pub generations : AreCounted s.generations size log
 
--- an entry makes one session of another: for every log that the old one stood for, the new one stands for it followed by the entry
+-- an entry makes one session of another: for every log that the old one models, the new one models it followed by the entry
 abbrev pub Appends : SessionView → SessionView → Entry → Type 0
 Appends old new entry = (size : SessionSize) (log : List Entry) → Stands old size log → Stands new size (log ++ entry ∷ [])
 

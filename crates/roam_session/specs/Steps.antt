@@ -1,4 +1,4 @@
--- What an act makes of the terminals: a step for each number, prepared with all its memory and then done.
+-- The effect of an act on the terminals: a step for each number, prepared with all its memory and then done.
 use Rattle.std.specs.Prelude.{◌≡◌, ℕ, [], ◌∷◌, ◌++◌, List, Option, Some, None, slice_index_or, true, false}
 use Rattle.roam_term.specs.Limits.{pane_lines}
 use Rattle.roam_cells.specs.Limits.{IsSize}
@@ -33,7 +33,7 @@ pub record IsMoved (from to : Rect) (old new : TermView) : Type 0 where
   pub stays : is_same_size from to ≡ true → new ≡ old
   pub fitted : is_same_size from to ≡ false → IsFitted to.rows to.cols old new
 
--- what comes of the terminal at a number that has one rectangle before an act and another after it
+-- the result of the terminal at a number that has one rectangle before an act and another after it
 abbrev pub IsGiven : Option Rect → Option Rect → Option TermView → Option TermView → Type 0
 IsGiven from None old None = Unit {0}
 IsGiven from None old (Some new) = ⊥
@@ -58,7 +58,7 @@ Suits (Begin t) old = Unit {0}
 Suits (Fit f) None = Unit {0}
 Suits (Fit f) (Some old) = f.lines ≡ old.history.lines
 
--- what comes of it
+-- its result
 abbrev pub Does : Step → Option TermView → Option TermView → Type 0
 Does Keep old new = new ≡ old
 Does End old new = new ≡ None
@@ -67,7 +67,7 @@ Does (Fit f) None new = new ≡ None
 Does (Fit f) (Some old) None = ⊥
 Does (Fit f) (Some old) (Some new) = IsFitted f.rows f.cols old new
 
--- a step does what the rectangles ask
+-- a step does the change that the rectangles ask for
 pub record Prepares (step : Step) (from to : Option Rect) (old : Option TermView) : Type 0 where
   pub suits : Suits step old
   pub does : (new : Option TermView) → Does step old new → IsGiven from to old new

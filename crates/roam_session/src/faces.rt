@@ -18,8 +18,8 @@ pub fn blank_of(alloc: Global, layout: &Layout) -> Result<RowShot, Fault>
     RowShot::blank(alloc, layout.rows(), layout.cols())
 }
 
-/// The face of a layout whose panes show these pictures: marked rows are built, the others are those of the kept screen; all are built
-/// where this has another size. Refuses want of memory.
+/// Returns the face of a layout whose panes show these pictures: marked rows are built, the others are those of the kept screen; all are
+/// built if this has another size. `OutOfMemory`.
 pub fn face_of<P: Pictures>(
     alloc: Global,
     layout: &Layout,

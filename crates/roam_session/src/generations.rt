@@ -10,7 +10,7 @@ use roam_layout::Layout;
 use roam_layout::rects::rect_of;
 use roam_term::Term;
 
-// How many panes of a number are made where a layout becomes another: one or none.
+// Returns how many panes of a number are made when a layout becomes another: one or none.
 fn made_between(old: &Layout, new: &Layout, pane: u8) -> u64
     ensures made { result ≡ made_between (panes old.now) (panes new.now) pane }
 {
@@ -31,7 +31,7 @@ fn count(generations: &mut [u64; 10], pane: u8, made: u64)
     generations[pane] = generations[pane].wrapping_add(made);
 }
 
-/// Counts the panes that are made where a layout becomes another.
+/// Counts the panes that are made when a layout becomes another.
 pub fn count_generations(generations: &mut [u64; 10], old: &Layout, new: &Layout)
     ensures lives { CountsGenerations old.now new.now generations.old generations.new }
 {

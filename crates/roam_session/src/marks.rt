@@ -37,7 +37,7 @@ fn has_border(x: (Way, Rect), list: &[(Way, Rect)]) -> bool
         .any(|y| is_same_way(x.0, y.0) && is_same_rect(x.1, y.1))
 }
 
-// Whether a row, from 1, has a part of one of these panes that isn't among others.
+// Returns true if a row, from 1, has a part of one of these panes that isn't among others.
 fn loses_pane(row: u16, one: &[(u8, Rect)], other: &[(u8, Rect)]) -> bool
     ensures loses { result ≡ loses_pane row one.now other.now }
 {
@@ -51,7 +51,7 @@ fn loses_border(row: u16, one: &[(Way, Rect)], other: &[(Way, Rect)]) -> bool
         .any(|x| x.1.has_row(row) && !has_border(*x, other))
 }
 
-// Whether a row, from 1, is in the rectangle of a pane or border that comes, goes or changes.
+// Returns true if a row, from 1, is in the rectangle of a pane or border that comes, goes or changes.
 fn is_relaid(old: &Layout, new: &Layout, row: u16) -> bool
     ensures relaid { result ≡ is_relaid old.now new.now row }
 {
@@ -61,7 +61,7 @@ fn is_relaid(old: &Layout, new: &Layout, row: u16) -> bool
         || loses_border(row, new.borders(), old.borders())
 }
 
-// Whether an act shows a row, from 1, anew.
+// Returns true if an act shows a row, from 1, anew.
 fn is_shown_anew(act: &Act, new: &Layout, row: u16) -> bool
     ensures anew { result ≡ is_shown_anew act.now new.now row }
 {
@@ -75,7 +75,7 @@ fn is_shown_anew(act: &Act, new: &Layout, row: u16) -> bool
     }
 }
 
-// Whether a layout command concerns a row, from 0.
+// Returns true if a layout command concerns a row, from 0.
 fn is_concerned(act: &Act, old: &Layout, new: &Layout, row: u16) -> bool
     requires row { row < 200 }
     ensures concerned { result ≡ is_concerned act.now old.now new.now row }
@@ -110,7 +110,7 @@ pub fn mark_laid(marks: &mut [bool; 200], act: &Act, old: &Layout, new: &Layout)
     }
 }
 
-// Whether a pane in a rectangle changes a row, from 0, of a session.
+// Returns true if a pane in a rectangle changes a row, from 0, of a session.
 fn is_touched(rect: Rect, view: u16, rows: u16, named: &[bool], row: u16) -> bool
     requires row { row < 200 }
     requires named { length named.now ≡ rect.rows }

@@ -1,4 +1,4 @@
-//! What the panes of a layout show, of which a row can be asked without the whole.
+//! The pictures of a layout's panes, of which a row can be read without the whole.
 ghost use Rattle.std.specs.Prelude.{◌≡◌, ◌<◌, ◌++◌, ℕ, true, Some, is_some, length, slice_index, IfOk};
 ghost use Rattle.std.proofs.Props.{props};
 ghost use Rattle.roam_cells.specs.Place.{row_of};
@@ -13,7 +13,7 @@ use roam_layout::{Layout, Pictures};
 use roam_term::Term;
 use std::alloc::AllocError;
 
-/// What the panes of a layout show at their views.
+/// The pictures of a layout's panes at their views.
 #[derive(Drop)]
 pub struct PanePictures<'a> {
     pub layout: &'a Layout,
@@ -58,7 +58,7 @@ fn term_of(terms: &[Option<Term>], pane: u8) -> &Term
     }
 }
 
-// Adds a row, from 0, of what a pane of a layout shows.
+// Appends a row, from 0, of the picture of a pane of a layout.
 fn push_row(
     layout: &Layout,
     terms: &[Option<Term>],
@@ -76,7 +76,7 @@ fn push_row(
     term_of(terms, pane).push_row(view, row, cells)
 }
 
-// Adds a row, from 0, of what the pane at an index in tree order shows.
+// Appends a row, from 0, of the picture of the pane at an index in tree order.
 fn push_row_at(
     layout: &Layout,
     terms: &[Option<Term>],
@@ -95,7 +95,7 @@ fn push_row_at(
     push_row(layout, terms, pane, row, cells)
 }
 
-// The cursor of what a pane shows, and whether it is visible; that of a blank screen where the layout has no such pane.
+// Returns the cursor of a pane's picture, and true if it is visible; that of a blank screen if the layout has no such pane.
 fn cursor(layout: &Layout, terms: &[Option<Term>], pane: u8) -> ((u16, u16), bool)
     requires there { AreThere layout.now terms.now }
     ensures row { result.0.0 ≡ (picture_in (shots_of layout.now terms.now) pane).cursor_row }

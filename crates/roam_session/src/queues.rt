@@ -1,4 +1,4 @@
-//! The terminals of panes by their numbers: what their programs send, and the bytes that wait for them.
+//! The terminals of panes by their numbers: the output of their programs, and the bytes queued for them.
 ghost use Rattle.std.specs.Prelude.{◌≡◌, ◌⊎◌, ◌↔◌, ◌+◌, ◌-◌, ◌<◌, ◌≤◌, ◌++◌, ℕ, List, Option, Some, None, length, IfOk, IfErr, IsOk, IsErrOf, OnOk, OnErr};
 ghost use Rattle.std.specs.Option.{option_map, option_copied};
 ghost use Rattle.roam_session.specs.Refusals.{bytes_refused, none_refused, fault_of};
@@ -65,7 +65,7 @@ pub fn feed(
     }
 }
 
-/// Puts a key's bytes behind those that wait in a pane. Refuses `Busy` where they don't fit, and takes no memory.
+/// Queues a key's bytes in a pane. `Busy` if they don't fit. It takes no memory.
 pub fn type_key(terms: &mut Vec<Option<Term>>, pane: u8, key: &Key) -> Result<(), Fault>
     ensures fault { fault_of result ≡ key_refused key.now (term_at terms.old.items pane) }
     ensures keyed { OnOk result (ChangesAt pane (IsKeyed key.now) terms.old.items terms.new.items) }
@@ -125,7 +125,7 @@ pub fn room(terms: &[Option<Term>], pane: u8) -> Option<usize>
     Some(MOST_OUTPUT - term_of(terms, pane)?.output_len())
 }
 
-/// Copies the first bytes that wait in a pane, as many as fit, and tells how many. Refuses `NoPane`.
+/// Copies the first bytes queued in a pane, as many as fit, and returns their number. `NoPane`.
 pub fn copy_output(terms: &[Option<Term>], pane: u8, out: &mut [u8]) -> Result<usize, Fault>
     ensures fault { fault_of result ≡ none_refused (waiting_at terms.now pane) }
     ensures bytes { IfOk result (λ n. IsCopied n out.old out.new (waiting_at terms.now pane)) }

@@ -80,7 +80,7 @@ fn no_terms(alloc: Global) -> Result<Vec<Option<Term>>, Fault>
 }
 
 impl Session {
-    /// A session of one pane that fills all rows but the last, where nothing has happened; `BadSize` outside 4 to 200 rows or 8 to 500
+    /// Returns a session of one pane that fills all rows but the last, before any event. `BadSize` outside 4 to 200 rows or 8 to 500
     /// columns.
     pub fn new(alloc: Global, rows: u16, cols: u16) -> Result<Session, Fault>
         ensures stands { IfOk result (λ session. Stands session (record { rows = rows; cols = cols }) []) }
@@ -142,8 +142,8 @@ impl Session {
         Ok(())
     }
 
-    /// Bytes of a pane's program: its terminal reads them, and what it answers waits. Refuses, in this order, `NoPane`, `TooLong` above
-    /// 1,024 bytes, and `Busy` where the pane's queue hasn't 12 free bytes for each; a refusal changes nothing. It takes no memory.
+    /// Feeds bytes of a pane's program to its terminal, whose answers are queued. `NoPane`, then `TooLong` above 1,024 bytes, then `Busy`
+    /// if the pane's queue hasn't 12 free bytes for each; an error changes nothing. It takes no memory.
     pub fn pane_bytes(&mut self, pane: u8, piece: &[u8]) -> Result<(), Fault>
         ensures given { OnOk result (Appends self.old self.new (Given pane piece.now)) }
         ensures marks { OnOk result (MarksRows self.old self.new (Given pane piece.now)) }
@@ -155,10 +155,9 @@ impl Session {
         queues::feed(&mut self.terms, pane, piece, &self.layout, &mut self.marks)
     }
 
-    /// An act of a client. A key's bytes wait for the pane in focus, or are refused as `Busy` where they don't fit. A layout command
-    /// brings each terminal to its new size; refused as `BadSize`, `TooSmall`, `NoPane`, `PanesFull` or `LastPane` it is done with no
-    /// effect. `Busy` and `OutOfMemory` change nothing; a key takes no memory, and no act that the
-    /// layout refuses wants any.
+    /// Does an act of a client. A key's bytes are queued in the pane in focus; `Busy` if they don't fit. A layout command brings each
+    /// terminal to its new size; if the layout returns `BadSize`, `TooSmall`, `NoPane`, `PanesFull` or `LastPane` it has no effect. `Busy`
+    /// and `OutOfMemory` change nothing. A key takes no memory, nor does an act that the layout refuses.
     pub fn act(&mut self, alloc: Global, client: u64, act: &Act) -> Result<(), Fault>
         requires in_range { IsInRange act.now }
         ensures done { OnOk result (Appends self.old self.new (Did client act.now)) }
@@ -180,8 +179,8 @@ impl Session {
         }
     }
 
-    /// The screen that the session shows: its panes at their views, the borders between them, and the status text. Its marked rows are
-    /// built, the others are those of the face that was kept; of a pane without a marked row no cell is looked at. Refuses want of memory.
+    /// Returns the screen of the session: its panes at their views, the borders between them, and the status text. Marked rows are built,
+    /// the others are those of the kept face; no cell of a pane without a marked row is read. `OutOfMemory`.
     pub fn face(&self, alloc: Global) -> Result<RowShot, Fault>
         ensures face { IfOk result (λ shot. (size : SessionSize) (log : List Entry)
             → Stands self.now size log → shot ≡ face size log) }
@@ -217,7 +216,8 @@ impl Session {
         self.kept = shot;
     }
 
-    /// Which making of a pane of this number is there, counted from 1 modulo 2^64; `None` where no such pane is there. It takes no memory.
+    /// Returns the generation of the pane with this number, counted from 1 modulo 2^64; `None` if there is no such pane. It takes no
+    /// memory.
     pub fn generation(&self, pane: u8) -> Option<u64>
         ensures life { result ≡ generation_at self.now pane }
         ensures stands { (size : SessionSize) (log : List Entry)
@@ -226,7 +226,7 @@ impl Session {
         generations::generation(&self.terms, &self.generations, pane)
     }
 
-    /// Where a pane is, rows and columns from 1; `None` where no pane of this number is there. It takes no memory.
+    /// Returns the rectangle of a pane, rows and columns from 1; `None` if there is no pane with this number. It takes no memory.
     pub fn rect(&self, pane: u8) -> Option<Rect>
         ensures rect { (size : SessionSize) (log : List Entry) → Stands self.now size log → result ≡ rect_at size log pane }
     {
@@ -258,7 +258,7 @@ impl Session {
         queues::room(&self.terms, pane)
     }
 
-    /// Copies the first bytes that wait in a pane, as many as fit, and tells how many. Refuses `NoPane`. It takes no memory.
+    /// Copies the first bytes queued in a pane, as many as fit, and returns their number. `NoPane`. It takes no memory.
     pub fn output(&self, pane: u8, out: &mut [u8]) -> Result<usize, Fault>
         ensures fault { (size : SessionSize) (log : List Entry)
             → Stands self.now size log → fault_of result ≡ none_refused (output_at size log pane) }

@@ -1,7 +1,7 @@
-//! What an act makes of the terminals: all that takes memory first, then the change.
+//! The effect of an act on the terminals: everything that takes memory first, then the change.
 use roam_term::{Fitted, Term};
 
-/// What becomes of the terminal at a number; all memory that it takes is there.
+/// The change of the terminal at a number, with all the memory that it takes.
 #[derive(Drop)]
 pub enum Step {
     /// It stays, or none is there.

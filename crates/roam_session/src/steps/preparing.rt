@@ -44,7 +44,7 @@ fn move_to(alloc: Global, term: &Term, from: Rect, to: Rect) -> Result<Step, Fau
     Ok(Step::Fit(term.fit(alloc, to.rows, to.cols)?))
 }
 
-// The step of what stands at a number that has one rectangle before an act and another after it.
+// Returns the step of a number that has one rectangle before an act and another after it.
 fn step_for(
     alloc: Global,
     term: &Option<Term>,
@@ -108,7 +108,7 @@ pub fn prepare(
     Ok(steps)
 }
 
-// Puts a terminal, or none, where another was or none.
+// Puts a terminal, or none, in the place of another or none.
 fn put(place: &mut Option<Term>, term: Option<Term>)
     ensures put { place.new ≡ term }
 {

@@ -5,7 +5,7 @@ use Rattle.roam_layout.proofs.Stepping.{pane_and_border, last_pane}
 use Rattle.roam_layout.proofs.faces.push_segments.Goals.{then-k-borders+in_ok-push_border, else-k-borders}
 use Rattle.roam_layout.proofs.faces.push_segments.Goals as goal
 
--- what is read past the end of a list
+-- the value read past the end of a list
 abbrev none : ℕ × Screenshot
 none = (0, blank_screenshot 2 4)
 
