@@ -116,13 +116,13 @@ read_after kind fields rest a long e fits =
     let back : drop n (fields ++ rest) ≡ rest = rw (← long) (drop-append_seam fields rest) in
     rw (whole, front, back, e, fits) refl
 
--- the act that stands first is read
+-- the act at the front is read
 pub first_again : (a : Act) (rest : List ℕ) → IsAct a → first_act (act_text a ++ rest) ≡ Some (a, rest)
 first_again a rest h =
     ap (λ k. after_tag k (fields_of a ++ rest)) (tagged_again (kind_of a))
     ∙ read_after (kind_of a) (fields_of a) rest a (width a) (again a h) (in_range a h.0)
 
--- ---- what was read stands there
+-- ---- the text that was read is there
 
 -- an act of a kind with these fields, in its ranges or not
 pub record Stands (kind : Kind) (fields : List ℕ) (a : Act) : Type 0 where

@@ -83,13 +83,13 @@ no_number text h = by (is_integer (signed_digits_value 10 text) text) refl
     by true e = let both = is_number_true (signed_digits_value 10 text) text e in absurd (h (signed_digits_value 10 text) both.0 both.1)
     by false e = refl
 
--- what is no text is no number
+-- bytes that are no text are no number
 pub no_text : {S E : Type 0} (text : List ℕ) (r : Result S E) (P : S → Type 0) (Q : E → Type 0) → None ≡ result_ok r → MatchResult r P (λ e. (¬ (IsUtf8 text)) × Q e) → integer_in text ≡ None
 no_text text (Ok s) P Q none h = absurd cc
 no_text text (Err e) P Q none h =
     no_number text (λ z fits is. h.0 (subst IsUtf8 (sym is) (IsUtf8-from_ascii (signed_decimal z) (IsAscii-signed z (mag_small z fits)))))
 
--- what doesn't parse is no number
+-- text that doesn't parse is no number
 pub no_parse : {E : Type 0} (text : List ℕ) (r : Result ℤ E) → None ≡ result_ok r → ParsesSigned w16 10 text r → integer_in text ≡ None
 no_parse text r none parses =
     no_number text (λ z fits is. let ok = parse-signed_decimal w16 z text r fits (mag_small z fits) is parses in absurd cc)

@@ -1,4 +1,4 @@
--- The test of an act's ranges says what the ranges say.
+-- The test of an act's ranges is true exactly within the ranges.
 use Rattle.std.proofs.Common.{◌≡◌, true, refl, arith}
 use Rattle.std.proofs.lemmas.Int.{ints}
 use Rattle.std.proofs.lemmas.Bool.Decides.{nat_tests}

@@ -34,7 +34,7 @@ use Rattle.roam_acts.proofs.Ranges.{has_range, in_range}
 use Rattle.roam_acts.proofs.Fields.{small_fits}
 use Rattle.roam_acts.proofs.Tables.{head_found, headed_again, name_found}
 
--- ---- what is spelled is read
+-- ---- a spelling is read
 
 natural_fits : (n : ℕ) → n ≤ 9999 → FitsSigned w16 (pos n)
 natural_fits n le = record { sfits = omega (arith, le) }
@@ -100,7 +100,7 @@ line_again a line is s =
     ∙ ap only_ranged (argument_again a text is s.2)
     ∙ one
 
--- ---- what is read is spelled
+-- ---- the act read is the one spelled
 
 pub record ActWith (k : Kind) (text : List ℕ) (a : Act) : Type 0 where
   pub same_kind : kind_of a ≡ k

@@ -1,4 +1,4 @@
--- What of a stretch is fresh follows what was taken.
+-- The fresh acts of a stretch follow the acts taken.
 use Rattle.std.proofs.Common.{◌≡◌, ℕ, ◌+◌, ◌-◌, ◌≤◌, true, false, ltb, List, [], ◌++◌, length, take, drop, inl, inr, sym, ap, ◌∙◌, arith, append_assoc, append-nil}
 use Rattle.std.proofs.Math.Seq.{take-append_seam}
 use Rattle.std.proofs.lemmas.Bool.{cases_lt, le-ltb, lt-ltb}

@@ -1,4 +1,4 @@
--- What the tables of keys and kinds give back.
+-- The results of lookups in the tables of keys and kinds.
 use Rattle.std.proofs.Common.{◌≡◌, ℕ, Bool, true, false, cond, eqb, List, [], ◌∷◌, Option, Some, ◌⊎◌, inl, inr, refl, sym, ap, ◌∙◌, ◌++◌, ◌≤◌, length, drop, arith}
 use Rattle.std.specs.List.{find, list_all, starts_with}
 use Rattle.std.specs.Prelude.{nat_eq}
@@ -21,7 +21,7 @@ chosen : {X : Type 0} (b : Bool) (y x : X) (r : Option X) → cond b (Some y) r 
 chosen true y x r e = inl (refl, cc)
 chosen false y x r e = inr e
 
--- what was found passes, and stood in the list
+-- a found element passes, and was in the list
 pub found : {X : Type 0} (p q : X → Bool) (xs : List X) (x : X) → list_all q xs ≡ true → find p xs ≡ Some x → (p x ≡ true) × (q x ≡ true)
 found p q [] x all e = absurd cc
 found p q (y ∷ ys) x all e =

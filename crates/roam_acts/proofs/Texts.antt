@@ -1,4 +1,4 @@
--- What is read of a text of acts, and what a loop over it has read so far.
+-- The acts read from a text, and those that a loop over it has read so far.
 use Rattle.std.proofs.Common.{◌≡◌, ℕ, zero, suc, ◌+◌, ◌-◌, ◌<◌, ◌≤◌, true, List, [], ◌∷◌, ◌++◌, length, Option, Some, None, refl, sym, ap, subst, ◌∙◌, arith, append_assoc, append-nil}
 use Rattle.std.specs.List.{All, AllByRecursion}
 use Rattle.std.specs.Prelude.{Result, Ok, Err, IfOk, IsSome, MatchResult, Vec, is_some}
@@ -28,7 +28,7 @@ pub record IsText (count : ℕ) (bytes : List ℕ) (acts : List Act) : Type 0 wh
   pub all : AllByRecursion IsAct acts
   pub text : bytes ≡ acts_text acts
 
--- what is read is a text
+-- the acts read are a text
 abbrev Finds : ℕ → Type 0
 Finds count = (bytes : List ℕ) (acts : List Act) → IsBytes bytes → acts_in count bytes ≡ Some acts → IsText count bytes acts
 
@@ -69,7 +69,7 @@ one_list (x ∷ xs) (y ∷ ys) p q e =
 
 -- ---- a loop over a text
 
--- after some acts were read, what is left decides
+-- after some acts were read, the rest decides
 abbrev pub SoFar : ℕ → List ℕ → ℕ → List Act → List ℕ → Type 0
 SoFar count bytes counter acts rest = acts_in count bytes ≡ option_map (λ more. acts ++ more) (acts_in (count - counter) rest)
 
@@ -115,7 +115,7 @@ pub sofar_left : (count counter : ℕ) (bytes rest : List ℕ) (acts : List Act)
 sofar_left count counter bytes [] acts le e so = absurd (e refl)
 sofar_left count counter bytes (b ∷ rest) acts le e so = sofar_end count counter bytes (b ∷ rest) acts le so
 
--- nothing was read yet, or an act that stands first
+-- nothing was read yet, or there is an act at the front
 abbrev pub HasFirst : List ℕ → ℕ → List ℕ → Type 0
 HasFirst bytes counter rest = ((counter ≡ 0) × (rest ≡ bytes)) ⊎ IsSome (first_act bytes)
 

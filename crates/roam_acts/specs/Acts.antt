@@ -36,6 +36,6 @@ abbrev pub HasKey : Act → Type 0
 HasKey (Key k) = IsKey k
 HasKey _ = Unit {0}
 
--- what a line or a text can stand for
+-- an act that a line or a text can spell
 abbrev pub IsAct : Act → Type 0
 IsAct act = IsInRange act × HasKey act

@@ -16,7 +16,7 @@ abbrev pub key_fields : Key → List ℕ
 key_fields (Char c) = big_bytes 4 c
 key_fields key = number_of key ∷ []
 
--- what follows an act's tag; a number with a sign is in two's complement
+-- the fields behind an act's tag; a number with a sign is in two's complement
 abbrev pub fields_of : Act → List ℕ
 fields_of (act.Key key) = key_fields key
 fields_of SplitRight = []

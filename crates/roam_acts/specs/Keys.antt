@@ -59,11 +59,11 @@ entry_of PadEnter = record { number = 43; name = codes "padenter" }
 entry_of Return = record { number = 44; name = codes "return" }
 entry_of Backspace = record { number = 45; name = codes "backspace" }
 
--- the number that stands for a key in bytes, from 1; 0 for a character
+-- the number of a key in bytes, from 1; 0 for a character
 abbrev pub number_of : Key → ℕ
 number_of key = (entry_of key).number
 
--- the name that stands for a key in lines; empty for a character
+-- the name of a key in lines; empty for a character
 abbrev pub name_of : Key → List ℕ
 name_of key = (entry_of key).name
 

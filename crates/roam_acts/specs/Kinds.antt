@@ -1,4 +1,4 @@
--- The kinds of acts, and what stands before an act's fields in lines and bytes (this project's profile).
+-- The kinds of acts, and the head of each in lines and bytes (this project's profile).
 use Rattle.std.specs.Prelude.{ℕ, ◌==◌, List, [], ◌∷◌, codes, Option}
 use Rattle.std.specs.List.{find, starts_with}
 use Rattle.roam_acts.specs.declared.acts.Act.{Act}
@@ -32,7 +32,7 @@ pub record Entry : Type 0 where
   pub width : ℕ
   pub head : List ℕ
 
--- the table of kinds: the byte that stands first in bytes, how many bytes follow it, and how a line begins
+-- the table of kinds: the first byte in bytes, the number of bytes behind it, and the beginning of a line
 abbrev pub entry_of : Kind → Entry
 entry_of Char = record { tag = 0x01; width = 4; head = codes "char " }
 entry_of Named = record { tag = 0x02; width = 1; head = codes "key " }
@@ -45,7 +45,7 @@ entry_of Grow = record { tag = 0x15; width = 2; head = codes "grow " }
 entry_of Size = record { tag = 0x16; width = 4; head = codes "size " }
 entry_of View = record { tag = 0x17; width = 2; head = codes "view " }
 
--- the byte that stands first
+-- the first byte
 abbrev pub tag_of : Kind → ℕ
 tag_of kind = (entry_of kind).tag
 

@@ -1,4 +1,4 @@
--- Limits of what is numbered and sent (this project's profile).
+-- Limits of numbers and texts (this project's profile).
 use Rattle.std.specs.Prelude.{ℕ, ◌^◌}
 
 -- numbers of states, datagrams, instructions and acts are below this one

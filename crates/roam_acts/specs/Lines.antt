@@ -1,4 +1,4 @@
--- Acts as lines of text (this project's profile). Words stand one space apart.
+-- Acts as lines of text (this project's profile). One space separates words.
 use Rattle.std.specs.Prelude.{◌≡◌, ℕ, ◌≤◌, false, List, [], ◌∷◌, ◌++◌, length, decimal}
 use Rattle.std.specs.Fmt.{digits, signed_decimal}
 use Rattle.std.specs.Str.Parse.{IsNumeral, digits_value}
@@ -19,7 +19,7 @@ abbrev pub key_argument : Key → List ℕ
 key_argument (Char c) = digits 16 false c
 key_argument key = name_of key
 
--- what is written after the head of an act's line; decimals have no plus and no leading zero
+-- the text behind the head of an act's line; decimals have no plus and no leading zero
 abbrev pub argument_of : Act → List ℕ
 argument_of (act.Key key) = key_argument key
 argument_of SplitRight = []
@@ -35,12 +35,12 @@ argument_of (View by) = signed_decimal by
 abbrev pub line_of : Act → List ℕ
 line_of a = head_of (kind_of a) ++ argument_of a
 
--- what may be read after the head of a key's line: a code point has more than one spelling, a name has one
+-- the text that may follow the head of a key's line: a code point has more than one spelling, a name has one
 abbrev pub IsKeyArgument : Key → List ℕ → Type 0
 IsKeyArgument (Char c) text = IsHexadecimal text c
 IsKeyArgument key text = text ≡ name_of key
 
--- what may be read after the head of an act's line: what would be written, or another spelling of a code point
+-- the text that may follow the head of an act's line: the written one, or another spelling of a code point
 abbrev pub IsArgument : Act → List ℕ → Type 0
 IsArgument (act.Key key) text = IsKeyArgument key text
 IsArgument a text = text ≡ argument_of a

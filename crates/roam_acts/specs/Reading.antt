@@ -1,4 +1,4 @@
--- How the code reads acts, step by step. No public clause speaks of it: what reading means is said by the grammars of Bytes and Lines.
+-- The reading of acts by the code, step by step. No public clause cites it: the grammars of Bytes and Lines define reading.
 use Rattle.std.specs.Prelude.{ℕ, ℤ, zero, suc, ◌+◌, ◌==◌, Bool, ◌&&◌, List, [], ◌∷◌, take, drop, slice_index, nat_le, nat_lt, length, int_le, pos, negsuc, Option, Some, None, if◌then◌else◌}
 use Rattle.std.specs.Fmt.{signed_decimal}
 use Rattle.std.specs.List.{position}
@@ -20,7 +20,7 @@ use Rattle.roam_acts.specs.Kinds.{head_of, headed_in, kinds, tagged_in, width_of
 
 -- ---- bytes
 
--- the act by a character, where the number is a scalar value
+-- the act of a character, if the number is a scalar value
 abbrev pub character : ℕ → Option Act
 character c = if scalar c then Some (act.Key (key.Char c)) else None
 
@@ -37,7 +37,7 @@ act_of_fields Grow fields = Some (act.Grow (cast_signed w16 (big_number 2 fields
 act_of_fields Size fields = Some (act.Size (big_number 2 fields) (big_number 2 (drop 2 fields)))
 act_of_fields View fields = Some (act.View (cast_signed w16 (big_number 2 fields)))
 
--- an act and what follows it, where the act is in its ranges
+-- an act and the rest behind it, if the act is in its ranges
 abbrev pub act_in_range : Option Act → List ℕ → Option (Act × List ℕ)
 act_in_range None rest = None
 act_in_range (Some a) rest = if is_in_range a then Some (a, rest) else None
@@ -49,7 +49,7 @@ after_tag (Some kind) rest =
     if nat_lt (length rest) (width_of kind) then None
     else act_in_range (act_of_fields kind (take (width_of kind) rest)) (drop (width_of kind) rest)
 
--- the act that stands first, and what follows it
+-- the act at the front, and the rest behind it
 abbrev pub first_act : List ℕ → Option (Act × List ℕ)
 first_act [] = None
 first_act (tag ∷ rest) = after_tag (tagged_in kinds tag) rest
@@ -59,7 +59,7 @@ abbrev pub and_then : (List ℕ → Option (List Act)) → Option (Act × List �
 and_then read None = None
 and_then read (Some p) = option_map (λ acts. p.0 ∷ acts) (read p.1)
 
--- no acts, where nothing is left
+-- no acts, if nothing is left
 abbrev pub nothing_left : List ℕ → Option (List Act)
 nothing_left [] = Some []
 nothing_left (_ ∷ _) = None
@@ -71,7 +71,7 @@ acts_in (suc count) bytes = and_then (acts_in count) (first_act bytes)
 
 -- ---- lines
 
--- a number, where it is a scalar value
+-- a number, if it is a scalar value
 abbrev pub only_scalar : Option ℕ → Option ℕ
 only_scalar None = None
 only_scalar (Some c) = if scalar c then Some c else None
@@ -105,17 +105,17 @@ size_of (Some rows) (Some cols) = Some (act.Size rows cols)
 size_of (Some _) None = None
 size_of None _ = None
 
--- the act by two numbers, the first as long as told
+-- the act of two numbers, the first of the stated length
 abbrev pub size_at : Option ℕ → List ℕ → Option Act
 size_at None text = None
 size_at (Some space) text = size_of (natural (integer_in (take space text))) (natural (integer_in (drop (space + 1) text)))
 
--- an act of which nothing more is to be told
+-- an act without further fields
 abbrev pub bare : Act → List ℕ → Option Act
 bare a [] = Some a
 bare a (_ ∷ _) = None
 
--- the act that is told by what follows its kind's head
+-- the act of the text behind its kind's head
 abbrev pub act_of_argument : Kind → List ℕ → Option Act
 act_of_argument Char text = option_map (λ c. act.Key (key.Char c)) (scalar_in text)
 act_of_argument Named text = option_map act.Key (named_in named_keys text)
@@ -128,12 +128,12 @@ act_of_argument Grow text = option_map act.Grow (integer_in text)
 act_of_argument Size text = size_at (position (λ byte. byte == 0x20) text) text
 act_of_argument View text = option_map act.View (integer_in text)
 
--- an act, where it is in its ranges
+-- an act, if it is in its ranges
 abbrev pub only_ranged : Option Act → Option Act
 only_ranged None = None
 only_ranged (Some a) = if is_in_range a then Some a else None
 
--- the act that is told after a kind's head
+-- the act behind a kind's head
 abbrev pub after_head : Option Kind → List ℕ → Option Act
 after_head None line = None
 after_head (Some kind) line = only_ranged (act_of_argument kind (drop (length (head_of kind)) line))

@@ -40,14 +40,14 @@ IsFull s = length s.acts ≡ most_unacknowledged
 abbrev pub IsSpent : Typing → Type 0
 IsSpent s = (length s.acts < most_unacknowledged) × (last_number s + 1 ≡ number_limit)
 
--- the acts up to a number are dropped, where that number was typed and isn't acknowledged
+-- the acts up to a number are dropped, if that number was typed and isn't acknowledged
 abbrev pub acked_to : Typing → ℕ → Typing
 acked_to s number =
     if nat_le number s.acked then s
     else if nat_lt (last_number s) number then s
     else record { acked = number; acts = drop (number - s.acked) s.acts }
 
--- a sender stands for all acts that were typed, the first under the number 1: the acknowledged ones and, after them, those that it holds
+-- a sender models all acts that were typed, the first under the number 1: the acknowledged ones and, after them, those that it keeps
 pub record HasTyped (s : Typing) (all : List Act) : Type 0 where
   pub known : s.acked ≤ length all
   pub held : s.acts ≡ drop s.acked all

@@ -1,20 +1,20 @@
-//! Acts: what a client asks of a session.
+//! Acts: the requests of a client to a session.
 ghost use Rattle.std.specs.Prelude.{◌≡◌, ◌↔◌, IsTrue};
 ghost use Rattle.roam_acts.specs.Acts.{is_in_range, IsInRange};
 
 use crate::limits::{MOST_GROWTH, MOST_LENGTH, MOST_PANES, MOST_VIEW};
 use roam_keys::Key;
 
-/// What a client asks of a session: a key for the pane in focus, or a layout command.
+/// A request of a client to a session: a key for the pane in focus, or a layout command.
 #[derive(Clone, Copy, Debug, PartialEq, Eq)]
 pub enum Act {
     /// A key for the pane in focus.
     Key(Key),
 
-    /// Splits the pane in focus; the new pane stands at its right.
+    /// Splits the pane in focus; the new pane is at its right.
     SplitRight,
 
-    /// Splits the pane in focus; the new pane stands below it.
+    /// Splits the pane in focus; the new pane is below it.
     SplitDown,
 
     /// Closes the pane in focus.
@@ -37,8 +37,8 @@ pub enum Act {
 }
 
 impl Act {
-    /// Whether the act's numbers are in their ranges: a pane 1 to 9, a growth -99 to 99, rows and columns 0 to 9,999,
-    /// a view -500 to 500.
+    /// Returns true if the act's numbers are in their ranges: a pane 1 to 9, a growth -99 to 99, rows and columns 0 to 9,999, a view -500
+    /// to 500.
     pub fn in_range(&self) -> bool
         ensures test { result ≡ is_in_range self.now }
         ensures in_range { IsTrue result ↔ IsInRange self.now }

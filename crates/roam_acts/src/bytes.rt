@@ -33,7 +33,7 @@ fn fields_of(act: Act) -> [u8; 4]
     fields
 }
 
-// Adds one act's text; after an error some of it may stand there.
+// Appends one act's text; after an error a part of it may be there.
 fn write_act(act: Act, out: &mut Vec<u8>) -> Result<(), AllocError>
     ensures written { OnOk result (out.new.items ≡ out.old.items ++ act_text act) }
     ensures before { (n : ℕ) → n ≤ length out.old.items → take n out.new.items ≡ take n out.old.items }
@@ -84,7 +84,7 @@ fn act_of_fields(kind: Kind, fields: &[u8]) -> Option<Act>
     Some(act)
 }
 
-// The act that stands first, and what follows it.
+// Returns the act at the front, and the rest behind it.
 fn first_act(bytes: &[u8]) -> Option<(Act, &[u8])>
     ensures act { MatchOption result (first_act bytes.now ≡ None) (λ p. first_act bytes.now ≡ Some (p.0, p.1.now)) }
 {
@@ -103,7 +103,7 @@ fn first_act(bytes: &[u8]) -> Option<(Act, &[u8])>
     }
 }
 
-// The acts that fill the bytes, as many as told.
+// Returns the acts that fill the bytes, `count` of them.
 fn acts_in(alloc: Global, count: usize, bytes: &[u8]) -> Result<Vec<Act>, Fault>
     ensures acts { MatchResult result (λ v. acts_in count bytes.now ≡ Some v.items)
         (λ e. (e ≡ Fault.OutOfMemory) ⊎ ((e ≡ Fault.BadDatagram Reason.Length) × (acts_in count bytes.now ≡ None))) }
@@ -125,13 +125,13 @@ fn acts_in(alloc: Global, count: usize, bytes: &[u8]) -> Result<Vec<Act>, Fault>
     Ok(acts)
 }
 
-/// The acts of a text that has exactly `count` of them and nothing after. `BadDatagram(Length)` where the bytes are no
-/// such text, `OutOfMemory` only where they begin with the text of an act in its ranges, and never for a count of 0.
+/// Returns the acts of a text that has exactly `count` of them and nothing after. `BadDatagram(Length)` if the bytes are no such text.
+/// `OutOfMemory` only if they begin with the text of an act in its ranges, and never for a count of 0.
 pub fn read_acts(alloc: Global, count: usize, bytes: &[u8]) -> Result<Vec<Act>, Fault>
-    // What is read has this text.
+    // The acts read have this text.
     ensures found { IfOk result (λ v. (length v.items ≡ count) × All IsAct v.items × (bytes.now ≡ acts_text v.items)) }
     ensures in_range { IfOk result (λ v. All IsInRange v.items) }
-    // What has this text is read.
+    // The acts with this text are read.
     ensures only { (acts : List Act) → length acts ≡ count → All IsAct acts → bytes.now ≡ acts_text acts
         → MatchResult result (λ v. v.items ≡ acts) (λ e. e ≡ Fault.OutOfMemory) }
     ensures fault { IfErr result (λ e. (e ≡ Fault.OutOfMemory) ⊎ (e ≡ Fault.BadDatagram Reason.Length)) }

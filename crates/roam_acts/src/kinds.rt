@@ -1,4 +1,4 @@
-//! The kinds of acts, with what stands before an act's fields in lines and bytes.
+//! The kinds of acts, with the head of each in lines and bytes.
 ghost use Rattle.std.specs.Prelude.{◌≡◌, ◌≤◌};
 ghost use Rattle.roam_acts.specs.Kinds.{head_of, headed_in, kind_of, kinds, tag_of, tagged_in, width_of};
 

@@ -1,4 +1,4 @@
-//! What holds of the grammars and of the two ends together, whatever calls were made.
+//! Laws of the grammars and of the two ends together, whatever calls were made.
 ghost use Rattle.std.specs.Prelude.{◌≡◌, ℕ, ◌+◌, ◌≤◌, ◌++◌, List, length, take};
 ghost use Rattle.std.specs.List.{All};
 ghost use Rattle.roam_acts.specs.declared.acts.Act.{Act};
@@ -23,8 +23,8 @@ pub fn written_lines_spell()
     ensures spells { (a : Act) → IsAct a → Spells (line_of a) a }
 {}
 
-/// The fresh acts of any stretch follow those taken: a front of the typed acts that was taken grows to a longer front, whatever
-/// stretches arrive, how often and in which order.
+/// The fresh acts of any stretch follow those taken: a taken front of the typed acts grows to a longer front, whatever stretches arrive,
+/// how often and in which order.
 pub fn fresh_acts_follow()
     ensures follow { (all acts : List Act) (taken first : ℕ) → taken ≤ length all → IsStretch all first acts
         → take taken all ++ fresh_of taken first acts ≡ take (taken + length (fresh_of taken first acts)) all }

@@ -1,4 +1,4 @@
-//! Keys and acts: what a client types, as values, lines and bytes, and the two ends that carry acts once and in order.
+//! Keys and acts, the input of a client, as values, lines and bytes; and the two ends that carry acts once and in order.
 #![tactic(auto)]
 
 pub mod acts;

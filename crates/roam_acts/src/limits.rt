@@ -1,4 +1,4 @@
-//! Limits of acts and of what is numbered.
+//! Limits of acts and of numbers.
 
 /// Numbers of states, datagrams, instructions and acts are below this one.
 pub const NUMBER_LIMIT: u64 = 1 << 62;

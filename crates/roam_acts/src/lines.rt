@@ -126,7 +126,7 @@ fn bare(act: Act, text: &[u8]) -> Option<Act>
     if text.is_empty() { Some(act) } else { None }
 }
 
-// The act that is told by what follows its kind's head, in its ranges or not.
+// Returns the act of the text behind its kind's head, in its ranges or not.
 fn act_of_argument(kind: Kind, text: &[u8]) -> Option<Act>
     ensures act { result ≡ act_of_argument kind text.now }
 {
@@ -154,12 +154,12 @@ fn act_in(line: &[u8]) -> Option<Act>
     if act.in_range() { Some(act) } else { None }
 }
 
-/// The act that a line without its end spells. `BadAct` where it spells none that is in its ranges.
+/// Returns the act that a line without its end spells. `BadAct` if it spells none that is in its ranges.
 pub fn read_act(line: &[u8]) -> Result<Act, Fault>
-    // What is read is spelled so.
+    // The act read is spelled so.
     ensures found { IfOk result (λ a. IsAct a × Spells line.now a) }
     ensures in_range { IfOk result IsInRange }
-    // What is spelled so is read.
+    // An act spelled so is read.
     ensures only { (a : Act) → IsAct a → Spells line.now a → result ≡ Ok a }
     ensures fault { IsOkUnless result Fault.BadAct }
 {

@@ -1,4 +1,4 @@
-//! The sending end of acts: what was typed and isn't known to have arrived.
+//! The sending end of acts: acts that were typed and aren't known to have arrived.
 ghost use Rattle.std.specs.Prelude.{◌≡◌, ◌+◌, ◌<◌, ◌≤◌, ◌↔◌, ◌⊎◌, ◌^◌, List, [], ◌∷◌, ◌++◌, length, take, drop, OnOk, OnErr, IfErr, IsErrOf};
 ghost use Rattle.roam_acts.specs.Senders.{acked_to, last_number, start, after_typing, after_typing_all, HasTyped, HasNoRoom, IsFull, IsShort, IsSpent, IsStretch};
 ghost use Rattle.roam_acts.specs.Limits.{number_limit, most_acts, most_unacknowledged};
@@ -40,8 +40,8 @@ impl ActSender {
         }
     }
 
-    /// Adds an act with the next number. `Busy` where 1,024 acts are unacknowledged, `Spent` where its number would be
-    /// 2^62, `OutOfMemory`; a refused act leaves the sender as it was.
+    /// Adds an act with the next number. `Busy` if 1,024 acts are unacknowledged, `Spent` if its number would be 2^62, `OutOfMemory`; an
+    /// error leaves the sender as it was.
     pub fn typed(&mut self, act: Act) -> Result<(), Fault>
         ensures ok { OnOk result (self.new ≡ after_typing self.old act) }
         ensures stands { OnOk result ((all : List Act) → HasTyped self.old all → HasTyped self.new (all ++ act ∷ [])) }
@@ -60,9 +60,9 @@ impl ActSender {
         Ok(())
     }
 
-    /// Adds acts with the next numbers, in their order: all of them, or none. `Busy` where more than 1,024 would be unacknowledged
-    /// then, `Spent` where the last would have the number 2^62 or a greater one, `OutOfMemory`; a refusal leaves the sender as it was.
-    /// An empty list is always taken.
+    /// Adds acts with the next numbers, in their order: all of them, or none. `Busy` if more than 1,024 would be unacknowledged then,
+    /// `Spent` if the last number would be 2^62 or more, `OutOfMemory`; an error leaves the sender as it was. An empty list is always
+    /// taken.
     pub fn typed_all(&mut self, acts: &[Act]) -> Result<(), Fault>
         ensures ok { OnOk result (self.new ≡ after_typing_all self.old acts.now) }
         ensures stands { OnOk result ((all : List Act) → HasTyped self.old all → HasTyped self.new (all ++ acts.now)) }
@@ -70,7 +70,7 @@ impl ActSender {
         ensures spent { IsErrOf result Fault.Spent ↔ IsShort self.old (length acts.now) }
         ensures err { OnErr result (self.new ≡ self.old) }
         ensures fault { IfErr result (λ e. (e ≡ Fault.OutOfMemory) ⊎ (e ≡ Fault.Busy) ⊎ (e ≡ Fault.Spent)) }
-        // No memory is asked for where nothing is to be added.
+        // No memory is asked for if there is nothing to add.
         ensures memory { IsErrOf result Fault.OutOfMemory → 0 < length acts.now }
     {
         if acts.len() > MOST_UNACKNOWLEDGED - self.acts.len() {
@@ -91,7 +91,7 @@ impl ActSender {
         self.acts.len()
     }
 
-    /// Drops the acts up to this number, where it was typed; any other number changes nothing.
+    /// Drops the acts up to this number, if it was typed; any other number changes nothing.
     pub fn acked(&mut self, number: u64)
         ensures acked { self.new ≡ acked_to self.old number }
         ensures stands { (all : List Act) → HasTyped self.old all → HasTyped self.new all }

@@ -36,7 +36,7 @@ impl ActTaker {
         self.count
     }
 
-    /// Of the acts that begin with the number `first`, those above the count: none where an act between is missing.
+    /// Returns the acts above the count among those that begin with the number `first`; none if an act between is missing.
     pub fn fresh<'a>(&self, first: u64, acts: &'a [Act]) -> &'a [Act]
         ensures fresh { result.now ≡ fresh_of self.now first acts.now }
         ensures most { length result.now ≤ length acts.now }

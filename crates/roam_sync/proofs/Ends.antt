@@ -48,7 +48,7 @@ module _ {S : Type 0} where
         | inr rest ↦ last_greatest h hs m rising.1 rest
       ]
 
-  -- an acknowledgement of a number that is held
+  -- an acknowledgement of a kept number
   pub acked_held : (hs : List (Held S)) (k : ℕ) → is_held hs k ≡ true → IsAmong k (held_numbers hs)
   acked_held [] k there = absurd cc
   acked_held (h ∷ hs) k there =
@@ -166,7 +166,7 @@ module _ {S : Type 0} where
         | inr e ↦ rw e (elim among [ inl same ↦ absurd (grind (arith, nat_tests)) | inr rest ↦ found n ps rest ])
       ]
 
-  -- what an update meets that is new
+  -- the facts about a new update
   pub fresh_means : (r : Receiving S) (old new floor : ℕ) → step_for r old new floor ≡ step.New
       → (r.newest.number < new) × (length (from_floor floor (pairs r)) ≤ 7)
   fresh_means r old new floor is =
@@ -183,7 +183,7 @@ module _ {S : Type 0} where
             ]
       ]
 
-  -- what an update meets that is above the newest, from a state that is there, with room for its own
+  -- the facts about an update above the newest, from a state that is there, with room for its own
   pub meets_new : (r : Receiving S) (old new floor : ℕ) → r.newest.number < new → IsAmong old (had_numbers (pairs r))
       → length (from_floor floor (pairs r)) ≤ 7 → step_for r old new floor ≡ step.New
   meets_new r old new floor above there room =

@@ -1,4 +1,4 @@
--- Lists of numbers: what is among them, what rises, and how many there can be.
+-- Lists of numbers: members, rising lists, and their greatest length.
 use Rattle.std.proofs.Common.{◌≡◌, ◌⊎◌, ℕ, ◌<◌, ◌≤◌, Bool, true, false, leb, ltb, List, [], ◌∷◌, ◌++◌, length, filter, refl, sym, ap, ◌∙◌, inl, inr, arith}
 use Rattle.std.proofs.lemmas.Bool.{cases_Bool}
 use Rattle.std.proofs.lemmas.Bool.Decides.{nat_tests}
@@ -20,7 +20,7 @@ among_cases n (k ∷ ns) ms h =
       | inr r ↦ elim (among_cases n ns ms r) [ inl a ↦ inl (inr a) | inr b ↦ inr b ]
     ]
 
--- what passes a test was there
+-- an element that passes a test was there
 pub among_filter : (f : ℕ → Bool) (n : ℕ) (ns : List ℕ) → IsAmong n (filter f ns) → IsAmong n ns
 among_filter f n [] h = h
 among_filter f n (k ∷ ns) h =
@@ -29,7 +29,7 @@ among_filter f n (k ∷ ns) h =
       | inr e ↦ inr (among_filter f n ns (rw e at h))
     ]
 
--- what is there and passes the test stays
+-- an element that is there and passes the test stays
 pub among_passes : (f : ℕ → Bool) (n : ℕ) (ns : List ℕ) → f n ≡ true → IsAmong n ns → IsAmong n (filter f ns)
 among_passes f n [] t h = h
 among_passes f n (k ∷ ns) t h =

@@ -1,4 +1,4 @@
--- What a receiver holds stays in order.
+-- The states of a receiver stay in order.
 use Rattle.std.proofs.Common.{◌≡◌, ℕ, ◌<◌, ◌≤◌, leb, List, [], ◌∷◌, ◌++◌, refl, arith, inl, inr}
 use Rattle.std.proofs.lemmas.Bool.{cases_Bool}
 use Rattle.roam_sync.specs.declared.receivers.Pair.{Pair}

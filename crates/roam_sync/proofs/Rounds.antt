@@ -1,4 +1,4 @@
--- What follows where both ends of a link are in step: no gap, no ninth pair, and one round brings the newest.
+-- Consequences of two ends in step: no gap, no ninth pair, and one round brings the newest.
 use Rattle.std.proofs.Common.{◌≡◌, ◌⊎◌, ℕ, ◌<◌, ◌≤◌, true, false, eqb, leb, List, [], ◌∷◌, length, filter, Option, refl, sym, ◌∙◌, inl, inr, arith}
 use Rattle.std.proofs.lemmas.Bool.{eq-eqb, ne_eqb}
 use Rattle.roam_sync.specs.declared.senders.Held.{Held}
@@ -15,7 +15,7 @@ cases_le a b = grind arith
 
 module _ {S : Type 0} (s : Sending S) (r : Receiving S) (WasSent : Update → Type 0) (WasAnswered : ℕ → Type 0)
     (l : AreInStep s r WasSent WasAnswered) where
-  -- an update that was ever sent starts from a pair that is there, and there is room for its own, where it is above the newest
+  -- an update that was ever sent starts from a pair that is there, with room for its own, if it is above the newest
   pub room_for : (u : Update) → WasSent u → r.newest.number < u.new
       → IsAmong u.old (numbers_had r) × (length (from_floor u.floor (pairs r)) ≤ 7)
   room_for u sent above =
@@ -56,7 +56,7 @@ module _ {S : Type 0} (s : Sending S) (r : Receiving S) (WasSent : Update → Ty
       let low = newest_greatest r.earlier r.newest s.base.number l.receiver_rises l.base_there in
       last_greatest s.base s.later r.newest.number l.sender_rises (l.from_base r.newest.number (newest_among r.earlier r.newest) low)
 
-  -- what the receiver has once an update of the newest came, where memory isn't wanting
+  -- the state of the receiver after an update of the newest, if there is memory
   pub one_round : (applied : S → List ℕ → Option S) (r' : Receiving S) (u : Update) → WasSent u → u.new ≡ (newest s).number
       → Delivers applied r u r'
       → ((r' ≡ r) ⊎ Hears applied r u r') × (r'.newest.number ≡ (newest s).number)

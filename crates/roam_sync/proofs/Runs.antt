@@ -1,4 +1,4 @@
--- What holds of one link after every list of events.
+-- The facts about one link after every list of events.
 use Rattle.std.proofs.Common.{◌≡◌, ◌⊎◌, ℕ, false, List, [], ◌∷◌, ◌++◌, Option, Some, refl, sym, ap, subst, ◌∙◌, inl, inr, arith, length-append}
 use Rattle.std.specs.Prelude.{Contains}
 use Rattle.std.proofs.lemmas.Bool.{cases_Bool}
@@ -50,7 +50,7 @@ module _ {S : Type 0} (applied : S → List ℕ → Option S) (states : ℕ → 
     in_step = in_step_at_first (states 0) (Contains []) (Contains []) nothing nothing;
   }
 
-  -- what a step leaves: the small invariant, then the large one
+  -- a step keeps the small invariant, then the large one
   holds_then : (link after : Link S) (e : Event) → Follows applied states link e after → Holds link → Holds after
   holds_then link after (Offer n) f h =
       subst Holds (sym f.2) (record {
@@ -92,7 +92,7 @@ module _ {S : Type 0} (applied : S → List ℕ → Option S) (states : ℕ → 
   abbrev newest_number : Link S → ℕ
   newest_number link = (newest link.sender).number
 
-  -- what an event makes of the newest number
+  -- the effect of an event on the newest number
   offered_then : (link after : Link S) (e : Event) (es : List Event) → Follows applied states link e after
       → last_offered (newest_number after) es ≡ last_offered (newest_number link) (e ∷ es)
   offered_then link after (Offer n) es f =
@@ -104,7 +104,7 @@ module _ {S : Type 0} (applied : S → List ℕ → Option S) (states : ℕ → 
   offered_then link after Answer es f = ap (λ m. last_offered m es) (ap newest_number f)
   offered_then link after (Acknowledge n) es f = ap (λ m. last_offered m es) (ap newest_number f.1 ∙ acked_newest link.sender n)
 
-  -- the newest that is held is the last that was offered
+  -- the newest kept number is the last that was offered
   offered_after : (link after : Link S) (es : List Event) → Becomes applied states link es after
       → newest_number after ≡ last_offered (newest_number link) es
   offered_after link after [] run = ap newest_number run

@@ -1,4 +1,4 @@
--- What a sender holds stays in order.
+-- The states of a sender stay in order.
 use Rattle.std.proofs.Common.{◌≡◌, ℕ, zero, suc, ◌-◌, ◌<◌, ◌≤◌, true, false, eqb, List, [], ◌∷◌, ◌++◌, length, take, get_or, set, refl, sym, ap, ◌∙◌, arith, inl, inr}
 use Rattle.roam_sync.specs.declared.senders.Held.{Held}
 use Rattle.roam_sync.specs.Senders.{AreAbove, last_of, mark_base, mark_last, is_held, after_ack}
@@ -49,7 +49,7 @@ pub number-mark_base : {S : Type 0} (base : Held S) (hs : List (Held S)) → (ma
 number-mark_base base [] = refl
 number-mark_base base (h ∷ hs) = refl
 
--- a number that isn't held drops nothing
+-- a number that isn't kept drops nothing
 pub after_ack-none : {S : Type 0} (all : Held S × List (Held S)) (hs : List (Held S)) (k : ℕ) → is_held hs k ≡ false
     → after_ack all hs k ≡ all
 after_ack-none all [] k h = refl
@@ -59,7 +59,7 @@ after_ack-none all (g ∷ hs) k h =
       | inr e ↦ rw e (after_ack-none all hs k (rw e at h))
     ]
 
--- what is left is in order, and no more than before
+-- the rest is in order, and no longer than before
 pub after_ack-rising : {S : Type 0} (all : Held S × List (Held S)) (n : ℕ) (hs : List (Held S)) (k : ℕ)
     → AreAbove n hs → is_held hs k ≡ true
     → (length (after_ack all hs k).1 ≤ length hs) × AreAbove (after_ack all hs k).0.number (after_ack all hs k).1

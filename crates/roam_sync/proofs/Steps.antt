@@ -58,7 +58,7 @@ module _ {S : Type 0} (s : Sending S) (r : Receiving S) (WasSent : Update → Ty
         };
       }
 
-  -- a state is offered, with a number above the newest, where fewer than eight are held
+  -- a state is offered, with a number above the newest, if fewer than eight are kept
   pub in_step_offered : (n : ℕ) (state : S) → (newest s).number < n → count s < 8 → AreInStep (offered s n state) r WasSent WasAnswered
   in_step_offered n state above room =
       record {
@@ -89,7 +89,7 @@ module _ {S : Type 0} (s : Sending S) (r : Receiving S) (WasSent : Update → Ty
       still : (m : ℕ) → IsAmong m (numbers_held s) → IsAmong m (numbers_held (offered s n state))
       still m held = rw (map-append (λ h. h.number) s.later (more ∷ [])) (among_left m (numbers_held s) (n ∷ []) held)
 
-  -- the base moves to a number that is held, and was acknowledged
+  -- the base moves to a kept number that was acknowledged
   base_moved : (k : ℕ) → is_held s.later k ≡ true → WasAnswered k → AreInStep (acked s k) r WasSent WasAnswered
   base_moved k there answered =
       record {
@@ -307,7 +307,7 @@ module _ {S : Type 0} (s : Sending S) (r : Receiving S) (WasSent : Update → Ty
       room : length (from_floor u.floor (pairs r)) ≤ 7
       room = (fresh_means r u.old u.new u.floor hears.fresh).1
 
-      -- what the receiver has then
+      -- the numbers of the receiver then
       then_had : numbers_had r' ≡ filter (leb u.old) (numbers_had r) ++ u.new ∷ []
       then_had =
           numbers_of_pairs r'.earlier r'.newest

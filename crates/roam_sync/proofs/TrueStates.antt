@@ -136,7 +136,7 @@ module _ {S : Type 0} (applied : S → List ℕ → Option S) (Is : ℕ → S �
         updates = link.updates;
       }
 
-  -- what is true stays true, and no more was sent
+  -- true pairs stay true, and no more was sent
   pub true_still : (Then : ℕ → S → Type 0) (IsSentNow : Update → Type 0) → ((n : ℕ) (a : S) → Is n a → Then n a)
       → ((u : Update) → IsSentNow u → WasSent u) → TrueLink applied Then s r IsSentNow
   true_still Then IsSentNow still fewer = record {

@@ -1,4 +1,4 @@
--- What may happen to one link, and what holds after every list of it.
+-- The events of one link, and the facts after every list of them.
 use Rattle.std.specs.Prelude.{◌≡◌, ◌≢◌, ◌⊎◌, ℕ, ◌<◌, ◌≤◌, List, [], ◌∷◌, ◌++◌, length, Contains, Option, Some}
 use Rattle.roam_sync.specs.Limits.{most_held}
 use Rattle.roam_sync.specs.declared.receivers.Step.TheVariants as step
@@ -7,7 +7,7 @@ use Rattle.roam_sync.specs.Receivers.{Receiving, pairs, state_at, step_for, star
 use Rattle.roam_sync.specs.Links.{Update, update_of, IsChange, Hears, Delivers, numbers_held, numbers_had, IsAmong, IsRising}
 use Rattle.roam_sync.specs.TrueLinks.{HoldsTrueStates, HasTrueStates}
 
--- Both ends, all updates that were ever sent, and all numbers that were ever acknowledged: what was sent may come late, again, in another
+-- Both ends, all updates that were ever sent, and all numbers that were ever acknowledged. Anything sent may come late, again, in another
 -- order or never.
 pub record Link (S : Type 0) : Type 0 where
   pub sender : Sending S
@@ -19,7 +19,7 @@ pub record Link (S : Type 0) : Type 0 where
 abbrev pub begun : {S : Type 0} → S → Link S
 begun state = record { sender = sender_start state; receiver = receiver_start state; updates = []; answers = [] }
 
--- What may happen. A call that is refused or changes nothing is no event, nor is a loss.
+-- The events. A call that is refused or changes nothing is no event, nor is a loss.
 pub data Event : Type 0 where
   -- the state of this number is offered
   Offer : ℕ → Event
@@ -32,7 +32,7 @@ pub data Event : Type 0 where
   -- an acknowledgement that was ever sent comes to the sender
   Acknowledge : ℕ → Event
 
--- what an event makes of a link, where `states` are the true states of the numbers
+-- the effect of an event on a link, with `states` as the true states of the numbers
 abbrev pub Follows : {S : Type 0} → (S → List ℕ → Option S) → (ℕ → S) → Link S → Event → Link S → Type 0
 Follows applied states link (Offer n) after =
     ((newest link.sender).number < n) × (count link.sender < most_held)
@@ -45,13 +45,13 @@ Follows {S} applied states link (Deliver u) after =
 Follows applied states link Answer after = after ≡ record link { answers = link.answers ++ link.receiver.newest.number ∷ [] }
 Follows applied states link (Acknowledge n) after = Contains link.answers n × (after ≡ record link { sender = acked link.sender n })
 
--- what a list of events makes of a link
+-- the effect of a list of events on a link
 abbrev pub Becomes : {S : Type 0} → (S → List ℕ → Option S) → (ℕ → S) → Link S → List Event → Link S → Type 0
 Becomes applied states link [] after = after ≡ link
 Becomes {S} applied states link (e ∷ es) after =
     (next : Link S) × Follows applied states link e next × Becomes applied states next es after
 
--- what a list of events makes of a new link
+-- the effect of a list of events on a new link
 abbrev pub Runs : {S : Type 0} → (S → List ℕ → Option S) → (ℕ → S) → List Event → Link S → Type 0
 Runs applied states events link = Becomes applied states (begun (states 0)) events link
 
@@ -78,14 +78,14 @@ abbrev pub NumbersRise : {S : Type 0} → (S → List ℕ → Option S) → Type
 NumbersRise {S} applied = (states : ℕ → S) (events : List Event) (link : Link S) → Runs applied states events link
     → IsRising (numbers_held link.sender) × IsRising (numbers_had link.receiver)
 
--- the receiver has the sender's base, and what the receiver has from there on the sender holds too
+-- the receiver has the sender's base, and the sender has all that the receiver has from there on
 abbrev pub BaseIsShared : {S : Type 0} → (S → List ℕ → Option S) → Type 0
 BaseIsShared {S} applied = (states : ℕ → S) (events : List Event) (link : Link S) → Runs applied states events link
     → IsAmong link.sender.base.number (numbers_had link.receiver)
     × ((n : ℕ) → IsAmong n (numbers_had link.receiver) → link.sender.base.number ≤ n → IsAmong n (numbers_held link.sender))
 
--- Each update that was ever sent leads from the state of its old number to the state of its new one; and the receiver has the old number,
--- or a newest one that isn't below the new.
+-- Each update that was ever sent leads from the state of its old number to the state of its new one. The receiver has the old number, or a
+-- newest one that isn't below the new.
 abbrev pub UpdatesLeadOn : {S : Type 0} → (S → List ℕ → Option S) → Type 0
 UpdatesLeadOn {S} applied = (states : ℕ → S) (events : List Event) (link : Link S) → Runs applied states events link
     → (u : Update) → Contains link.updates u
@@ -109,7 +109,7 @@ NoNinthPair {S} applied = (states : ℕ → S) (events : List Event) (link : Lin
     → (count link.sender ≤ most_held) × (length (pairs link.receiver) ≤ most_held)
 
 -- After any list of events, the newest is sent, and its update comes. Then the receiver has the newest number that was offered, with its
--- state; and where it acknowledges that, the sender holds nothing older.
+-- state. If it acknowledges that, the sender has nothing older.
 abbrev pub OneRoundSuffices : {S : Type 0} → (S → List ℕ → Option S) → Type 0
 OneRoundSuffices {S} applied = (states : ℕ → S) (events : List Event) (link : Link S) → Runs applied states events link
     → (now : ℕ) (change : List ℕ) → IsChange applied link.sender change

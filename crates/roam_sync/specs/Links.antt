@@ -1,12 +1,12 @@
--- The link between a sender and a receiver: the pairs at both ends, and the updates that go from one to the other (this project's profile
--- of Mosh's State Synchronization Protocol).
+-- The link between a sender and a receiver: the pairs at both ends, and the updates between them (this project's profile of Mosh's State
+-- Synchronization Protocol).
 use Rattle.std.specs.Prelude.{◌≡◌, ◌≢◌, ◌⊎◌, ℕ, ◌<◌, List, [], ◌∷◌, Option, map}
 use Rattle.roam_sync.specs.declared.senders.Held.{Held}
 use Rattle.roam_sync.specs.declared.receivers.Step.TheVariants as step
 use Rattle.roam_sync.specs.Senders.{Sending, newest}
 use Rattle.roam_sync.specs.Receivers.{Receiving, pairs, step_for, Takes}
 
--- what an instruction tells (Mosh: a transport instruction)
+-- the contents of an instruction (Mosh: a transport instruction)
 pub record Update : Type 0 where
   pub old : ℕ
   pub new : ℕ
@@ -26,16 +26,16 @@ pub record Hears {S : Type 0} (applied : S → List ℕ → Option S) (r : Recei
   pub fresh : step_for r u.old u.new u.floor ≡ step.New
   pub takes : Takes applied r u.old u.new u.floor u.change r'
 
--- an update comes to a receiver, and memory isn't wanting: where it is new, it is taken; else nothing changes
+-- an update comes to a receiver that has memory: if it is new, it is taken; else nothing changes
 pub record Delivers {S : Type 0} (applied : S → List ℕ → Option S) (r : Receiving S) (u : Update) (r' : Receiving S) : Type 0 where
   pub fresh : step_for r u.old u.new u.floor ≡ step.New → Takes applied r u.old u.new u.floor u.change r'
   pub other : step_for r u.old u.new u.floor ≢ step.New → r' ≡ r
 
--- all pairs that a sender holds
+-- all pairs of a sender
 abbrev pub held : {S : Type 0} → Sending S → List (Held S)
 held s = s.base ∷ s.later
 
--- the numbers that a sender holds
+-- the numbers of a sender
 abbrev pub numbers_held : {S : Type 0} → Sending S → List ℕ
 numbers_held s = map (λ h. h.number) (held s)
 

@@ -1,4 +1,4 @@
--- What a receiver holds, and how an instruction changes it (this project's profile of Mosh's State Synchronization Protocol).
+-- The states of a receiver, and the effect of an instruction (this project's profile of Mosh's State Synchronization Protocol).
 use Rattle.std.specs.Prelude.{◌≡◌, ℕ, ◌<◌, List, [], ◌∷◌, ◌++◌, length, filter, Option, Some, None, is_none, nat_le, ◌==◌, if◌then◌else◌}
 use Rattle.roam_sync.specs.Limits.{most_held}
 use Rattle.roam_sync.specs.declared.receivers.Pair.{Pair}
@@ -18,7 +18,7 @@ pairs r = r.earlier ++ r.newest ∷ []
 abbrev pub start : {S : Type 0} → S → Receiving S
 start state = record { earlier = []; newest = record { number = 0; state = state } }
 
--- the number of the first pair, or n where there is none
+-- the number of the first pair, or n if there is none
 abbrev pub first_number : {S : Type 0} → List (Pair S) → ℕ → ℕ
 first_number [] n = n
 first_number (p ∷ ps) n = p.number
@@ -28,7 +28,7 @@ abbrev pub AreBelow : {S : Type 0} → List (Pair S) → ℕ → Type 0
 AreBelow [] n = Unit {0}
 AreBelow (p ∷ ps) n = (p.number < first_number ps n) × AreBelow ps n
 
--- the state that is held with this number
+-- the state with this number
 abbrev pub state_at : {S : Type 0} → ℕ → List (Pair S) → Option S
 state_at n [] = None
 state_at n (p ∷ ps) = if p.number == n then Some p.state else state_at n ps
@@ -37,7 +37,7 @@ state_at n (p ∷ ps) = if p.number == n then Some p.state else state_at n ps
 abbrev pub from_floor : {S : Type 0} → ℕ → List (Pair S) → List (Pair S)
 from_floor floor ps = filter (λ p. nat_le floor p.number) ps
 
--- what an instruction meets
+-- the kind of an instruction to a receiver
 abbrev pub step_for : {S : Type 0} → Receiving S → ℕ → ℕ → ℕ → Step
 step_for r old new floor =
     if nat_le new r.newest.number then step.Old

@@ -1,4 +1,4 @@
--- What a sender holds, and how its calls change it (this project's profile of Mosh's State Synchronization Protocol).
+-- The states of a sender, and the effects of its calls (this project's profile of Mosh's State Synchronization Protocol).
 use Rattle.std.specs.Prelude.{ℕ, ◌+◌, ◌-◌, ◌<◌, Bool, true, false, not, ◌||◌, ◌&&◌, List, [], ◌∷◌, ◌++◌, length, take, nat_lt, nat_le, ◌==◌, if◌then◌else◌}
 use Rattle.roam_sync.specs.Moments.{resend_after, heartbeat}
 use Rattle.roam_sync.specs.declared.senders.Held.{Held}
@@ -24,7 +24,7 @@ last_of base (h ∷ hs) = last_of h hs
 abbrev pub newest : {S : Type 0} → Sending S → Held S
 newest s = last_of s.base s.later
 
--- how many pairs are held
+-- the number of pairs
 abbrev pub count : {S : Type 0} → Sending S → ℕ
 count s = length s.later + 1
 
@@ -40,23 +40,23 @@ offered s n state = record s { later = s.later ++ record { number = n; state = s
 abbrev pub withdrawn : {S : Type 0} → Sending S → Sending S
 withdrawn s = record s { later = take (length s.later - 1) s.later }
 
--- the pairs from number k on: where k is held, it is the base
+-- the pairs from number k on: if k is kept, it is the base
 abbrev pub after_ack : {S : Type 0} → Held S × List (Held S) → List (Held S) → ℕ → Held S × List (Held S)
 after_ack all [] k = all
 after_ack all (h ∷ hs) k = if h.number == k then (h, hs) else after_ack all hs k
 
--- where k is held, the pairs before it are dropped; else nothing is
+-- if k is kept, the pairs before it are dropped; else nothing is
 abbrev pub acked : {S : Type 0} → Sending S → ℕ → Sending S
 acked s k =
     let all = after_ack (s.base, s.later) s.later k in
     record { base = all.0; later = all.1; last = s.last }
 
--- this number is held
+-- this number is kept
 abbrev pub is_held : {S : Type 0} → List (Held S) → ℕ → Bool
 is_held [] k = false
 is_held (h ∷ hs) k = if h.number == k then true else is_held hs k
 
--- the base is marked as sent, where no other is held
+-- the base is marked as sent, if no other is kept
 abbrev pub mark_base : {S : Type 0} → Held S → List (Held S) → Held S
 mark_base base [] = record base { sent = true }
 mark_base base (h ∷ hs) = base
@@ -71,6 +71,6 @@ mark_last (h ∷ g ∷ hs) = h ∷ mark_last (g ∷ hs)
 abbrev pub sent_at : {S : Type 0} → Sending S → ℕ → Sending S
 sent_at s now = record { base = mark_base s.base s.later; later = mark_last s.later; last = now }
 
--- The newest was never sent, or several are held and 250 ms passed since the last sending, or 3,000 ms did.
+-- The newest was never sent, or several are kept and 250 ms passed since the last sending, or 3,000 ms did.
 abbrev pub is_due : {S : Type 0} → Sending S → ℕ → Bool
 is_due s now = not (newest s).sent || (nat_lt 0 (length s.later) && nat_le resend_after (now - s.last)) || nat_le heartbeat (now - s.last)

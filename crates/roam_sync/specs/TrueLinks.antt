@@ -5,7 +5,7 @@ use Rattle.roam_sync.specs.Senders.{Sending}
 use Rattle.roam_sync.specs.Receivers.{Receiving, pairs}
 use Rattle.roam_sync.specs.Links.{Update, held}
 
--- each pair that the sender holds is true
+-- each pair of the sender is true
 abbrev pub HoldsTrueStates : {S : Type 0} → (ℕ → S → Type 0) → Sending S → Type 0
 HoldsTrueStates Is s = All (λ h. Is h.number h.state) (held s)
 
@@ -21,7 +21,7 @@ pub record LeadsTruly {S : Type 0} (applied : S → List ℕ → Option S) (Is :
   pub to_true : Is u.new state
   pub leads : applied base u.change ≡ Some state
 
--- what is true of a link after each step: that the base is among the sender's pairs is the form of `Sending`
+-- the facts about a link after each step; the form of `Sending` has the base among the sender's pairs
 pub record TrueLink {S : Type 0} (applied : S → List ℕ → Option S) (Is : ℕ → S → Type 0) (s : Sending S) (r : Receiving S)
     (WasSent : Update → Type 0) : Type 0 where
   pub sender : HoldsTrueStates Is s

@@ -1,7 +1,8 @@
 //! The two ends of a link of numbered states, over any lawful state.
 //!
-//! The model is Mosh's State Synchronization Protocol. Deviations of this project's profile: a sender holds at most eight states and drops
-//! none that it was not told of; a change is always against the base, which the other end is known to have; an end measures no time.
+//! The model is Mosh's State Synchronization Protocol. This project's profile deviates in three points. A sender keeps at most eight states
+//! and drops none without an acknowledgement. A change is always against the base, which the other end is known to have. An end measures no
+//! time.
 #![tactic(auto)]
 
 pub mod laws;

@@ -1,6 +1,6 @@
-//! How much an end holds, and when a sender is due.
+//! The number of states that an end keeps, and the times at which a sender is due.
 
-/// The most states that an end holds.
+/// The most states that an end keeps.
 pub const MOST_HELD: usize = 8;
 
 /// Milliseconds after which a newest state that the other end isn't known to have is sent again.

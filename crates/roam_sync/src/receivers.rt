@@ -11,14 +11,14 @@ use std::alloc::Global;
 use std::marker::Model;
 use std::mem;
 
-/// A state with its number, as a receiver holds it.
+/// A state of a receiver with its number.
 #[derive(Drop)]
 pub struct Pair<S> {
     pub number: u64,
     pub state: S,
 }
 
-/// What an instruction was.
+/// The kind of an instruction.
 #[derive(Clone, Copy, Debug, PartialEq, Eq)]
 pub enum Step {
     /// It leads to nothing newer.
@@ -67,9 +67,9 @@ impl<S: Synced> Receiver<S> {
         (self.newest.number, &self.newest.state)
     }
 
-    /// Takes an instruction that leads from the state numbered `old` to the one numbered `new`: `Old` where that isn't above the newest;
-    /// `Gap` where the old state isn't held, or a ninth would stand once those below `floor` are dropped; else the change is applied to a
-    /// copy of the old state. Refuses a change that leads to no state as `BadChange`, and want of memory.
+    /// Takes an instruction that leads from the state numbered `old` to the one numbered `new`. `Old` if that isn't above the newest. `Gap`
+    /// if the old state isn't there, or there would be a ninth after those below `floor` are dropped. Else the change is applied to a copy
+    /// of the old state. `BadChange` if it leads to no state, `OutOfMemory`.
     pub fn take(
         &mut self,
         alloc: Global,

@@ -10,16 +10,16 @@ use roam_update::Synced;
 use std::alloc::Global;
 use std::marker::Model;
 
-/// A state with its number, as a sender holds it.
+/// A state of a sender with its number.
 #[derive(Drop)]
 pub struct Held<S> {
     pub number: u64,
     pub state: S,
-    /// Whether it was ever sent.
+    /// True if it was ever sent.
     pub sent: bool,
 }
 
-/// What leads the other end from the state numbered `old` to the one numbered `new`, and lets it drop the states below `floor`.
+/// The change that leads the other end from the state numbered `old` to the one numbered `new`, and lets it drop the states below `floor`.
 #[derive(Drop)]
 pub struct Instruction {
     pub old: u64,
@@ -28,8 +28,8 @@ pub struct Instruction {
     pub change: Vec<u8>,
 }
 
-/// The states that the other end may still need, each with its number: the base, which the other end is known to have, and those after
-/// it; and the moment of the last sending, in milliseconds.
+/// The states that the other end may still need, each with its number: the base, which the other end is known to have, and those after it;
+/// and the moment of the last sending, in milliseconds.
 #[derive(Drop)]
 pub struct Sender<S> {
     base: Held<S>,
@@ -65,7 +65,7 @@ impl<S: Synced> Sender<S> {
         })
     }
 
-    /// How many states are held.
+    /// Returns the number of states.
     pub fn len(&self) -> usize
         ensures value { result ≡ count self.now }
         ensures most { result ≤ most_held }
@@ -80,8 +80,8 @@ impl<S: Synced> Sender<S> {
         newest_of(&self.base, self.later.as_slice()).number
     }
 
-    /// Holds one more state, to be sent; its number is above all that are held. `SendFull` where eight states are held, `OutOfMemory`; a
-    /// refused state is dropped.
+    /// Adds one more state, to be sent; its number is above all others. `SendFull` if there are eight states, `OutOfMemory`; a refused
+    /// state is dropped.
     #[tactic(auto, using(crate::proofs::Sending::newest_of_more))]
     pub fn offer(&mut self, number: u64, state: S) -> Result<(), Fault>
         requires newer { (newest self.old).number < number }
@@ -105,7 +105,7 @@ impl<S: Synced> Sender<S> {
         Ok(())
     }
 
-    /// Drops the newest state, so that a refused call takes its offer back; two or more are held.
+    /// Drops the newest of two or more states, so that a refused call takes its offer back.
     pub fn withdraw(&mut self)
         requires several { 2 ≤ count self.old }
         ensures withdrawn { self.new ≡ withdrawn self.old }
@@ -113,7 +113,7 @@ impl<S: Synced> Sender<S> {
         let _ = self.later.pop();
     }
 
-    /// Drops the states before this number, where it is held; another number changes nothing.
+    /// Drops the states before this number, if it is kept; another number changes nothing.
     pub fn acked(&mut self, number: u64)
         ensures acked { self.new ≡ acked self.old number }
     {
@@ -122,7 +122,7 @@ impl<S: Synced> Sender<S> {
         }
     }
 
-    /// What leads the other end from the base to the newest state. Refuses want of memory.
+    /// Returns the instruction that leads the other end from the base to the newest state. `OutOfMemory`.
     pub fn instruction(&self, alloc: Global) -> Result<Instruction, Fault>
         ensures old { IfOk result (λ i. i.old ≡ self.now.base.number) }
         ensures floor { IfOk result (λ i. i.floor ≡ self.now.base.number) }
@@ -144,8 +144,8 @@ impl<S: Synced> Sender<S> {
         })
     }
 
-    /// Whether the newest state is to be sent at this moment: it was never sent, or it isn't the base and 250 ms passed since the last
-    /// sending, or 3,000 ms did. A moment before the last sending counts as that one.
+    /// Returns true if the newest state should be sent at this moment: it was never sent, or it isn't the base and 250 ms passed since the
+    /// last sending, or 3,000 ms did. A moment before the last sending counts as that one.
     pub fn due(&self, now: u64) -> bool
         ensures due { result ≡ is_due self.now now }
     {
@@ -189,7 +189,7 @@ fn mark_newest<S>(base: &mut Held<S>, later: &mut Vec<Held<S>>)
     later[at].sent = true;
 }
 
-// Whether a state of this number is held.
+// Returns true if there is a state of this number.
 fn is_later<S>(later: &[Held<S>], number: u64) -> bool
     ensures held { result ≡ is_held later.now number }
 {

@@ -1,4 +1,4 @@
--- What a text makes of a base, by the answers of the tests.
+-- The result of a text on a base, by the results of the tests.
 use Rattle.std.proofs.Common.{◌≡◌, ℕ, ◌*◌, ◌<◌, ◌≤◌, Bool, true, false, cond, leb, List, length, drop, Option, Some, None, refl, sym, ap, subst, ◌∙◌}
 use Rattle.std.specs.Prelude.{All, option_and_then, slice_index}
 use Rattle.std.proofs.lemmas.Bool.{le-leb, lt-leb, leb-true, and_parts}
@@ -60,7 +60,7 @@ pub cells_in_is : (base : Screenshot) (h : Head) (text : List ℕ) (table : Tabl
     → cells_in base h text ≡ cells_by (Numbered table.styles 0) (big_number 4 table.rest) base h (drop 4 table.rest)
 cells_in_is base h text table e long = ap (λ (o : Option Table). option_and_then (cells_behind base h) o) e ∙ rw (le-leb 4 (length table.rest) long) refl
 
--- there are none where no number of runs stands behind the table
+-- there are none if no number of runs follows the table
 pub no_cells_in : (base : Screenshot) (h : Head) (text : List ℕ) (table : Table) → table_in text ≡ Some table → length table.rest < 4 → cells_in base h text ≡ None
 no_cells_in base h text table e short = ap (λ (o : Option Table). option_and_then (cells_behind base h) o) e ∙ rw (lt-leb 4 (length table.rest) short) refl
 

@@ -1,4 +1,4 @@
--- What is read of a cell is spelled so.
+-- A cell that is read is spelled so.
 use Rattle.std.proofs.Common.{◌≡◌, ℕ, zero, suc, ◌+◌, ◌*◌, ◌/◌, ◌%◌, ◌<◌, ◌≤◌, Bool, true, false, cond, eqb, leb, ◌&&◌, List, [], ◌∷◌, ◌++◌, length, drop, Option, Some, None, refl, sym, ap, subst, ◌∙◌, append_assoc, arith}
 use Rattle.std.specs.Prelude.{option_and_then, slice_get, slice_index}
 use Rattle.std.proofs.lemmas.Bool.{and_parts, and_from, eqb-true, leb-true}
@@ -26,7 +26,7 @@ point_spelled text c fits e =
 four : (n : ℕ) → 4 + 4 * n ≡ 4 * suc n
 four n = omega arith
 
--- the code points that are read, and where the text goes on
+-- the code points that are read, and the rest of the text
 record ArePoints (n : ℕ) (text ps : List ℕ) : Type 0 where
   count : length ps ≡ n
   spelled : text ≡ points_text ps ++ drop (4 * n) text
@@ -119,7 +119,7 @@ glyph_of_parts ps s g e =
     let a = cond_some (is_style s && is_text ps) (record { points = ps; style = s; guarded = false }) g e in
     (ap (λ (x : Glyph). x.points) a.1, ap (λ (x : Glyph). x.style) a.1)
 
--- what is read of a style: where it stands in the text, that it can be said, and what follows
+-- the style that is read: its place in the text, that it can be spelled, and the rest
 record IsSaid (f : Form) (text : List ℕ) (s : Style) : Type 0 where
   spelled : drop 1 text ≡ style_text f s ++ drop (head_size f) text
   fits : Fits f s

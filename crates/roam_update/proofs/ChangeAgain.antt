@@ -1,4 +1,4 @@
--- What is spelled is read again, and the change from a base to a screen, applied to the base, gives the screen.
+-- A spelled change is read again. The change from a base to a screen, applied to the base, gives the screen.
 use Rattle.std.proofs.Common.{◌≡◌, ℕ, ◌+◌, ◌*◌, ◌^◌, ◌<◌, ◌≤◌, Bool, true, false, cond, eqb, leb, ◌&&◌, List, [], ◌∷◌, ◌++◌, length, drop, Option, Some, None, refl, sym, ap, subst, ◌∙◌, arith}
 use Rattle.std.specs.Prelude.{All, option_and_then}
 use Rattle.std.proofs.lemmas.Bool.{le-leb}
@@ -79,7 +79,7 @@ some_change x = Some x
 abbrev made : Head → Option (List Run) → Option Change
 made h o = option_and_then (λ runs. some_change (change_of h runs)) o
 
--- what is spelled is read
+-- a spelled change is read
 pub change_again : (x : Change) → IsChange x → AreShort x.runs → change_read (change_text x) ≡ some_change x
 change_again x is short =
     let t = change_text x in

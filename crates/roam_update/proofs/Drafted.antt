@@ -66,7 +66,7 @@ no_laid : (c k : ℕ) (line cells : List Glyph) (o : Option (Front (List Glyph))
 no_laid c k line cells None e = refl
 no_laid c k line cells (Some cs) e = absurd cc
 
--- what is no text of n cells is none anywhere
+-- text that is not of n cells is so at any place
 put_elsewhere : (f : Form) (n c k : ℕ) (line cells : List Glyph) (text : List ℕ) → cells_put f n c line text ≡ None → cells_put f n k cells text ≡ None
 put_elsewhere f n c k line cells text e = no_laid c k line cells (cells_read f n text) e
 
@@ -84,7 +84,7 @@ laid_joined cols lines r c n (Some cs) x long p q count e =
     let value = all ∙ ap (λ (y : Front (List Glyph)). cells_in_order (set lines r y.value)) both in
     λ i. Some (record { value = value i; rest = (both i).rest; form = (both i).form })
 
--- what is put into a row is put into all rows
+-- cells put into a row are put into all rows
 put_row : (f : Form) (cols : ℕ) (lines : List (List Glyph)) (r c n : ℕ) (text : List ℕ) (x : Front (List Glyph))
     → EachIndex lines (λ k. length (get_or lines k []) ≡ cols) → r < length lines → c + n ≤ cols
     → cells_put f n c (get_or lines r []) text ≡ Some x → cells_put f n (r * cols + c) (cells_in_order lines) text ≡ whole_by lines r x

@@ -46,7 +46,7 @@ unfolding table_read
 table_done zero before text h = refl
 table_done (suc n) before text h = absurd (omega (arith, h))
 
--- whether a style stands in a table is whether its number is among the keys
+-- a style is in a table exactly if its number is among the keys
 pub key_tells : (k : ℕ) (ks : List ℕ) (s : Style) (table : List Style) → style_numbered k ≡ s → map style_numbered ks ≡ table
     → list_any (λ j. eqb k j) ks ≡ has_style table s
 key_tells k ks s table e t = key_there k ks ∙ ap (λ (x : List Style). has_style x (style_numbered k)) t ∙ ap (has_style table) e
@@ -57,14 +57,14 @@ keys_last k ks s table e t h =
     ap (λ (b : Bool). map style_numbered (cond b ks (ks ++ k ∷ []))) h ∙ map_last ks k
     ∙ ap (λ (x : List Style). x ++ style_numbered k ∷ []) t ∙ ap (λ (x : Style). table ++ x ∷ []) e
 
--- the first of them is a style where one behind it is read
+-- the first of them is a style if one behind it is read
 pub first_read : (k : ℕ) (text rest : List ℕ) (s : Style) → rest ≡ drop (9 * k) text → entry_read rest ≡ Some s → (k ≡ 0) ⊎ IsSome (entry_read text)
     → IsSome (entry_read text)
 first_read k text rest s at is (inl none) =
     ap is_some (ap entry_read (sym (at ∙ ap (λ (n : ℕ). drop (9 * n) text) none)) ∙ is)
 first_read k text rest s at is (inr some) = some
 
--- the first of the styles of a table, where there is one, is read
+-- the first of the styles of a table, if there is one, is read
 pub first_entry : (n : ℕ) (text : List ℕ) (t : Table) → table_read n [] text ≡ Some t → (n ≡ 0) ⊎ IsSome (entry_read text)
 unfolding table_read
 first_entry zero text t e = inl refl
@@ -73,7 +73,7 @@ first_entry (suc n) text t e =
     let a = if_some (leb 9 (length text)) (new_one [] (entry_read text)) s f in
     option_and_then_some (λ (x : Style). cond (has_style [] x) None (Some x)) (entry_read text) s a.1 (λ x h k. inr (ap is_some h)))
 
--- nine bytes stand in a text for each style of its table
+-- a text has nine bytes for each style of its table
 pub table_length : (n : ℕ) (before : List Style) (text : List ℕ) (t : Table) → table_read n before text ≡ Some t → length text ≡ 9 * n + length t.rest
 unfolding table_read
 table_length zero before text t e =

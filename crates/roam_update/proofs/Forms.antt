@@ -1,4 +1,4 @@
--- How cells say their styles: what follows a cell, and which cells can be said.
+-- The spelling of styles by cells: the form behind a cell, and the cells that can be spelled.
 use Rattle.std.proofs.Common.{◌≡◌, ℕ, zero, suc, ◌^◌, ◌<◌, ◌≤◌, true, cond, List, [], ◌∷◌, length, Some, refl, sym, ap, subst, ◌∙◌, arith, inl, inr}
 use Rattle.std.specs.Prelude.{All, slice_get}
 use Rattle.std.proofs.lemmas.Bool.{cases_Bool}
@@ -37,7 +37,7 @@ abbrev pub TakesRuns : Form → List Run → Type 0
 TakesRuns f [] = is_used_up f ≡ true
 TakesRuns f (run ∷ runs) = TakesCells f run.cells × TakesRuns (past_all f run.cells) runs
 
--- a table whose numbers have three bytes, and in which each style stands once
+-- a table whose numbers have three bytes, with each style once
 pub record IsTable (table : List Style) : Type 0 where
   pub few : length table < 256 ^ 3
   pub once : (k : ℕ) (s : Style) → slice_get table k ≡ Some s → number_in table s ≡ k
@@ -67,7 +67,7 @@ pub runs_past_all : (f : Form) (gs : List Glyph) (runs : List Run) → runs_text
 runs_past_all f [] runs = refl
 runs_past_all f (g ∷ gs) runs = runs_past_all (past f g.style) gs runs ∙ runs_past f g.style runs
 
--- a style stands where its number says
+-- a style is at the place of its number
 pub stands : (table : List Style) (s : Style) → number_in table s < length table → slice_get table (number_in table s) ≡ Some s
 stands [] s h = absurd (omega arith)
 stands (t ∷ table) s h =

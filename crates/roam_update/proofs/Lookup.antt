@@ -11,7 +11,7 @@ use Rattle.roam_update.specs.TableText.{entry_text, table_text}
 use Rattle.roam_cells.proofs.SameCells.{style_same, style_again}
 use Rattle.roam_update.proofs.UsedUp.{grows, number_last, number_none}
 
--- two numbers are one where their styles are
+-- two numbers are equal if their styles are
 key_same : (k j : ℕ) → eqb k j ≡ same_style (style_numbered k) (style_numbered j)
 key_same k j =
     elim (cases_eq k j) [

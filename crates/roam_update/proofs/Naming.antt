@@ -1,4 +1,4 @@
--- The runs where cells differ from a base name exactly the places that differ.
+-- The runs of cells that differ from a base name exactly the places that differ.
 use Rattle.std.proofs.Common.{◌≡◌, ℕ, zero, suc, ◌+◌, ◌*◌, ◌<◌, ◌≤◌, Bool, true, false, List, [], ◌∷◌, length, sym, ap, subst, ◌∙◌, arith, inl, inr}
 use Rattle.std.specs.Prelude.{◌⊎◌, ◌↔◌}
 use Rattle.std.proofs.lemmas.Bool.{cases_Bool, false≢true}

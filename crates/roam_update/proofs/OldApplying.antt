@@ -1,4 +1,4 @@
--- What a text makes of a base, by the answers of the tests.
+-- The result of a text on a base, by the results of the tests.
 use Rattle.std.proofs.Common.{◌≡◌, ℕ, ◌*◌, ◌≤◌, Bool, true, cond, leb, List, length, drop, Option, Some, None, refl, sym, ap, subst, ◌∙◌}
 use Rattle.std.specs.Prelude.{All, option_and_then, slice_index}
 use Rattle.std.proofs.lemmas.Bool.{leb-true, and_parts}

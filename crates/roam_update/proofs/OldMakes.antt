@@ -1,4 +1,4 @@
--- What texts of version 1 make, and that the one that leads to a screen makes it.
+-- The results of texts of version 1; the text that leads to a screen gives it.
 use Rattle.std.proofs.Common.{◌≡◌, ℕ, ◌+◌, ◌<◌, Bool, true, false, cond, List, [], ◌∷◌, length, Option, Some, None, sym, ap, subst, ◌∙◌, inl, inr}
 use Rattle.std.specs.Prelude.{All, option_and_then}
 use Rattle.std.proofs.lemmas.Bool.{cases_Bool}
@@ -59,7 +59,7 @@ short_from inside k (b ∷ bs) (c ∷ cs) h =
 abbrev some_screenshot : Screenshot → Option Screenshot
 some_screenshot s = Some s
 
--- whoever applies the change to the base has the screen
+-- applying the change to the base gives the screen
 pub leads_one : (base s : Screenshot) → IsOldScreenshot s → applied_one base (difference_one base s) ≡ Some s
 leads_one base s old =
     let h = old.screenshot in

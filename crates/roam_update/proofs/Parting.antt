@@ -1,4 +1,4 @@
--- The runs where cells differ from a base rise and do not touch, and name exactly the places that differ.
+-- The runs of cells that differ from a base rise and do not touch, and name exactly the places that differ.
 use Rattle.std.proofs.Common.{◌≡◌, ℕ, suc, ◌+◌, ◌≤◌, Bool, true, false, List, [], ◌∷◌, length, sym, ap, subst, arith, inl, inr}
 use Rattle.std.specs.Prelude.{All}
 use Rattle.std.proofs.lemmas.Bool.{cases_Bool}

@@ -1,4 +1,4 @@
--- The runs where cells differ from a base, put into the base, give the cells.
+-- The runs of cells that differ from a base, put into the base, give the cells.
 use Rattle.std.proofs.Common.{◌≡◌, ℕ, ◌+◌, Bool, true, false, List, [], ◌∷◌, ◌++◌, length, set, refl, sym, subst, ◌∙◌, append_assoc, arith, inl, inr, length-append}
 use Rattle.std.proofs.lemmas.Bool.{cases_Bool}
 use Rattle.std.proofs.Math.Seq.{set-append_seam}

@@ -24,7 +24,7 @@ use Rattle.roam_update.proofs.Testing.{scalar_is, style_is}
 -- ---- cells that are read
 
 module _ {A : Type 0} where
-  -- an answer is given where the test answers yes
+  -- there is a result if the test is true
   pub if_some : (b : Bool) (o : Option A) (y : A) → cond b o None ≡ Some y → (b ≡ true) × (o ≡ Some y)
   if_some true o y e = (refl, e)
   if_some false o y e = absurd cc

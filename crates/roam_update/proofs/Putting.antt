@@ -48,7 +48,7 @@ points_long (suc n) text points e =
     let here = point_long text c f in
     omega (arith, rest, here, length-drop 4 text)))
 
--- a third code point is there where twelve bytes are
+-- there is a third code point if there are twelve bytes
 pub three_long : (o : Option Glyph) (text : List ℕ) (n third : ℕ) → n ≤ 3 → point_read (drop 8 text) ≡ Some third → IfSome o (λ _. 4 * n ≤ length text)
 three_long None text n third h e = tt
 three_long (Some g) text n third h e = let long = point_long (drop 8 text) third e in omega (arith, h, long, length-drop 8 text)
@@ -191,7 +191,7 @@ runs_put_go f after_form n k least next cells text after rest h e g l s =
     let a : n - (k + 1) ≡ n - k - 1 = omega arith in
     rw (a, s) (sym (runs_put_more f after_form (n - k) least cells text after rest (omega arith) e g l))
 
--- what holds of a run that may begin
+-- the facts about a run that may begin
 pub record Begins (least last first len : ℕ) : Type 0 where
   pub some : 1 ≤ len
   pub to : first + len ≤ last

@@ -11,7 +11,7 @@ use Rattle.roam_update.specs.Styles.{Form}
 use Rattle.roam_update.proofs.Said.{runs_step, used_step, runs_end, used_end}
 use Rattle.roam_update.proofs.Stretches.{left, skipped, next_run, at_end}
 
--- what holds of a place and of those behind it
+-- a property of a place and of those behind it
 pub from_first : (P : ℕ → Type 0) (first end : ℕ) → P first → ((k : ℕ) → first + 1 ≤ k → k < end → P k) → (k : ℕ) → first ≤ k → k < end → P k
 from_first P first end here more k p q =
     elim (cases_lt first k) [

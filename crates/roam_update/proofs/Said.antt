@@ -1,4 +1,4 @@
--- What is said by the table as far as it has grown is said by the whole table, and how forms grow.
+-- A spelling by the table as far as it has grown is one by the whole table; the growth of forms.
 use Rattle.std.proofs.Common.{◌≡◌, ℕ, ◌+◌, ◌≤◌, true, false, List, [], ◌∷◌, ◌++◌, length, refl, sym, ap, subst, ◌∙◌, arith, inl, inr, append_assoc}
 use Rattle.std.proofs.lemmas.Bool.{cases_Bool}
 use Rattle.byteorder.specs.Endian.{big_bytes}
@@ -88,7 +88,7 @@ unfolding cells_said
 cells_whole [] = refl
 cells_whole (g ∷ gs) = ap (λ (t : List ℕ). cell_text Whole g ++ t) (cells_whole gs)
 
--- what is said in full needs no table
+-- a full spelling needs no table
 pub runs_whole : (runs : List Run) → runs_said Whole runs ≡ runs_text Whole runs
 unfolding runs_said
 runs_whole [] = refl

@@ -25,7 +25,7 @@ pub table_more : (rows cols : ℕ) (f : ℕ → ℕ → Glyph) → table (rows +
 unfolding table
 table_more rows cols f = let one : rows + 1 ≡ suc rows = omega arith in ap (λ (k : ℕ). table k cols f) one
 
--- a place whose column the screen had, the last column left out where that was wide
+-- a place whose column the screen had, without the last column if that was wide
 pub kept_at : (cols : ℕ) (s : Screenshot) (r c : ℕ) → r < s.rows → c < s.cols → ((c + 1 ≡ cols) → is_wide (cell_at s.cols s.cells r c) ≡ false)
     → sized_at cols s r c ≡ cell_at s.cols s.cells r c
 kept_at cols s r c p q last =
@@ -43,7 +43,7 @@ not_wide : (b : Bool) → ¬ (b ≡ true) → b ≡ false
 not_wide true h = absurd (h refl)
 not_wide false h = refl
 
--- where the width stays, a row that stays is the old row: each of its places takes the cell that stood there
+-- if the width stays, a row that stays is the old row: each of its places takes its old cell
 pub same_width : (s : Screenshot) (r c : ℕ) → IsScreenshot s → r < s.rows → c < s.cols → sized_at s.cols s r c ≡ cell_at s.cols s.cells r c
 same_width s r c h p q =
     kept_at s.cols s r c p q (λ e. not_wide (is_wide (cell_at s.cols s.cells r c)) (λ w. let k = ((h.whole r p c q).wide w).0 in omega (arith, e, k)))
@@ -86,7 +86,7 @@ row_cell cols r c cells p =
     let wide : (r + 1) * cols - r * cols ≡ cols = omega arith in
     get_or-take ((r + 1) * cols - r * cols) (drop (r * cols) cells) c blank (omega (arith, p, wide)) ∙ get_or-drop (r * cols) cells c blank
 
--- where the width stays, a row below both numbers of rows is the old row itself
+-- if the width stays, a row below both numbers of rows is the old row itself
 pub row_stays : (rows r : ℕ) (s : Screenshot) → IsScreenshot s → r < rows → r < s.rows → row_of s.cols (sized_cells rows s.cols s) r ≡ row_of s.cols s.cells r
 row_stays rows r s h p q =
     let new = sized_cells rows s.cols s in

@@ -9,7 +9,7 @@ use Rattle.roam_cells.specs.Same.{same}
 use Rattle.roam_update.specs.Runs.{Run, lead, runs_from}
 use Rattle.roam_cells.proofs.SameCells.{same_glyph, other_glyph}
 
--- ---- where both lists go on
+-- ---- the case that both lists go on
 
 module _ (b c : Glyph) (bs cs : List Glyph) where
   pub lead_same : same b c ≡ true → lead (b ∷ bs) (c ∷ cs) ≡ []
@@ -50,7 +50,7 @@ module _ (base cells : List Glyph) (len : length base ≡ length cells) where
   abbrev pub left : Bool → ℕ → List Run
   left inside k = runs_from inside k (drop k base) (drop k cells)
 
-  -- what holds where both lists go on holds at a place of both
+  -- a property of both lists from a place on is one at each later place
   ends : (P : List Glyph → List Glyph → Type 0) (k : ℕ) → k < length cells
       → P (glyph_at base k ∷ drop (k + 1) base) (glyph_at cells k ∷ drop (k + 1) cells) → P (drop k base) (drop k cells)
   ends P k h p =

@@ -25,7 +25,7 @@ cells_count form (suc n) text cs e =
 
 -- ---- rows
 
--- what is said of a row's columns is said of any other row with the same cells
+-- a property of a row's columns is one of any other row with the same cells
 pub line_like : (cols : ℕ) (a b : ℕ → Glyph) → ((c : ℕ) → c < cols → a c ≡ b c) → IsWholeLine cols a → IsWholeLine cols b
 line_like cols a b like h c p =
     record {

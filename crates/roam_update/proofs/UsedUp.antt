@@ -64,7 +64,7 @@ number_last (t ∷ table) s h =
 
 -- ---- a table after a style
 
--- what is true of a table and of what it becomes with a style
+-- the facts about a table and its growth by a style
 pub record Grows (table : List Style) (s : Style) (next : List Style) : Type 0 where
   pub has : has_style next s ≡ true
   pub number : number_in next s ≤ length table
@@ -244,7 +244,7 @@ front_runs whole used (run ∷ runs) h =
 pub table_is : (whole : List Style) (runs : List Run) → TakesRuns (Numbered whole 0) runs → styles_used [] runs ≡ whole
 table_is whole runs h = front_runs whole 0 runs h
 
--- ---- a table in which no style stands twice
+-- ---- a table without repetitions
 
 abbrev pub IsOnce : List Style → Type 0
 IsOnce table = (k : ℕ) (s : Style) → slice_get table k ≡ Some s → number_in table s ≡ k

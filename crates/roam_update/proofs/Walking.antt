@@ -30,7 +30,7 @@ row_end row rows cols p =
     let up : (row + 1) * cols ≤ rows * cols = mul-le-mul_right cols (omega (arith, p)) in
     omega (arith, up)
 
--- what holds of both screens along a row, from a column on
+-- a property of both screens along a row, from a column on
 module _ (P : Glyph → Glyph → Type 0) (cols row : ℕ) (base cells above below : List Glyph)
     (above_is : above ≡ row_of cols base row) (below_is : below ≡ row_of cols cells row) where
   there : (c : ℕ) → c < cols → P (glyph_at above c) (glyph_at below c) → P (glyph_at base (row * cols + c)) (glyph_at cells (row * cols + c))

@@ -37,7 +37,7 @@ red_a = refl
 a_right_half : cell_text Whole (right_of a) ≡ 0 ∷ 0 ∷ 0 ∷ 0 ∷ 0 ∷ 0 ∷ []
 a_right_half = refl
 
--- three code points where the bytes of two stand are none
+-- three code points with the bytes of two are none
 cut_short : glyph_read Whole (3 ∷ 0 ∷ 0 ∷ 0 ∷ 0 ∷ 0 ∷ 0 ∷ 0 ∷ 0 ∷ 97 ∷ 0 ∷ 0 ∷ 3 ∷ 1 ∷ []) ≡ None
 cut_short = refl
 

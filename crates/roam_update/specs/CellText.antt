@@ -62,7 +62,7 @@ cell_text f g = length g.points ∷ (style_text f g.style ++ points_text g.point
 abbrev pub cells_text : Form → List Glyph → List ℕ
 cells_text f cells = flat_map (cell_text f) cells
 
--- what the front of a text stands for, the rest of it, and how cells say their styles there
+-- the value of the front of a text, the rest of it, and the form of styles there
 pub record Front (A : Type 0) : Type 0 where
   pub value : A
   pub rest : List ℕ
@@ -123,7 +123,7 @@ abbrev pub form_after : Form → List ℕ → Form
 form_after Whole text = Whole
 form_after (Numbered table used) text = Numbered table (used_after used (number_read text))
 
--- how many bytes stand before the code points
+-- the number of bytes before the code points
 abbrev pub head_size : Form → ℕ
 head_size Whole = 6
 head_size (Numbered table used) = 4

@@ -19,8 +19,8 @@ pub record Change : Type 0 where
   pub visible : Bool
   pub runs : List Run
 
--- a change that has a text: its size is one of a screen, its cursor has two bytes for each number, its runs stay on the screen,
--- rise and do not touch, and its cells are ones that a screen may show
+-- A change that has a text: its size is one of a screen, its cursor has two bytes for each number, its runs stay on the screen, rise and do
+-- not touch, and a screen may show its cells.
 pub record IsChange (x : Change) : Type 0 where
   pub size : IsSize x.rows x.cols
   pub row : x.cursor_row < 2 ^ 16
@@ -36,13 +36,13 @@ run_text f run = big_bytes 4 run.first ++ (big_bytes 4 (length run.cells) ++ cel
 abbrev pub runs_text : Form → List Run → List ℕ
 runs_text f runs = flat_map (run_text f) runs
 
--- what stands before the runs: rows, columns, the cursor's row and column, whether it is visible, the number of runs
+-- the text before the runs: rows, columns, the cursor's row and column, its visibility, the number of runs
 abbrev pub head_text : Head → List ℕ
 head_text h =
     big_bytes 2 h.rows
     ++ (big_bytes 2 h.cols ++ (big_bytes 2 h.cursor_row ++ (big_bytes 2 h.cursor_col ++ (bit h.visible ∷ big_bytes 4 h.runs))))
 
--- what stands before the runs of a change
+-- the head of a change, before its runs
 abbrev pub head_of : Change → Head
 head_of x =
     record { rows = x.rows; cols = x.cols; cursor_row = x.cursor_row; cursor_col = x.cursor_col; visible = x.visible; runs = length x.runs }

@@ -15,7 +15,7 @@ use Rattle.roam_update.specs.declared.numbers.Numbers.{Numbers}
 abbrev pub styles_in : Numbers → List Style
 styles_in n = map style_numbered n.keys.keys
 
--- the text is that of the styles, and the last number stands where it is said to
+-- the text is that of the styles, and the last number is at its stated place
 pub record AreNumbers (n : Numbers) : Type 0 where
   pub text : n.table.items ≡ table_text (styles_in n)
   pub there : n.any ≡ true → list_any (λ k. n.last == k) n.keys.keys ≡ true

@@ -1,10 +1,10 @@
--- Runs of cells in reading order: where cells differ from a base, and what runs make of a base.
--- Nothing here knows how a cell is spelled or how rows are kept.
+-- Runs of cells in reading order: the places at which cells differ from a base, and the result of runs on a base. Nothing here depends on
+-- the spelling of cells or the storage of rows.
 use Rattle.std.specs.Prelude.{ℕ, ◌+◌, ◌≤◌, ◌<◌, Bool, true, false, ◌⊎◌, List, [], ◌∷◌, length, slice_set, if◌then◌else◌}
 use Rattle.roam_cells.specs.Glyph.{Glyph}
 use Rattle.roam_cells.specs.Same.{same}
 
--- cells that stand one after the other, in reading order, from a place on; places count from 0
+-- adjacent cells in reading order, from a place on; places count from 0
 pub record Run : Type 0 where
   pub first : ℕ
   pub cells : List Glyph
@@ -24,11 +24,11 @@ runs_from inside k (b ∷ bs) (c ∷ cs) =
     else if inside then runs_from true (k + 1) bs cs
     else record { first = k; cells = c ∷ lead bs cs } ∷ runs_from true (k + 1) bs cs
 
--- the maximal runs of the places where cells differ from a base
+-- the maximal runs of the places at which cells differ from a base
 abbrev pub runs_between : List Glyph → List Glyph → List Run
 runs_between base cells = runs_from false 0 base cells
 
--- a run names a place where one of its cells stands
+-- a run names the place of each of its cells
 pub record IsNamedBy (k : ℕ) (run : Run) : Type 0 where
   pub from : run.first ≤ k
   pub to : k < run.first + length run.cells
@@ -44,17 +44,17 @@ pub record IsWithin (least end : ℕ) (run : Run) : Type 0 where
   pub some : 1 ≤ length run.cells
   pub to : run.first + length run.cells ≤ end
 
--- runs that rise and do not touch, from `least` on and before `end`: a place that no run names stands between each two
+-- runs that rise and do not touch, from `least` on and before `end`: an unnamed place is between each two
 unfoldable pub AreApart : ℕ → ℕ → List Run → Type 0
 AreApart least end [] = Unit {0}
 AreApart least end (run ∷ runs) = IsWithin least end run × AreApart (run.first + length run.cells + 1) end runs
 
--- these cells stand from place k on
+-- these cells are put from place k on
 unfoldable pub with_cells_at : List Glyph → ℕ → List Glyph → List Glyph
 with_cells_at cells k [] = cells
 with_cells_at cells k (g ∷ gs) = with_cells_at (slice_set cells k g) (k + 1) gs
 
--- the runs replace what they name
+-- the runs replace the cells that they name
 unfoldable pub patched_cells : List Glyph → List Run → List Glyph
 patched_cells cells [] = cells
 patched_cells cells (run ∷ runs) = patched_cells (with_cells_at cells run.first run.cells) runs

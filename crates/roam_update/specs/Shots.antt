@@ -1,4 +1,4 @@
--- What a change makes of a screen, and the change that leads from one screen to another.
+-- The result of a change on a screen, and the change that leads from one screen to another.
 use Rattle.std.specs.Prelude.{◌≡◌, ℕ, List, Option, Some, None, option_and_then, if◌then◌else◌}
 use Rattle.roam_screens.specs.Screenshot.{Screenshot, IsScreenshot}
 use Rattle.roam_update.specs.Runs.{runs_between, patched_cells}
@@ -22,19 +22,19 @@ screen_by base x =
       visible = x.visible;
     }
 
--- a value where it is a screen that is shown, else none
+-- a value if it is a screen that can be shown, else none
 abbrev pub if_screenshot : Screenshot → Option Screenshot
 if_screenshot s = if is_screenshot s then Some s else None
 
--- what a text of version 2 makes of a base: none where it spells no change, or the result is no screen that is shown
+-- the result of a text of version 2 on a base: none if it spells no change, or the result is no screen that can be shown
 abbrev pub applied_two : Screenshot → List ℕ → Option Screenshot
 applied_two base text = option_and_then (λ x. if_screenshot (screen_by base x)) (tabled_read text)
 
--- a value where it is a screen of version 1, else none
+-- a value if it is a screen of version 1, else none
 abbrev pub if_old_screenshot : Screenshot → Option Screenshot
 if_old_screenshot s = if is_old_screenshot s then Some s else None
 
--- what a text of version 1 makes of a base
+-- the result of a text of version 1 on a base
 abbrev pub applied_one : Screenshot → List ℕ → Option Screenshot
 applied_one base text = option_and_then (λ x. if_old_screenshot (screen_by base x)) (change_read text)
 
@@ -45,7 +45,7 @@ pub record Makes (base : Screenshot) (text : List ℕ) (s : Screenshot) : Type 0
   pub screen : screen_by base change ≡ s
   pub shown : IsScreenshot s
 
--- the change that names, in maximal runs, exactly the places where a screen differs from the base brought to its size
+-- the change that names, in maximal runs, exactly the places at which a screen differs from the base brought to its size
 abbrev pub change_to : Screenshot → Screenshot → Change
 change_to base s =
     record {

@@ -4,8 +4,8 @@ use Rattle.roam_cells.specs.Glyph.{Glyph, is_wide, space_in, blank}
 use Rattle.roam_cells.specs.Place.{cell_at, table}
 use Rattle.roam_screens.specs.Screenshot.{Screenshot}
 
--- what stands at a row and a column, from 0: the cell that stood there, a wide one in the last column as a space in its style;
--- a blank where none stood
+-- the cell at a row and a column, from 0: the old cell there, a wide one in the last column as a space in its style; a blank if there was
+-- none
 abbrev pub sized_at : ℕ → Screenshot → ℕ → ℕ → Glyph
 sized_at cols s r c =
     if nat_lt r s.rows && nat_lt c s.cols then

@@ -10,7 +10,7 @@ abbrev pub has_style : List Style → Style → Bool
 has_style [] s = false
 has_style (t ∷ table) s = same_style s t || has_style table s
 
--- the number of a style in a table, from 0: the place where it stands first, or the number of styles where it stands nowhere
+-- the number of a style in a table, from 0: its first place, or the number of styles if it is not there
 abbrev pub number_in : List Style → Style → ℕ
 number_in [] s = 0
 number_in (t ∷ table) s = if same_style s t then 0 else suc (number_in table s)

@@ -13,7 +13,7 @@ use Rattle.roam_update.specs.Styles.{Numbered, has_style, styles_used}
 use Rattle.roam_update.specs.Tested.{is_size}
 use Rattle.roam_update.specs.declared.change_text.Head.{Head}
 
--- a colour in four bytes: what it is, and up to three numbers
+-- a colour in four bytes: its kind, and up to three numbers
 abbrev pub colour_text : Colour → List ℕ
 colour_text Default = 0 ∷ 0 ∷ 0 ∷ 0 ∷ []
 colour_text (Index n) = 1 ∷ 0 ∷ 0 ∷ n ∷ []
@@ -27,7 +27,7 @@ entry_text s = flags s ∷ (colour_text s.foreground ++ colour_text s.background
 abbrev pub table_text : List Style → List ℕ
 table_text table = flat_map entry_text table
 
--- what stands before the table: rows, columns, the cursor's row and column, whether it is visible
+-- the text before the table: rows, columns, the cursor's row and column, its visibility
 abbrev pub front_text : Head → List ℕ
 front_text h =
     big_bytes 2 h.rows ++ (big_bytes 2 h.cols ++ (big_bytes 2 h.cursor_row ++ (big_bytes 2 h.cursor_col ++ (bit h.visible ∷ []))))
@@ -73,12 +73,12 @@ pub record Table : Type 0 where
   pub styles : List Style
   pub rest : List ℕ
 
--- the style of the nine bytes at the front of a text, where it isn't one of these
+-- the style of the nine bytes at the front of a text, if it isn't one of these
 abbrev pub entry_beside : List Style → List ℕ → Option Style
 entry_beside before text =
     if nat_le 9 (length text) then option_and_then (λ s. if has_style before s then None else Some s) (entry_read text) else None
 
--- these styles and n more at the front of a text, none of which stands before
+-- these styles and n more at the front of a text, none of which is among those before
 unfoldable pub table_read : ℕ → List Style → List ℕ → Option Table
 table_read zero before text = Some (record { styles = before; rest = text })
 table_read (suc n) before text =

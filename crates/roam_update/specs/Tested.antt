@@ -1,4 +1,4 @@
--- Whether a value is a screen that is shown, as a test that computes.
+-- The test that a value is a screen that can be shown, in a form that computes.
 use Rattle.std.specs.Prelude.{ℕ, zero, suc, ◌+◌, ◌-◌, ◌*◌, Bool, true, ◌&&◌, ◌==◌, nat_le, nat_lt, not, length, List, if◌then◌else◌}
 use Rattle.std.specs.List.{list_all}
 use Rattle.roam_cells.specs.Glyph.{Glyph, is_wide, is_right_half, right_of, is_text}
@@ -37,7 +37,7 @@ are_whole rows cols cells = all_below rows (λ r. all_below cols (λ c. is_whole
 abbrev pub is_plain : Glyph → Bool
 is_plain g = is_text g.points && (list_all is_scalar g.points && (is_style g.style && not g.guarded))
 
--- whether it is true of a value what is true of each screen that is shown
+-- true if a value meets the facts about each screen that is shown
 abbrev pub is_screenshot : Screenshot → Bool
 is_screenshot s =
     is_size s.rows s.cols

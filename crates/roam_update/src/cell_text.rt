@@ -167,7 +167,7 @@ fn read_points(text: &[u8], count: u8, style: Style) -> Option<Cell>
     Cell::of(&[first, second, third], style, false)
 }
 
-/// The unguarded cell at the front of a text, or `None` where there is none.
+/// Returns the unguarded cell at the front of a text, or `None` if there is none.
 pub fn read_cell(form: &Spelling, text: &[u8]) -> Option<Cell>
     ensures cell { result ≡ glyph_read form.now text.now }
     ensures long { IfSome result (λ _. cell_size form.now text.now ≤ length text.now) }

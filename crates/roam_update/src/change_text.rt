@@ -21,7 +21,7 @@ use roam_cells::{Cell, Fault};
 use roam_screens::Seen;
 use std::alloc::{AllocError, Global};
 
-/// What stands before the runs of a change: its size, its cursor's row and column, whether the cursor is visible, and the number of runs.
+/// The head of a change, before its runs: its size, its cursor's row and column, the cursor's visibility, and the number of runs.
 #[derive(Clone, Copy)]
 pub struct Head {
     /// Its rows.
@@ -32,7 +32,7 @@ pub struct Head {
     pub cursor_row: u16,
     /// The cursor's column, from 1.
     pub cursor_col: u16,
-    /// Whether the cursor is visible.
+    /// True if the cursor is visible.
     pub visible: bool,
     /// How many runs there are.
     pub runs: u32,
@@ -66,7 +66,7 @@ impl Head {
         bytes
     }
 
-    /// The head of a change's text of version 1, or `None` where no change begins so.
+    /// Returns the head of a change's text of version 1, or `None` if no change begins so.
     pub fn read_old(text: &[u8]) -> Option<Head>
         ensures head { result ≡ old_head_of_text text.now }
     {
@@ -88,7 +88,7 @@ impl Head {
         }
     }
 
-    /// The head of a change's text, without a number of runs, or `None` where no change with a table begins so.
+    /// Returns the head of a change's text, without a number of runs, or `None` if no change with a table begins so.
     pub fn read(text: &[u8]) -> Option<Head>
         ensures head { result ≡ head_of_text text.now }
     {
@@ -169,8 +169,7 @@ fn add_run<S: Seen>(
     add_places(text, numbers, shot, first, end)
 }
 
-/// Adds the texts of the maximal runs of the places at which a screen differs from a base of its size, and answers how many runs there
-/// are.
+/// Appends the texts of the maximal runs of the places at which a screen differs from a base of its size, and returns the number of runs.
 pub fn add_runs<B: Seen, S: Seen>(
     text: &mut Vec<u8>,
     numbers: &mut Numbers,
@@ -201,8 +200,8 @@ pub fn add_runs<B: Seen, S: Seen>(
     Ok(count)
 }
 
-/// Puts n cells of a text into places from one on, and answers the rest of the text; if it isn't that of n cells, some places may have
-/// been written.
+/// Puts n cells of a text into places from one on, and returns the rest of the text. If it isn't that of n cells, some places may have been
+/// written.
 #[tactic(auto, using(crate::proofs::Putting::cells_put_none, crate::proofs::Putting::cells_put_fails))]
 pub fn put_cells<'a>(
     form: &mut Spelling,
@@ -233,7 +232,7 @@ pub fn put_cells<'a>(
     Ok(rest)
 }
 
-// Whether a run may begin a text: not before `least`, of one place or more, and not past the end.
+// Returns true if a run may begin a text: not before `least`, of one place or more, and not past the end.
 fn may_begin(least: usize, end: usize, text: &[u8]) -> bool
     ensures begins { result ≡ may_begin least end text.now }
 {
@@ -245,8 +244,8 @@ fn may_begin(least: usize, end: usize, text: &[u8]) -> bool
     least <= first && 1 <= len && first + len <= end
 }
 
-/// Puts the n runs of a text into rows of `cols` columns; `BadChange` where the whole text isn't that of n runs that use all styles of a
-/// table. After a refusal some places may have been written.
+/// Puts the n runs of a text into rows of `cols` columns. `BadChange` if the whole text isn't that of n runs that use all styles of a
+/// table. After an error some places may have been written.
 #[tactic(auto, using(crate::proofs::Putting::put_steps))]
 pub fn put_runs(
     rows: &mut Vec<Row>,

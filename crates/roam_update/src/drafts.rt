@@ -91,7 +91,7 @@ impl Row {
         }
     }
 
-    // The row as screens share it; `BadChange` where a character of it is cut in two.
+    // Returns the row as screens share it. `BadChange` if a character of it is cut in two.
     fn line(self, cols: usize) -> Result<Line, Fault>
         requires cols { (0 < cols) × (length self ≡ cols) }
         ensures ok { IfOk result (λ line. line ≡ self) }
@@ -149,7 +149,7 @@ fn sized_rows(alloc: Global, base: &RowShot, rows: u16, cols: u16) -> Result<Vec
     Ok(made)
 }
 
-/// The rows of a base brought to a size: where it has that size, all of them are shared.
+/// Returns the rows of a base brought to a size: if it has that size, all of them are shared.
 pub fn rows_of(alloc: Global, base: &RowShot, rows: u16, cols: u16) -> Result<Vec<Row>, AllocError>
     requires size { IsSize rows cols }
     ensures lines { IfOk result (λ made. AreLines rows cols made.items) }
@@ -194,7 +194,7 @@ pub fn put_run<'a>(
     Ok(rest)
 }
 
-/// The rows as screens share them; `BadChange` where a character of one is cut in two.
+/// Returns the rows as screens share them. `BadChange` if a character of one is cut in two.
 pub fn lines_of(alloc: Global, rows: Vec<Row>, cols: usize) -> Result<Vec<Line>, Fault>
     requires cols { 0 < cols }
     requires lines { AreLines (length rows.items) cols rows.items }

@@ -1,4 +1,4 @@
-//! Laws of changes, over every base, screen and text. Each stands on a function with an empty body.
+//! Laws of changes, over every base, screen and text. Each is the contract of a function with an empty body.
 
 ghost use Rattle.std.specs.Prelude.{All, ◌≡◌, ℕ, ◌≤◌, ◌<◌, ◌*◌, ◌↔◌, List, Some, length, IsTrue};
 ghost use Rattle.roam_screens.specs.Narrow.{IsOldScreenshot};
@@ -18,16 +18,16 @@ pub fn most_bytes()
     ensures old { (base s : Screenshot) → IsOldScreenshot s → length (difference_one base s) ≤ 650013 }
 {}
 
-/// The change that leads from a base to a screen names exactly the places at which the screen differs from the base
-/// brought to its size, in runs that rise and do not touch: each of them is maximal.
+/// The change that leads from a base to a screen names exactly the places at which the screen differs from the base brought to its size, in
+/// runs that rise and do not touch: each of them is maximal.
 pub fn named_places()
     ensures named { (base s : Screenshot) (k : ℕ) → IsScreenshot s → k < length s.cells
         → (IsNamed k (change_to base s).runs ↔ (¬ (glyph_at (sized_cells s.rows s.cols base) k ≡ glyph_at s.cells k))) }
     ensures apart { (base s : Screenshot) → IsScreenshot s → AreApart 0 (s.rows * s.cols) (change_to base s).runs }
 {}
 
-/// The grammar both ways: what a change spells is read as that change, what is read is a change that spells the text, and two
-/// changes with one text are one.
+/// The grammar both ways: a spelled change is read as that change, a change that is read spells the text, and two changes with one text are
+/// equal.
 pub fn grammar()
     ensures again { (x : Change) (text : List ℕ) → Spells x text → change_read text ≡ Some x }
     ensures spelled { (text : List ℕ) (x : Change) → All (λ (b : ℕ). b < 256) text → change_read text ≡ Some x → Spells x text }
@@ -41,8 +41,8 @@ pub fn tabled_grammar()
     ensures one { (x y : Change) (text : List ℕ) → SpellsTabled x text → SpellsTabled y text → x ≡ y }
 {}
 
-/// A text makes a screen of a base exactly where it spells a change whose result is a screen that is shown, and then that one;
-/// the test that decides it answers yes exactly for such screens.
+/// A text makes a screen of a base exactly if it spells a change whose result is a screen that can be shown, and then that one. The test
+/// that decides it is true exactly for such screens.
 #[tactic(auto, using(crate::proofs::Testing::screenshot_is, crate::proofs::Testing::is_screenshot_of))]
 pub fn made_screens()
     ensures made { (base s : Screenshot) (text : List ℕ) → All (λ (b : ℕ). b < 256) text
@@ -52,8 +52,7 @@ pub fn made_screens()
     ensures tested { (s : Screenshot) → (IsTrue (is_screenshot s) ↔ IsScreenshot s) }
 {}
 
-/// Where the width stays, a row that is below both numbers of rows is the old row itself; and a screen brought to its own
-/// size has its own cells.
+/// If the width stays, a row that is below both numbers of rows is the old row itself. A screen brought to its own size has its own cells.
 #[tactic(auto, using(crate::proofs::Sizing::row_stays, crate::proofs::Sizing::sized_same))]
 pub fn kept_rows()
     ensures row { (s : Screenshot) (rows r : ℕ) → IsScreenshot s → r < rows → r < s.rows

@@ -17,7 +17,7 @@ use std::alloc::{AllocError, Global};
 /// The styles that cells have used, each once, in order of first use.
 #[derive(Drop)]
 pub struct Numbers {
-    // Whether cells say their styles in full: then none of them has a number.
+    // True if cells spell their styles in full: then none of them has a number.
     pub(crate) whole: bool,
     // Their numbers as roam_cells gives them, so that they are looked up at once.
     pub(crate) keys: IndexSet<u64>,
@@ -80,7 +80,7 @@ fn add_entry(table: &mut Vec<u8>, style: Style) -> Result<(), AllocError>
     table.extend_from_slice(&colour(style.background))
 }
 
-// The number of a cell's style, which comes into the table where it isn't there yet.
+// Returns the number of a cell's style, and adds the style to the table if it isn't there yet.
 fn take_number(numbers: &mut Numbers, cell: &Cell) -> Result<usize, AllocError>
     requires are { AreNumbers numbers.old }
     ensures styles { OnOk result (styles_in numbers.new ≡ with_style (styles_in numbers.old) cell.now.style) }

@@ -30,7 +30,7 @@ impl Synced for RowShot1 {
     fn apply(&mut self, alloc: Global, change: &[u8]) -> Result<(), Fault>
         ensures ok { OnOk result (applied_one self.old change.now ≡ Some self.new) }
         ensures bad { IsErrOf result Fault.BadChange → applied_one self.old change.now ≡ None }
-        // A text that begins with no head is told so, whatever memory there is.
+        // A text that begins with no head is reported so, whatever memory there is.
         ensures memory { IsErrOf result Fault.OutOfMemory → HasOldHead (old_head_of_text change.now) }
         ensures err { OnErr result (self.new ≡ self.old) }
         ensures fault { IfErr result (λ fault. (fault ≡ Fault.OutOfMemory) ⊎ (fault ≡ Fault.BadChange)) }

@@ -5,8 +5,8 @@ ghost use Rattle.roam_cells.specs.Place.{glyph_at};
 
 use roam_cells::{Cell, are_same_cells};
 
-/// The first place from one on at which the cells differ, or their number where none does. From the first place on they are compared as a
-/// whole before they are one by one: most rows of a screen are as they were.
+/// Returns the first place from one on at which the cells differ, or their number if none does. From the first place on they are compared
+/// as a whole before they are compared one by one: most rows of a screen stay.
 pub fn next_difference(base: &[Cell], cells: &[Cell], from: usize) -> usize
     requires same { length base.now ≡ length cells.now }
     requires inside { from ≤ length cells.now }
@@ -27,7 +27,7 @@ pub fn next_difference(base: &[Cell], cells: &[Cell], from: usize) -> usize
     place
 }
 
-/// The first place from one on at which the cells are the same, or their number where they are so nowhere.
+/// Returns the first place from one on at which the cells are equal, or their number if there is none.
 pub fn next_same(base: &[Cell], cells: &[Cell], from: usize) -> usize
     requires same { length base.now ≡ length cells.now }
     requires inside { from ≤ length cells.now }

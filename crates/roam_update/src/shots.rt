@@ -27,7 +27,7 @@ use roam_screens::narrowing::{OLD_COLUMNS, OLD_ROWS};
 use roam_screens::{Line, RowShot, Seen, Shot};
 use std::alloc::{AllocError, Global};
 
-/// Whether two screens are of one size.
+/// Returns true if two screens are of one size.
 pub fn is_same_size<B: Seen, S: Seen>(base: &B, shot: &S) -> bool
     ensures same { IsTrue result ↔ AreSameSize (B.screen base.now) (S.screen shot.now) }
 {
@@ -92,7 +92,7 @@ fn joined(
     Ok(text)
 }
 
-// What stands before the runs of a change to a screen.
+// Returns the head of a change to a screen, before its runs.
 fn head_of<S: Seen>(shot: &S, runs: u32) -> Head
     ensures head { result ≡ record {
       rows = (S.screen shot.now).rows;
@@ -114,7 +114,8 @@ fn head_of<S: Seen>(shot: &S, runs: u32) -> Head
     }
 }
 
-/// The text of version 2 of the change from a base to a screen. The table stands before the runs that fill it, so they are written first.
+/// Returns the text of version 2 of the change from a base to a screen. The table comes before the runs that fill it, so they are written
+/// first.
 #[tactic(auto, using(crate::proofs::Joined::few_styles))]
 pub fn change_text<B: Seen, S: Seen>(
     alloc: Global,
@@ -148,8 +149,8 @@ pub fn old_change_text<B: Seen, S: Seen>(
     Ok(text)
 }
 
-// The rows of a base brought to a change's size, with its runs put in, where that leaves whole characters. A row that no run names is that
-// of the base where the size stays.
+// Returns the rows of a base brought to a change's size, with its runs put in, if that leaves whole characters. If the size stays, a row
+// that no run names is that of the base.
 #[tactic(auto, using(crate::proofs::Sizing::area))]
 fn patched(
     alloc: Global,
@@ -198,7 +199,7 @@ fn is_place(rows: u16, cols: u16, row: u16, col: u16) -> bool
     1 <= col && col <= cols
 }
 
-// Whether a table may have so many styles: a screen has no more than places.
+// Returns true if a table may have so many styles: a screen has no more than places.
 #[tactic(auto, using(crate::proofs::Sizing::area))]
 fn are_few(head: Head, count: usize) -> bool
     requires size { IsSize head.rows head.cols }
@@ -234,11 +235,11 @@ fn changed_rows(alloc: Global, base: &RowShot, head: Head, text: &[u8]) -> Resul
     patched(alloc, base, head, &mut form, n, runs)
 }
 
-/// The screen that a text of version 2 makes of a base; where the size stays, it shares each row that no run names.
+/// Returns the screen that a text of version 2 makes of a base. If the size stays, it shares each row that no run names.
 pub fn changed(alloc: Global, base: &RowShot, text: &[u8]) -> Result<RowShot, Fault>
     ensures ok { IfOk result (λ shot. applied_two base.now text.now ≡ Some shot) }
     ensures bad { IsErrOf result Fault.BadChange → applied_two base.now text.now ≡ None }
-    // A text that begins with no head, or with no table behind it, is told so, whatever memory there is.
+    // A text that begins with no head, or with no table behind it, is reported so, whatever memory there is.
     ensures memory { IsErrOf result Fault.OutOfMemory → HasStart text.now }
     ensures fault { IfErr result (λ fault. (fault ≡ Fault.OutOfMemory) ⊎ (fault ≡ Fault.BadChange)) }
 {
@@ -254,7 +255,7 @@ pub fn changed(alloc: Global, base: &RowShot, text: &[u8]) -> Result<RowShot, Fa
     Ok(screen(head, lines))
 }
 
-// Whether a size is one of version 1.
+// Returns true if a size is one of version 1.
 fn is_old_size(rows: u16, cols: u16) -> bool
     ensures old { IsTrue result ↔ ((rows ≤ 100) × (cols ≤ 250)) }
 {
@@ -282,13 +283,13 @@ fn old_changed_rows(
     patched(alloc, base, head, &mut form, head.runs, runs)
 }
 
-/// The screen that a text of version 1 makes of a base; where the size stays, it shares each row that no run names.
+/// Returns the screen that a text of version 1 makes of a base. If the size stays, it shares each row that no run names.
 pub fn old_changed(alloc: Global, base: &RowShot, text: &[u8]) -> Result<RowShot, Fault>
     requires old { IsOldScreenshot base.now }
     ensures ok { IfOk result (λ shot. applied_one base.now text.now ≡ Some shot) }
     ensures shown { IfOk result (λ shot. IsOldScreenshot shot) }
     ensures bad { IsErrOf result Fault.BadChange → applied_one base.now text.now ≡ None }
-    // A text that begins with no head is told so, whatever memory there is.
+    // A text that begins with no head is reported so, whatever memory there is.
     ensures memory { IsErrOf result Fault.OutOfMemory → HasOldHead (old_head_of_text text.now) }
     ensures fault { IfErr result (λ fault. (fault ≡ Fault.OutOfMemory) ⊎ (fault ≡ Fault.BadChange)) }
 {

@@ -9,8 +9,8 @@ use roam_cells::Cell;
 use roam_screens::Seen;
 use std::alloc::{AllocError, Global};
 
-/// The cells of a screen brought to a size: those that stay keep their row and column, new ones are blank, and a wide
-/// cell that is cut in two becomes a space in its style.
+/// Returns the cells of a screen brought to a size: those that stay keep their row and column, new ones are blank, and a wide cell that is
+/// cut in two becomes a space in its style.
 #[tactic(auto, using(crate::proofs::Sizing::table_none, crate::proofs::Sizing::table_more))]
 pub fn sized<B: Seen>(
     alloc: Global,

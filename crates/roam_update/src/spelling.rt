@@ -65,7 +65,7 @@ impl Spelling {
         }
     }
 
-    /// How many bytes of a cell stand before its code points.
+    /// Returns the number of a cell's bytes before its code points.
     pub fn head_size(&self) -> usize
         ensures size { result ≡ head_size self.now }
         ensures range { (4 ≤ result) × (result ≤ 6) }
@@ -94,7 +94,7 @@ impl Spelling {
         }
     }
 
-    /// Whether all styles of the table have been used.
+    /// Returns true if all styles of the table have been used.
     pub fn is_used_up(&self) -> bool
         ensures used { result ≡ is_used_up self.now }
     {

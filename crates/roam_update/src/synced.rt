@@ -1,4 +1,4 @@
-//! What a state must offer so that another end can follow it.
+//! The requirements on a state that another end can follow.
 
 ghost use Rattle.std.specs.Prelude.{◌≡◌, ◌++◌, ◌⊎◌, ℕ, List, Option, OnOk, OnErr, IfOk, IfErr, IsErrOf, IsOkUnless};
 
@@ -7,7 +7,7 @@ use std::alloc::Global;
 
 /// A state that another end follows by changes, each a text that leads from a base to a state.
 pub trait Synced: Drop {
-    /// What a text makes of a base: none where it is no change, or leads to no state.
+    /// The result of a text on a base: none if it is no change, or leads to no state.
     ghost applied: { Self → List ℕ → Option Self };
 
     /// The text of the change that leads from a base, the first, to a state.
@@ -26,7 +26,7 @@ pub trait Synced: Drop {
         ensures err { OnErr result (out.new.items ≡ out.old.items) }
         ensures fault { IsOkUnless result Fault.OutOfMemory };
 
-    /// Makes this state what the text makes of it; `BadChange` exactly where that is nothing, want of memory aside.
+    /// Replaces this state by the result of the text. `BadChange` exactly if there is none, `OutOfMemory`.
     fn apply(&mut self, alloc: Global, change: &[u8]) -> Result<(), Fault>
         ensures ok { OnOk result (applied self.old change.now ≡ Some self.new) }
         ensures bad { IsErrOf result Fault.BadChange → applied self.old change.now ≡ None }

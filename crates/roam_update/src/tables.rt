@@ -33,7 +33,7 @@ fn read_entry(text: &[u8]) -> Option<Style>
     Some(style_of(text[0], foreground, background))
 }
 
-// Adds the n styles at the front of a text to a table and their numbers to its keys; `BadChange` where one of them stands there already.
+// Adds the n styles at the front of a text to a table and their numbers to its keys. `BadChange` if one of them is there already.
 #[tactic(auto, using(crate::proofs::Entries::entry_steps))]
 fn add_entries(
     keys: &mut IndexSet<u64>,
@@ -67,7 +67,7 @@ fn add_entries(
     Ok(())
 }
 
-/// The n styles at the front of a text, each of which stands there once; `BadChange` where there are none.
+/// Returns the n styles at the front of a text, each of which is there once. `BadChange` if there are none.
 pub fn read_table(alloc: Global, n: usize, text: &[u8]) -> Result<Vec<Style>, Fault>
     ensures ok { IfOk result (λ table. table_read n [] text.now ≡ Some (record { styles = table.items; rest = drop (9 * n) text.now })) }
     ensures long { IfOk result (λ _. 9 * n ≤ length text.now) }
@@ -76,7 +76,7 @@ pub fn read_table(alloc: Global, n: usize, text: &[u8]) -> Result<Vec<Style>, Fa
     ensures memory { IsErrOf result Fault.OutOfMemory → IsSome (entry_read text.now) }
     ensures fault { IfErr result (λ fault. (fault ≡ Fault.OutOfMemory) ⊎ (fault ≡ Fault.BadChange)) }
 {
-    // A list that grows as styles are read: which refusal comes first is told in docs/DECISIONS.md, 34.
+    // The list grows as styles are read: so a text without a table is refused as `BadChange` before memory is asked for.
     let mut table = Vec::new(alloc);
     let mut keys: IndexSet<u64> = IndexSet::new(alloc);
     add_entries(&mut keys, &mut table, n, text)?;

@@ -7,7 +7,7 @@ ghost use Rattle.roam_update.specs.Sizes.{AreSameSize};
 use crate::runs::{next_difference, next_same};
 use roam_screens::Seen;
 
-/// The first place from one on at which two screens differ, or the number of places where none does.
+/// Returns the first place from one on at which two screens differ, or the number of places if none does.
 pub fn first_difference<B: Seen, S: Seen>(base: &B, shot: &S, from: usize) -> usize
     requires size { AreSameSize (B.screen base.now) (S.screen shot.now) }
     requires inside { from ≤ length (S.screen shot.now).cells }
@@ -34,7 +34,7 @@ pub fn first_difference<B: Seen, S: Seen>(base: &B, shot: &S, from: usize) -> us
     rows as usize * cols
 }
 
-/// The first place from one on at which two screens are the same, or the number of places where they are so nowhere.
+/// Returns the first place from one on at which two screens are equal, or the number of places if there is none.
 pub fn first_same<B: Seen, S: Seen>(base: &B, shot: &S, from: usize) -> usize
     requires size { AreSameSize (B.screen base.now) (S.screen shot.now) }
     requires inside { from ≤ length (S.screen shot.now).cells }

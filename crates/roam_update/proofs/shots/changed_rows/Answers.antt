@@ -20,7 +20,7 @@ number_behind text count e =
     let all : take (length text - 9) (drop 9 text) ≡ drop 9 text = take_all (length text - 9) (drop 9 text) (omega (arith, length-drop 9 text)) in
     e ∙ ap (big_number 3) all
 
--- the table by what was read
+-- the table by the parts that were read
 by_parts : (text entries rest : List ℕ) (count : ℕ) (styles : List Style) → count ≡ big_number 3 (drop 9 text) → entries ≡ drop 12 text
     → table_read count [] entries ≡ Some (record { styles = styles; rest = drop (9 * count) entries }) → rest ≡ drop (9 * count) entries
     → table_in text ≡ Some (record { styles = styles; rest = rest })
@@ -39,7 +39,7 @@ returns-then-not-are_few-clause-bad c =
     ] in
     too_many c.args.base.now h text cells (λ i. omega (arith, c.type_inv.text i)) (omega (arith, many, count)) is
 
--- a table may be read behind a head, by what was tested
+-- a table may be read behind a head, by the tests
 has_table : (h : Head) (text entries : List ℕ) (count : ℕ) → count ≡ big_number 3 (drop 9 text) → entries ≡ drop 12 text → count ≤ h.rows * h.cols
     → 12 ≤ length text → 9 * count + 4 ≤ length entries → (count ≡ 0) ⊎ IsSome (entry_read entries) → HasTable h text
 has_table h text entries count c e few head long first =
