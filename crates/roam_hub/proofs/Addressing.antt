@@ -1,4 +1,4 @@
--- What goes to the client start of a record, and what is kept of it then.
+-- The datagrams to the client start of a record, and the kept part of it then.
 use Rattle.std.proofs.Common.{◌≡◌, ℕ, ◌+◌, ◌≤◌, List, [], ◌∷◌, ◌++◌, length, map, Option, Some, None, Bool, true, false, refl, sym, ap, ◌∙◌, subst, cond, arith, Vec}
 use Rattle.std.specs.Prelude.{nat_lt, ◌&&◌, ◌||◌, option_and_then}
 use Rattle.std.specs.List.{enumerate_from}
@@ -76,7 +76,7 @@ applied_one_is base s text e = go (change_read text) e
     go None f = absurd (cc)
     go (Some x) f = shown (screen_by base x) (is_old_screenshot (screen_by base x)) refl f
 
--- what a change leads to is a screen of its version
+-- a change leads to a screen of its version
 applied_screen : (v : Version) (base s : Screenshot) (text : List ℕ) → applied_by v base text ≡ Some s → IsSeenBy v s
 applied_screen One base s text e = applied_one_is base s text e
 applied_screen Two base s text e = applied_two_is base s text e
@@ -124,7 +124,7 @@ held_now v n s now b version sender same e f g =
     (λ i. record v { version = same i; sender = g i })
     ∙ sym (λ i. record v { sender = cond ((sym e ∙ f) i) (offered v.sender n (seen_by v.version s)) v.sender })
 
--- ---- what goes to a start
+-- ---- the datagrams to a start
 
 as_many : (session client : ℕ) (v : RecordView) (texts : List (Vec ℕ Global))
     → texts_of texts ≡ map datagram_text (datagrams_for session (client, v)) → length texts ≡ length (fragments_due v)

@@ -42,7 +42,7 @@ apart_from id (e ∷ es) none = go (nat_eq id e.0) refl none (apart_from id es)
     go true f n next = absurd (cc)
     go false f n next = (f, next n)
 
--- ---- what is kept stays kept
+-- ---- kept parts stay kept
 
 kept_apart : (id : ℕ) (r : Record) (es : List (ℕ × RecordView)) (records : ℕ → Record) → Apart id es → AreKept es records
     → AreKept es (with_value records id r)
@@ -139,7 +139,7 @@ unknown : (r : Record) → r ≡ no_record → r.known ≡ false
 unfolding no_record
 unknown r e = ap (λ (x : Record). x.known) e
 
--- there is room for the record of an id where one is put
+-- there is room for the record of an id when one is put
 pub record PutsWell (v : ServerView) (s : Server) (id : ℕ) (new : List (ℕ × RecordView)) (r : Record) : Type 0 where
   pub arrival : keys_of new ≡ arrival_with s id
   pub records : AreKept new (with_value s.records id r)
@@ -173,7 +173,7 @@ puts_well v s d new was is r st apart (added at few first same) k =
           put_other s.records d.client r j (other_way j d.client false n.1) ∙ st.others j n.0);
     })
 
--- what was kept of it
+-- the kept part of it before
 pub was_kept : (v : ServerView) (s : Server) (d : DatagramValue) (new : List (ℕ × RecordView)) (was is : RecordView) → Stands v s
     → Puts d v.records new was is → was ≡ kept_of (s.records d.client)
 was_kept v s d new was is st (known at fits same) = (found d.client was v.records s.records at st.records).kept
@@ -290,7 +290,7 @@ there_is v s d x st at =
           (found d.client x v.records s.records at st.records).known;
     }
 
--- what is kept of the record of an id
+-- the kept part of the record of an id
 pub entry_is : (v : ServerView) (s : Server) (id : ℕ) → Stands v s → entry_of (lookup (nat_eq id) v.records) ≡ kept_of (s.records id)
 entry_is v s id st = go (lookup (nat_eq id) v.records) refl
   where

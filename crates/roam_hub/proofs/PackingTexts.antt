@@ -99,7 +99,7 @@ fragment_sendable v kind session client before id count index ps payload fit s c
       whole = (λ more. subst (λ (xs : List ℕ). length xs ≡ 1200) n.here (len.whole (omega (arith, all, more))));
     }
 
--- no version allows more fragments than two bytes can tell
+-- no version allows more fragments than two bytes can count
 pub at_most : (v : Version) → most_fragments v ≤ 4096
 at_most One = omega arith
 at_most Two = omega arith

@@ -1,4 +1,4 @@
--- What a record becomes.
+-- The new state of a record.
 use Rattle.std.proofs.Common.{◌≡◌, ◌⊎◌, ℕ, zero, suc, take, ◌+◌, ◌-◌, ◌%◌, ◌<◌, ◌≤◌, ◌^◌, List, [], ◌∷◌, ◌++◌, length, drop, Option, Some, None, Bool, true, false, inl, inr, refl, sym, ap, ◌∙◌, subst, cond, arith, Vec, length-drop}
 use Rattle.std.specs.Prelude.{Result, Ok, Err, IfOk, OnOk, slice_get, nat_lt, nat_eq, is_some, unwrap_or, if◌then◌else◌}
 use Rattle.std.specs.List.{All}
@@ -134,7 +134,7 @@ acked_last {S} all base (h ∷ hs) k e = go (nat_eq h.number k) (acked_last all 
 pub newest_acked : {S : Type 0} (s : Sending S) (k : ℕ) → newest (acked s k) ≡ newest s
 newest_acked s k = acked_last (s.base, s.later) s.base s.later k refl
 
--- the pairs from a number on are all that were held, or that number is held and fewer are
+-- the pairs from a number on are all pairs, or there is a pair of that number and they are fewer
 ack_cases : {S : Type 0} (all : Held S × List (Held S)) (hs : List (Held S)) (k : ℕ) → (after_ack all hs k ≡ all)
     ⊎ (((after_ack all hs k).0.number ≡ k) × (length (after_ack all hs k).1 < length hs))
 ack_cases all [] k = inl refl
@@ -149,7 +149,7 @@ ack_cases {S} all (h ∷ hs) k = go (nat_eq h.number k) refl (ack_cases all hs k
     go false e (inl same) = inl same
     go false e (inr less) = let few = less.1 in inr (less.0, omega (arith, few))
 
--- where fewer are held after an acknowledgement, its number is the base's
+-- if there are fewer after an acknowledgement, its number is the base's
 pub base_is : {S : Type 0} (s t : Sending S) (k base before after result : ℕ) → base ≡ s.base.number → before ≡ count s
     → t ≡ acked s k → after ≡ count t → result ≡ (if nat_lt after before then k else base) → result ≡ t.base.number
 base_is s t k base before after result b e is f r =
@@ -183,7 +183,7 @@ pub acts_noted : (old : RecordView) (before after : SessionView) (d : DatagramVa
 acts_noted old before after d from now text u g kept t new at says is new_is done =
     instruction g text u (ap coming_gathered at) says (new_is ∙ ap (λ (x : Gathering). informed_by old d from now x u t.taken) is) done
 
--- what is gathered once the acts are done
+-- the gathered fragments once the acts are done
 pub kept_as : (old : Gathering) (g : GathererValue) (kept : Gathering) (stopped : Bool) (stop : Option Fault)
     → kept ≡ (if stopped then (untaken g).current else g.current) → stopped ≡ is_some stop → g.before ≡ Some old
     → kept ≡ (if is_some stop then old else g.current)
@@ -333,7 +333,7 @@ known_not_noted id old was d fault same at none = go none
         subst (λ (x : RecordView). Fits x.version x.watches d) same_v f)
         (subst (λ (o : Option RecordView). NotNoted (entry_of o) d fault) (sym here) n)
 
--- what isn't noted in a record of a new start isn't in none
+-- a datagram that isn't noted in a record of a new start isn't noted in none
 unfitted : (d : DatagramValue) (fault : Fault) → NotNoted (first_record d.version (is_watching d.kind)) d fault
     → NotNoted (kept_of no_record) d fault
 unfitted d fault (no_fragment e f) = no_fragment e f

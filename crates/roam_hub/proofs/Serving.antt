@@ -1,4 +1,4 @@
--- What a server of the code stands for, after its calls.
+-- The model of a server of the code, after its calls.
 use Rattle.std.proofs.Common.{◌≡◌, ℕ, ◌≤◌, max, List, [], ◌∷◌, ◌++◌, length, map, take, Option, Some, None, Bool, true, false, refl, sym, ap, ◌∙◌, subst, cond, arith, length-append}
 use Rattle.std.specs.Prelude.{if◌then◌else◌, Ok, Err, nat_eq, nat_lt, not, is_some, ◌||◌}
 use Rattle.std.specs.List.{IsDistinct}
@@ -157,7 +157,7 @@ pub record Admits (v : ServerView) (d : DatagramValue) : Type 0 where
 here_is : (v : ServerView) (s : Server) (d : DatagramValue) → Stands v s → Admits v d → nat_eq d.session s.session ≡ true
 here_is v s d st a = subst (λ (n : ℕ). nat_eq d.session n ≡ true) st.session a.session
 
--- what it is is decided by the records, by whether there is room, and by the version and the kind of the one that is there
+-- the kind of a datagram depends on the records, on the room, and on the version and the kind of its record
 coming_by : (s : Server) (d : DatagramValue) (a b c : Bool) → is_to_server d.kind ≡ true → nat_eq d.session s.session ≡ true
     → is_full_for s d ≡ a → is_of_other s d ≡ b → is_else s d ≡ c
     → coming s d ≡ cond a (turned_away ClientsFull) (cond b (turned_away (BadDatagram reason.Version))
@@ -192,7 +192,7 @@ turned_other v s d x fault st a at (another_kind same e why) =
     ∙ ap (λ (r : RecordView). not (is_same r.watches (is_watching d.kind))) (sym (found_at v s d.client x st at)) ∙ ap not e)
     ∙ ap turned_away (sym why)
 
--- a server after a datagram was noted, with what was put into the session
+-- a server after a datagram was noted, with the new entries of the session
 stands_noted : (v : ServerView) (s : Server) (id moment n : ℕ) (log : List Entry) (new : List (ℕ × RecordView)) (r : Record)
     (state : SessionView) (now : ℕ) → Stands v s → PutsWell v s id new r → SessionStands state s.size (s.log ++ log)
     → moment ≡ max now v.clock
@@ -252,7 +252,7 @@ after_noted v s from bytes d now moment t new state st text admits m unique n = 
         → IsKept (informed_by (fitted_record n.was d) d from moment g u k) (informed_from (s.records d.client) d from (max now s.clock) g' u k)
     informed g g' u k e = record { known = refl; kept = λ i. informed_by (fitted_record (was i) d) d from (at i) (e i) u k }
 
-    -- where acts are done
+    -- the case that acts are done
     acts : (g g' : Gathering) (u : UpValue) (k : ℕ) (log : List Entry) → g ≡ g' → n.is ≡ informed_by (fitted_record n.was d) d from moment g u k
         → SessionStands state s.size (s.log ++ log)
         → Stands (record v { state = state; input = v.input || nat_lt 0 k; clock = moment; records = new }) (record s {

@@ -72,7 +72,7 @@ same_value es k x y v w e f = let z : Some (y, w) ≡ Some (x, v) = sym f
 
 -- ---- one record among them
 
--- the record at a place was prepared: es are the records before, x its id, v what was kept of it, w what is
+-- the record at a place was prepared: es are the records before, x its id, v its kept part before, w the one after
 pub record IsAt (es : List (ℕ × RecordView)) (k x : ℕ) (v w : RecordView) (n : ℕ) (s : Screenshot) (now : ℕ) : Type 0 where
   pub here : slice_get es k ≡ Some (x, v)
   pub held : w ≡ held_record v n s now
@@ -160,7 +160,7 @@ set_nothing (e ∷ es) zero x v w at same =
     ap (λ (y : RecordView). (e.0, y) ∷ es) (same ∙ ap (λ (p : ℕ × RecordView). p.1) z)
 set_nothing (e ∷ es) (suc k) x v w at same = ap (λ (ys : List (ℕ × RecordView)). e ∷ ys) (set_nothing es k x v w at same)
 
--- there are numbers for what goes to it
+-- there are numbers for its datagrams
 pub has_numbers : (w : RecordView) (now : ℕ) → (is_sent_to w now && is_instruction_spent w) ≡ false → HasNumbersFor w (fragments_sent w now)
 has_numbers w now e = go (is_sent_to w now) e
   where

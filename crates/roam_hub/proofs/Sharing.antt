@@ -62,7 +62,7 @@ module _ (screens : ℕ → Screenshot) (most : ℕ) (s : Screenshot) where
     next_all es all.1,
   )
 
--- ---- what a sender holds
+-- ---- the states of a sender
 
 module _ (screens : ℕ → Screenshot) (most : ℕ) (v : Version) where
   last_made : (base : Held Screenshot) (hs : List (Held Screenshot)) → IsMade screens most v base
@@ -182,7 +182,7 @@ have_numbered n old s now es new h is =
           (all_settled_made screens (n + 1) s now es last (next_all h.screens n s es h.made));
     }
 
--- what a tick begins with, where it makes no number and where it makes one
+-- the start of a tick, with and without a new number
 pub together_newest : (n : ℕ) (s : Screenshot) (es : List (ℕ × RecordView)) (cs : List SharedChange) → HaveScreens n s es → cs ≡ []
     → GoTogether n s es cs
 together_newest n s es cs h none =

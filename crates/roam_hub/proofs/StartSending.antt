@@ -1,4 +1,4 @@
--- What a client start sends.
+-- The datagrams that a client start sends.
 use Rattle.std.proofs.Common.{◌≡◌, ◌⊎◌, ℕ, ◌+◌, ◌<◌, ◌≤◌, ◌^◌, arith, max, List, [], ◌∷◌, length, take, map, Option, Some, None, Bool, true, false, inl, inr, refl, sym, ap, ◌∙◌, subst, Vec}
 use Rattle.std.specs.Prelude.{Result, Ok, Err, ◌||◌}
 use Rattle.std.specs.List.{enumerate_from}
@@ -32,7 +32,7 @@ pub short_in : (v : Version) (n : ℕ) → n ≤ 1228800 → n ≤ most_bytes v
 short_in One n few = few
 short_in Two n few = omega (arith, few)
 
--- what a watcher sends tells it
+-- a datagram of a read-only start names it
 pub from_watcher : (watches : Bool) → kind_from watches ≡ FromWatcher → watches ≡ true
 from_watcher true e = refl
 from_watcher false e = absurd (cc)
@@ -41,7 +41,7 @@ pub first_fits : (a b c : Bool) → a ≡ false → ((a || b) || c) ≡ (b || c)
 first_fits false b c e = refl
 first_fits true b c e = absurd (cc)
 
--- what is said of a start is said of the same one
+-- the clauses about a start are those about an equal one
 pub sent_alike : {v v' new : ClientView} {now : ℕ} {result : Result (Vec (Vec ℕ Global) Global) Fault} → v ≡ v'
     → Sends v now result new → Sends v' now result new
 sent_alike {v} {v'} {new} {now} {result} same = subst (λ (x : ClientView). Sends x now result new) same
@@ -88,7 +88,7 @@ all_sent v now moment due all act n m e f fit texts a len =
       datagrams = v.kept.datagrams + (len ∙ as_many v.session v.id v.kept all texts) i;
     }))
 
--- where no number would be past the last
+-- the case that no number would be past the last
 pub fits_on : (k : Kept) → is_client_spent k ≡ false → (k.instructions + 1 < 2 ^ 62) × (k.datagrams + length (fragments_from k) < 2 ^ 62)
 fits_on k e =
     let left = or_left (is_spent (k.acts.acked + 1) || is_spent (k.instructions + 1))

@@ -1,4 +1,4 @@
--- What a server of the code stands for, after a tick.
+-- The model of a server of the code, after a tick.
 use Rattle.std.proofs.Common.{◌≡◌, ◌⊎◌, ℕ, suc, ◌+◌, ◌-◌, ◌≤◌, max, List, [], ◌∷◌, ◌++◌, length, map, take, Some, None, Bool, true, false, inl, inr, refl, sym, ap, ◌∙◌, subst, cond, arith, Vec, length-append}
 use Rattle.std.specs.Prelude.{Result, Ok, Err, IfOk, IfErr, OnOk, OnErr, nat_eq, nat_lt, slice_index, ◌&&◌, ◌||◌}
 use Rattle.std.specs.List.{flat_map, list_any}
@@ -44,7 +44,7 @@ sends_is r n s now known =
     (λ i. (sym known i && nat_lt now (r.heard_at + 60000))
     && (Rattle.roam_sync.specs.Senders.is_due (holds_is r n (seen_by r.version s) now known i) now || Rattle.roam_model.specs.Moments.is_overdue r.owed now))
 
--- what goes to it
+-- its datagrams
 map_parcel : (to : Address) (ds : List DatagramValue) → map (λ d. (to, datagram_text d)) ds ≡ map parcel_text (map (parcel to) ds)
 map_parcel to [] = refl
 map_parcel to (d ∷ ds) = ap (λ (xs : List (Address × List ℕ)). (to, datagram_text d) ∷ xs) (map_parcel to ds)
@@ -81,7 +81,7 @@ spent_is id r n s now known =
     split false b c = refl
     split true b c = refl
 
--- what is kept of it
+-- its kept part
 kept_ticked : (r : Record) (n : ℕ) (s : Screenshot) (now : ℕ) → r.known ≡ true
     → IsKept (settled_with (held_record (kept_of r) n s now) (fragments_sent (held_record (kept_of r) n s now) now) now)
     (ticked_record r n (seen_by r.version s) now)
@@ -328,7 +328,7 @@ module _ (v : ServerView) (s : Server) (now m : ℕ) (st : Stands v s) (at : m �
   at_moment : m ≡ moment s now
   at_moment = at ∙ ap (λ (c : ℕ). max now c) st.clock
 
-  -- where no number is made
+  -- the case that no number is made
   module _ (unmade : makes_at v m ≡ false) where
     none_made : makes s m ≡ false
     none_made = sym (makes_is v s m st) ∙ unmade
@@ -379,7 +379,7 @@ module _ (v : ServerView) (s : Server) (now m : ℕ) (st : Stands v s) (at : m �
               spent_at s now m why new at_moment (spent_told ∙ full.1) full.0 (subst (λ (x : ServerView). Stands x s) (sym err) st)
         ]
 
-  -- where a number is made
+  -- the case that a number is made
   module _ (made_now : makes_at v m ≡ true) where
     is_made : makes s m ≡ true
     is_made = sym (makes_is v s m st) ∙ made_now

@@ -1,4 +1,4 @@
--- What a server of the code stands for does at a tick, or doesn't: by what is kept of its records.
+-- The actions of a server's model at a tick, by the kept parts of its records.
 use Rattle.std.proofs.Common.{◌≡◌, ◌⊎◌, ℕ, ◌+◌, ◌<◌, ◌≤◌, ◌^◌, max, List, [], ◌∷◌, ◌++◌, length, map, take, Option, Some, None, Bool, true, false, inl, inr, refl, sym, ap, ◌∙◌, subst, cond, arith}
 use Rattle.std.specs.Prelude.{IfSome, nat_eq, nat_le, nat_lt, slice_get, ◌&&◌, ◌||◌}
 use Rattle.std.specs.List.{flat_map, list_any}
@@ -19,7 +19,7 @@ use Rattle.roam_hub.specs.Waits.{has_come, PassesFrom, is_record_due, is_entry_d
 
 -- ---- one record
 
--- a record of the definitions is touched where what is kept of it is due
+-- a record of the definitions is touched if its kept part is due
 touched_is : (r : Record) (n : ℕ) (s : Screenshot) (m : ℕ) → r.known ≡ true
     → (is_offered r n m || sends r n s m) ≡ is_record_due (kept_of r) n m
 unfolding sends holds_after
@@ -88,7 +88,7 @@ all_touched n m seen (e ∷ es) records k =
 same_id : (i j : ℕ) → nat_eq i j ≡ true → i ≡ j
 same_id i j e = grind (arith, nat_tests)
 
--- where no record passes a test, the one of an id that is found doesn't
+-- if no record passes a test, the one found by an id doesn't
 passes_none : (p : ℕ → Bool) (id : ℕ) (v : RecordView) (es : List (ℕ × RecordView)) → list_any p (keys_of es) ≡ false
     → lookup (nat_eq id) es ≡ Some v → p id ≡ false
 passes_none p id v [] none at = absurd (cc)
@@ -165,7 +165,7 @@ module _ (v : ServerView) (s : Server) (m : ℕ) (st : Stands v s) where
       ∙ ap (λ (n : ℕ). list_any (is_entry_due n m) v.records)
       (sym (st.made ∙ sym (ap (λ b. length (cond b (s.cuts ++ length s.log ∷ []) s.cuts)) unmade)))
 
-  -- a server does something where a number is made by what is kept of it, or a record of it is due
+  -- a server acts if its kept part makes a number, or a record of it is due
   pub due_is : is_server_due s m ≡ (makes_at v m || list_any (is_entry_due v.made m) v.records)
   due_is = go (makes_at v m) refl
     where

@@ -1,4 +1,4 @@
--- What a client start of the code stands for, and what its calls answer and leave.
+-- The model of a client start of the code, and the results and effects of its calls.
 use Rattle.std.specs.Prelude.{◌≡◌, ℕ, ◌+◌, ◌<◌, List, [], map, fold, length, Some, None, Result, Ok, Err, Bool, true, false, nat_lt, Vec}
 use Rattle.std.specs.declared.alloc.Global.{Global}
 use Rattle.roam_cells.specs.declared.faults.Fault.{Fault}
@@ -27,7 +27,7 @@ use Rattle.roam_model.specs.Sendings.{is_client_due, is_client_spent, datagrams_
 use Rattle.roam_hub.specs.declared.clients.Heard.{Heard}
 use Rattle.roam_hub.specs.declared.clients.Heard.TheVariants as heard
 
--- what contracts see of a client start: its session, its id, and what the definitions keep of it
+-- the value of a client start for contracts: its session, its id, and the kept part of the definitions
 pub record ClientView : Type 0 where
   pub session : ℕ
   pub id : ℕ
@@ -37,15 +37,15 @@ pub record ClientView : Type 0 where
 abbrev pub view_of : ℕ → ℕ → Client → ClientView
 view_of session id c = record { session = session; id = id; kept = c.kept }
 
--- a start of the code stands for a start of the definitions: it has what is kept of it
+-- a start of the code models a start of the definitions: it has its kept part
 abbrev pub Stands : ClientView → ℕ → ℕ → Client → Type 0
 Stands v session id c = v ≡ view_of session id c
 
--- it is as before, but for what is kept
+-- it is as before, but for the kept part
 abbrev pub keeping : ClientView → Kept → ClientView
 keeping v k = record v { kept = k }
 
--- what is answered to a datagram, as the definitions name it
+-- the result for a datagram, as the definitions name it
 abbrev pub hearing_in : Heard → Hearing
 hearing_in heard.Part = IsPart
 hearing_in heard.Old = IsOld
@@ -66,8 +66,8 @@ pub data Types (v : ClientView) (act : Act) (result : Result (Unit {0}) Fault) (
 abbrev pub after_typed_all : Kept → List Act → Kept
 after_typed_all k acts = fold after_typed k acts
 
--- Several acts are typed: the start only watches; more than 1,024 would be unacknowledged; numbers are spent; all of them are taken; or
--- memory is wanting.
+-- Several acts are typed: the start is read-only; more than 1,024 would be unacknowledged; numbers are spent; all of them are taken; or
+-- memory is refused.
 pub data TypesAll (v : ClientView) (acts : List Act) (result : Result (Unit {0}) Fault) (new : ClientView) : Type 0 where
   watching : v.kept.watches ≡ true → result ≡ Err Watching → new ≡ v → TypesAll v acts result new
   full : v.kept.watches ≡ false → HasNoRoom v.kept.acts (length acts) → result ≡ Err Busy → new ≡ v
@@ -79,8 +79,8 @@ pub data TypesAll (v : ClientView) (acts : List Act) (result : Result (Unit {0})
   no_memory : v.kept.watches ≡ false → (HasNoRoom v.kept.acts (length acts) → ⊥) → (IsShort v.kept.acts (length acts) → ⊥) → 0 < length acts
       → result ≡ Err OutOfMemory → new ≡ v → TypesAll v acts result new
 
--- an instruction's text was read and delivered to a receiver of a version: what it made of it, whether its new number is above its old
--- one, and the acts then
+-- an instruction's text was read and delivered to a receiver of a version: the result, whether its new number is above its old one, and the
+-- acts then
 pub record Delivered (version : Version) (text : List ℕ) (old : Typing) (r : Receiving Screenshot) (answer : Step) (owes : Bool)
     (new : Typing) (r' : Receiving Screenshot) : Type 0 where
   pub value : DownValue
@@ -90,7 +90,7 @@ pub record Delivered (version : Version) (text : List ℕ) (old : Typing) (r : R
   pub newer : owes ≡ nat_lt value.old value.new
   pub acts : new ≡ acked_to old value.acked
 
--- why a text can't be delivered: it is none; its change is bad; or memory is wanting
+-- the reasons for which a text isn't delivered: it is none; its change is bad; or memory is refused
 pub data NotDelivered (version : Version) (text : List ℕ) (r : Receiving Screenshot) (fault : Fault) : Type 0 where
   unread : (why : Reason) → SaysNoDown text why → fault ≡ BadDatagram why → NotDelivered version text r fault
   bad_change : (v : DownValue) (base : Screenshot) → SaysDown text v → step_for r v.old v.new v.floor ≡ step.New
@@ -108,8 +108,8 @@ pub record IsTextOf (bytes : List ℕ) (d : DatagramValue) : Type 0 where
   pub is : IsDatagram d
   pub spelled : bytes ≡ datagram_text d
 
--- Bytes come: they are no datagram; it is refused; it makes no instruction whole; its instruction can't be read; its change is bad; the
--- receiver hears its update; or memory is wanting for a datagram.
+-- Bytes come: they are no datagram; it is refused; it completes no instruction; its instruction is invalid; its change is bad; the receiver
+-- takes its update; or memory is refused for a datagram.
 pub data Hears (v : ClientView) (bytes : List ℕ) (now : ℕ) (result : Result Heard Fault) (new : ClientView)
     : Type 0 where
   no_datagram : (why : Reason) → IsNoDatagram bytes why → result ≡ Err (BadDatagram why) → new ≡ v

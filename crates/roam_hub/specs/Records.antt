@@ -1,4 +1,4 @@
--- What a server keeps of a client start, and what its calls make of it.
+-- The server's record of a client start, and the effects of its calls.
 use Rattle.std.specs.Prelude.{◌≡◌, ℕ, Result, Ok, Err, ◌+◌, ◌%◌, ◌^◌, ◌<◌, ◌≤◌, max, nat_lt, nat_eq, ◌==◌, ◌&&◌, ◌||◌, List, [], ◌∷◌, ◌++◌, length, take, map, is_some, Option, Some, None, Bool, true, if◌then◌else◌, filter, false}
 use Rattle.std.specs.List.{flat_map, list_any}
 use Rattle.std.specs.Map.{lookup, set_value}
@@ -31,7 +31,7 @@ use Rattle.roam_hub.specs.Servers.{RecordView, ServerView, kept_of, stop_after}
 use Rattle.roam_hub.specs.declared.addresses.Stop.{Stop}
 use Rattle.roam_hub.specs.declared.taking.Taking.{Taking}
 
--- a record of the definitions with what is kept and no histories
+-- a record of the definitions with the kept part and no histories
 abbrev pub bare : RecordView → Record
 bare v =
     record {
@@ -71,18 +71,18 @@ pub data IsOther (version : Version) (watches : Bool) (d : DatagramValue) (fault
 abbrev pub taking : ℕ → Option Fault → Taking
 taking n stop = record { taken = n; stopped = stop }
 
--- what is answered where so many acts were taken
+-- the result if so many acts were taken
 abbrev pub answer_with : ℕ → Option Fault → Result ℕ Stop
 answer_with n None = Ok n
 answer_with n (Some fault) = stop_after fault n
 
--- what is answered to a datagram, by what became of its acts
+-- the result for a datagram, by its acts
 abbrev pub answer_to_datagram : Result Taking Fault → Result ℕ Stop
 answer_to_datagram (Ok t) = answer_with t.taken t.stopped
 answer_to_datagram (Err fault) = stop_after fault 0
 
--- Acts are done one after another: all of them; those before the first that finds its queue full; or those before one for which memory
--- is wanting.
+-- Acts are done one after another: all of them; those before the first that finds its queue full; or those before one for which memory is
+-- refused.
 pub data TakesActs (size : SessionSize) (log : List Entry) (id : ℕ) (acts : List Act) (t : Taking) (new : SessionView) : Type 0 where
   all : reach size log id acts ≡ length acts → t ≡ taking (length acts) None
       → SessionStands new size (log ++ map (Did id) acts) → TakesActs size log id acts t new
@@ -110,8 +110,8 @@ informed_by v d from now g u n =
       owed = if length u.acts == 0 then v.owed else owed_from v.owed now;
     }
 
--- A datagram is noted in a record: it makes no instruction whole, or its instruction's new acts are done; a stop leaves what was gathered
--- before.
+-- A datagram is noted in a record: it completes no instruction, or its instruction's new acts are done; after a stop the gathered fragments
+-- are those before.
 pub data Notes (old : RecordView) (before : SessionView) (d : DatagramValue) (from : Address) (now : ℕ) (t : Taking) (new : RecordView)
     (after : SessionView) : Type 0 where
   fragment : (g : Gathering) → coming_gathered (gather old.gathering (fragment_of d)) ≡ noted tt g → t ≡ taking 0 None
@@ -121,7 +121,7 @@ pub data Notes (old : RecordView) (before : SessionView) (d : DatagramValue) (fr
       → ((size : SessionSize) (log : List Entry) → SessionStands before size log
       → TakesActs size log d.client (fresh_of old.taken u.first u.acts) t after) → Notes old before d from now t new after
 
--- why nothing is noted: it is no fragment of what is gathered; its instruction can't be read; or memory is wanting
+-- the reasons for which nothing is noted: it is no fragment of the gathered instruction; its instruction is invalid; or memory is refused
 pub data NotNoted (old : RecordView) (d : DatagramValue) (fault : Fault) : Type 0 where
   no_fragment : gather old.gathering (fragment_of d) ≡ None → fault ≡ BadDatagram Fragment → NotNoted old d fault
   unread : (g : Gathering) (text : List ℕ) (why : Reason) → coming_gathered (gather old.gathering (fragment_of d)) ≡ completed g text
@@ -142,8 +142,7 @@ unfoldable pub acts_after : ℕ → List (ℕ × RecordView) → ℕ
 acts_after n [] = n
 acts_after n (e ∷ es) = acts_after ((n + e.1.taken) % 2 ^ 64) es
 
--- the record of a datagram's start was one and is another: it was there, of the datagram's version and kind; or it is new, and as many as
--- may be aren't known yet
+-- The record of a datagram's start changes: it was there, of the datagram's version and kind; or it is new, and there is room for it.
 pub data Puts (d : DatagramValue) (old new : List (ℕ × RecordView)) (v w : RecordView) : Type 0 where
   known : lookup (nat_eq d.client) old ≡ Some v → Fits v.version v.watches d → new ≡ set_value (nat_eq d.client) old w → Puts d old new v w
   added : lookup (nat_eq d.client) old ≡ None → length (alike_entries (is_watching d.kind) old) < most_of (is_watching d.kind)
@@ -161,13 +160,13 @@ pub record NotesIn (old : List (ℕ × RecordView)) (before : SessionView) (d : 
   pub puts : Puts d old new was is
   pub notes : Notes (fitted_record was d) before d from now t is after
 
--- what is kept of the record of an id, if only that nothing came
+-- the kept part of the record of an id, or that nothing came
 abbrev pub entry_of : Option RecordView → RecordView
 entry_of None = kept_of no_record
 entry_of (Some v) = v
 
--- why nothing is noted in any record: there is no room for one more; the one that is there is of another version or kind; or nothing is
--- noted in that of the client start
+-- the reasons for which nothing is noted in any record: there is no room for one more; the one that is there is of another version or kind;
+-- or nothing is noted in that of the client start
 pub data NotNotedIn (old : List (ℕ × RecordView)) (d : DatagramValue) (fault : Fault) : Type 0 where
   full : lookup (nat_eq d.client) old ≡ None → most_of (is_watching d.kind) ≤ length (alike_entries (is_watching d.kind) old)
       → fault ≡ ClientsFull → NotNotedIn old d fault
@@ -199,11 +198,11 @@ fragments_sent v now = if is_sent_to v now then Some (length (fragments_due v)) 
 abbrev pub datagrams_for : ℕ → ℕ × RecordView → List DatagramValue
 datagrams_for session e = datagrams_of e.1.version ToClient session e.0 e.1.datagrams (e.1.instructions + 1) (fragments_due e.1)
 
--- their texts, each with where it goes
+-- their texts, each with its address
 abbrev pub parcels_for : ℕ → ℕ → ℕ × RecordView → List (Address × List ℕ)
 parcels_for session now e = if is_sent_to e.1 now then map (λ d. (e.1.address, datagram_text d)) (datagrams_for session e) else []
 
--- what is kept of it once so many datagrams were sent, or none
+-- its kept part once so many datagrams were sent, or none
 abbrev pub settled_with : RecordView → Option ℕ → ℕ → RecordView
 settled_with v None now = v
 settled_with v (Some k) now =
@@ -214,20 +213,20 @@ abbrev pub HasNumbersFor : RecordView → Option ℕ → Type 0
 HasNumbersFor v None = Unit {0}
 HasNumbersFor v (Some k) = (v.datagrams + k < number_limit) × (v.instructions + 1 < number_limit)
 
--- what is kept of it where an offer is taken back
+-- its kept part after an offer is taken back
 abbrev pub back_from : RecordView → Bool → RecordView
 back_from v offered = if offered then record v { sender = withdrawn v.sender } else v
 
--- ---- a whole tick, where s is the screen of the newest number n
+-- ---- a whole tick, with s as the screen of the newest number n
 
--- what a record holds then: the screen as its version is shown it
+-- the states of a record then: the screen as its version shows it
 abbrev pub held_record : RecordView → ℕ → Screenshot → ℕ → RecordView
 held_record v n s now = record v { sender = holds_after (bare v) n (seen_by v.version s) now }
 
 abbrev pub held_entry : ℕ → Screenshot → ℕ → ℕ × RecordView → ℕ × RecordView
 held_entry n s now e = (e.0, held_record e.1 n s now)
 
--- what goes to its client start
+-- the datagrams to its client start
 abbrev pub texts_for : ℕ → ℕ → Screenshot → ℕ → ℕ × RecordView → List (Address × List ℕ)
 texts_for session n s now e = parcels_for session now (held_entry n s now e)
 
@@ -235,7 +234,7 @@ texts_for session n s now e = parcels_for session now (held_entry n s now e)
 abbrev pub is_entry_spent : ℕ → Screenshot → ℕ → ℕ × RecordView → Bool
 is_entry_spent n s now e = is_sent_to (held_record e.1 n s now) now && is_instruction_spent (held_record e.1 n s now)
 
--- what is kept of it after the tick
+-- its kept part after the tick
 abbrev pub settled_entry : ℕ → Screenshot → ℕ → ℕ × RecordView → ℕ × RecordView
 settled_entry n s now e = (e.0, settled_with (held_record e.1 n s now) (fragments_sent (held_record e.1 n s now) now) now)
 
@@ -247,7 +246,7 @@ makes_at v now = v.made == 0 || (v.input && has_passed frame_interval v.made_at 
 abbrev pub sent_by_tick : ServerView → ℕ → Screenshot → ℕ → List (Address × List ℕ)
 sent_by_tick v n s now = flat_map (texts_for v.session n s now) v.records
 
--- the server with what is kept of its records then
+-- the server with the kept parts of its records then
 abbrev pub ticked_by : ServerView → ℕ → Screenshot → ℕ → ServerView
 ticked_by v n s now = record v { records = map (settled_entry n s now) v.records }
 

@@ -1,4 +1,4 @@
--- What a server of the code stands for, and what its calls answer and leave.
+-- The model of a server of the code, and the results and effects of its calls.
 use Rattle.std.specs.Prelude.{◌≡◌, ◌⊎◌, ℕ, ◌<◌, ◌≤◌, nat_eq, ◌&&◌, ◌||◌, List, [], ◌∷◌, length, map, Option, Some, None, Result, Ok, Err, Bool, true, false, Vec}
 use Rattle.std.specs.List.{list_any}
 use Rattle.std.specs.Map.{keys_of, lookup}
@@ -30,9 +30,9 @@ use Rattle.roam_hub.specs.Clients.{IsTextOf, IsNoDatagram}
 use Rattle.roam_cells.specs.declared.addresses.Addr.{Addr}
 use Rattle.roam_hub.specs.declared.addresses.Stop.{Stop}
 
--- ---- what a server stands for
+-- ---- the model of a server
 
--- what contracts see of a record: what the definitions have of it, but for its history, and how many instructions were sent to it
+-- the value of a record for contracts: the parts of the definitions without its history, and how many instructions were sent to it
 pub record RecordView : Type 0 where
   pub version : Version
   pub watches : Bool
@@ -46,7 +46,7 @@ pub record RecordView : Type 0 where
   pub datagrams : ℕ
   pub instructions : ℕ
 
--- what is kept of a record
+-- the kept part of a record
 abbrev pub kept_of : Record → RecordView
 kept_of r =
     record {
@@ -63,7 +63,7 @@ kept_of r =
       instructions = length r.instructions;
     }
 
--- what contracts see of a server: its session, how many numbers were made, the screen of the newest, when that was and whether an input
+-- the value of a server for contracts: its session, how many numbers were made, the screen and the moment of the newest, whether an input
 -- came since, and the records by their ids in the order of arrival
 pub record ServerView : Type 0 where
   pub session : ℕ
@@ -85,11 +85,11 @@ abbrev pub AreKept : List (ℕ × RecordView) → (ℕ → Record) → Type 0
 AreKept [] records = Unit {0}
 AreKept (e ∷ es) records = IsKept e.1 (records e.0) × AreKept es records
 
--- the newest number stands for a place in the log
+-- the newest number is a place in the log
 abbrev pub IsCut : Server → Type 0
 IsCut s = cut_of s.cuts (length s.cuts) ≤ length s.log
 
--- a server of the code stands for a server of the definitions: it has what is kept of it
+-- a server of the code models a server of the definitions: it has its kept part
 pub record Stands (v : ServerView) (s : Server) : Type 0 where
   pub session : v.session ≡ s.session
   pub log : SessionStands v.state s.size s.log
@@ -118,7 +118,7 @@ pub data Drains (s : Server) (pane n : ℕ) (result : Result (Unit {0}) Fault) (
   gone : (output : List ℕ) → output_at s.size s.log pane ≡ Some output → n ≤ length output → result ≡ Ok tt
       → Stands new (after_input s (Drained pane n)) → Drains s pane n result new
 
--- where a socket's address is
+-- the address of a socket's address
 abbrev pub address_of : Addr → Address
 address_of a = record { host = big_number 4 a.host; port = a.port }
 
@@ -126,8 +126,8 @@ address_of a = record { host = big_number 4 a.host; port = a.port }
 abbrev pub stop_after : Fault → ℕ → Result ℕ Stop
 stop_after fault n = Err (record { fault = fault; taken = n })
 
--- Bytes come: they are no datagram; it is refused; it makes no instruction whole; its instruction can't be read; all its new acts are
--- taken; one finds its queue full; memory is wanting at one, or anywhere else.
+-- Bytes come: they are no datagram; it is refused; it completes no instruction; its instruction is invalid; all its new acts are taken; one
+-- finds its queue full; memory is refused at one, or anywhere else.
 pub data Comes (s : Server) (from : Address) (bytes : List ℕ) (now : ℕ) (result : Result ℕ Stop) (new : ServerView) : Type 0 where
   no_datagram : (why : Reason) → IsNoDatagram bytes why → result ≡ stop_after (BadDatagram why) 0 → Stands new s
       → Comes s from bytes now result new
@@ -154,7 +154,7 @@ pub data Comes (s : Server) (from : Address) (bytes : List ℕ) (now : ℕ) (res
   no_memory : (d : DatagramValue) → IsTextOf bytes d → result ≡ stop_after OutOfMemory 0 → Stands new s
       → Comes s from bytes now result new
 
--- the bytes tell the kind of a datagram from a start that only watches, whatever else they are
+-- the bytes have the kind of a datagram from a read-only start, whatever else they are
 abbrev pub ComesFromWatcher : List ℕ → Type 0
 ComesFromWatcher bytes = (header_at bytes).kind ≡ 3
 
@@ -163,7 +163,7 @@ abbrev pub taken_in : Result ℕ Stop → ℕ
 taken_in (Ok n) = n
 taken_in (Err stop) = stop.taken
 
--- no act is taken, and the server is as it was but for its moments and the record of the start whose id the bytes tell
+-- no act is taken, and the server stays, but for its moments and the record of the start whose id is in the bytes
 pub record TakesNothing (s : Server) (bytes : List ℕ) (result : Result ℕ Stop) (new : ServerView) : Type 0 where
   pub none : taken_in result ≡ 0
   pub left : Server
@@ -176,7 +176,7 @@ IsStopAtAct stop = (stop.fault ≡ OutOfMemory) ⊎ (stop.fault ≡ Busy)
 
 -- ---- a tick
 
--- where the texts of datagrams go
+-- the addresses and texts of datagrams
 abbrev pub parcels_of : List (Addr × Vec ℕ Global) → List (Address × List ℕ)
 parcels_of all = map (λ p. (address_of p.0, p.1.items)) all
 

@@ -1,4 +1,4 @@
--- What records share: the screens of the numbers that were made, and the changes between them.
+-- The parts that records share: the screens of the numbers that were made, and the changes between them.
 use Rattle.std.specs.Prelude.{◌≡◌, ℕ, ◌<◌, ◌≤◌, List, length, Some}
 use Rattle.std.specs.List.{All, AllByRecursion, HoldsAt}
 use Rattle.roam_screens.specs.Screenshot.{Screenshot}
@@ -66,7 +66,7 @@ pub record GoTogether (most : ℕ) (screen : Screenshot) (es : List (ℕ × Reco
   pub made : HoldMade screens most es
   pub between : AreBetween screens cs
 
--- of whichever screens the record's pairs and the changes were, where the newest number has this one, those that there are now are too
+-- if the record's pairs and the changes were those of some screens, and the newest number has this one, the new ones are too
 abbrev pub StayTogether : ℕ → Screenshot → RecordView → List SharedChange → List SharedChange → Type 0
 StayTogether most screen v old new =
     (screens : ℕ → Screenshot) → screens most ≡ screen → HoldsMade screens most v.version v.sender → AreBetween screens old
@@ -82,7 +82,7 @@ pub record IsFromTo (version : Version) (old new : ℕ) (c : SharedChange) : Typ
   pub from : c.down.old ≡ old
   pub to : c.down.new ≡ new
 
--- such a one stands at a place
+-- such a change is at a place
 abbrev pub HasChange : List SharedChange → ℕ → Version → ℕ → ℕ → Type 0
 HasChange cs at version old new = (at < length cs) × HoldsAt (IsFromTo version old new) cs at
 
@@ -96,6 +96,6 @@ pub record LeadsOver (version : Version) (s : Sending Screenshot) (c : SharedCha
   pub change : c.down.change.items ≡ difference_by version s.base.state (newest s).state
   pub leads : applied_by version s.base.state c.down.change.items ≡ Some (newest s).state
 
--- such a one stands at a place
+-- such a change is at a place
 abbrev pub IsChangeFor : List SharedChange → ℕ → Version → Sending Screenshot → Type 0
 IsChangeFor cs at version s = (at < length cs) × HoldsAt (LeadsOver version s) cs at

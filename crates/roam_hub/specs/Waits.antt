@@ -19,7 +19,7 @@ pub record PassesFrom (due : Option ℕ) (test : ℕ → Bool) : Type 0 where
 
 -- ---- a record
 
--- it may be offered a number: that is above its sender's newest, and fewer than eight are held
+-- it may be offered a number: that is above its sender's newest, and there are fewer than eight
 abbrev pub has_room_for : RecordView → ℕ → Bool
 has_room_for v n = nat_lt (newest v.sender).number n && nat_lt (count v.sender) most_held
 

@@ -1,4 +1,4 @@
-//! What a server answers where it stops.
+//! The result of a server that stops at an act.
 
 use roam_cells::Fault;
 

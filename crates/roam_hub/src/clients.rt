@@ -1,4 +1,4 @@
-//! A client start: what is typed there, what it hears, what it sends.
+//! A client start: the acts typed there, the datagrams it takes, and those it sends.
 ghost use Rattle.std.specs.Prelude.{◌≡◌, ◌+◌, ◌⊎◌, ◌↔◌, ◌<◌, ◌≤◌, ◌^◌, true, false, not, length, map, ℕ, List, [], IsTrue, IfOk, IfErr, IfSome, OnOk, OnErr, IsErrOf, IsOkUnless, if◌then◌else◌};
 ghost use Rattle.std.specs.List.{All};
 ghost use Rattle.roam_acts.specs.Acts.{HasKey, IsInRange};
@@ -37,7 +37,7 @@ use roam_wire::{
 use std::alloc::Global;
 use std::marker::Model;
 
-/// What a datagram was to a client start.
+/// The kind of a datagram to a client start.
 #[derive(Clone, Copy, Debug, PartialEq, Eq)]
 pub enum Heard {
     /// A fragment of an instruction of which others are missing.
@@ -104,7 +104,7 @@ impl Model for Client {
         × (c.watches ≡ true → version_in c.receiver ≡ Two) };
 }
 
-// What the type of an act tells: its character is a Unicode scalar value.
+// A fact from the type of an act: its character is a Unicode scalar value.
 fn facts(act: Act)
     ensures key { HasKey act }
 {
@@ -125,7 +125,7 @@ fn all_facts(acts: &[Act])
     }
 }
 
-// What a datagram is answered where the receiver made this of its update.
+// Returns the result for a datagram, by the receiver's result for its update.
 fn heard_of(step: Step) -> Heard
     ensures heard { hearing_in result ≡ hearing_of step }
 {
@@ -136,7 +136,7 @@ fn heard_of(step: Step) -> Heard
     }
 }
 
-// Whether a datagram goes to a client.
+// Returns true if a datagram goes to a client.
 fn is_to_client(kind: Kind) -> bool
     ensures kind { result ≡ not (is_to_server kind) }
 {
@@ -146,7 +146,7 @@ fn is_to_client(kind: Kind) -> bool
     }
 }
 
-// Whether a datagram is for a start of this id in this session, and of its version.
+// Returns Ok if a datagram is for a start of this id in this session, and of its version.
 fn admit(session: u64, id: u64, version: Version, datagram: &Datagram) -> Result<(), Fault>
     ensures ok { OnOk result ((k : Kept) → k.version ≡ version → arriving session id k (datagram_value datagram.now)
         ≡ arriving_gathered (gather k.gathering (fragment_of (datagram_value datagram.now)))) }
@@ -168,7 +168,8 @@ fn admit(session: u64, id: u64, version: Version, datagram: &Datagram) -> Result
     Ok(())
 }
 
-// What the receiver makes of an instruction's text, and whether its new number is above its old one; what it acknowledges goes to the acts.
+// Delivers an instruction's text to the receiver; returns the result, and true if its new number is above its old one. The acknowledged
+// number goes to the acts.
 fn deliver(
     alloc: Global,
     acts: &mut ActSender,
@@ -235,8 +236,8 @@ impl Client {
         })
     }
 
-    /// A start of this id in this session, of version 2: nothing was typed, and it shows the blank screen of 24 by 80 under the number 0.
-    /// Refuses want of memory.
+    /// Returns a start of this id in this session, of version 2: nothing was typed, and it shows the blank screen of 24 by 80 under the
+    /// number 0. `OutOfMemory`.
     pub fn new(alloc: Global, session: u64, id: u64) -> Result<Client, Fault>
         ensures stands { IfOk result (λ client. Stands client session id (new_client Two false)) }
         ensures fault { IsOkUnless result Fault.OutOfMemory }
@@ -260,8 +261,8 @@ impl Client {
         Client::begun(alloc, session, id, Version::Two, true)
     }
 
-    /// Takes an act that was typed here. `Watching` where the start only watches, `Busy` where 1,024 acts are unacknowledged, `Spent` where
-    /// its number would be 2^62, `OutOfMemory`; a refusal leaves the start as it was.
+    /// Takes an act that was typed here. `Watching` if the start is read-only, `Busy` if 1,024 acts are unacknowledged, `Spent` if its
+    /// number would be 2^62, `OutOfMemory`; an error leaves the start as it was.
     pub fn typed(&mut self, act: Act) -> Result<(), Fault>
         requires in_range { IsInRange act }
         ensures typed { Types self.old act result self.new }
@@ -274,13 +275,13 @@ impl Client {
         self.acts.typed(act)
     }
 
-    /// Takes acts that were typed here, in their order: all of them, or none. `Watching` where the start only watches, `Busy` where more
-    /// than 1,024 acts would be unacknowledged, `Spent` where a number that they need would be 2^62, `OutOfMemory`; a refusal leaves the
-    /// start as it was.
+    /// Takes acts that were typed here, in their order: all of them, or none. `Watching` if the start is read-only, `Busy` if more than
+    /// 1,024 acts would be unacknowledged, `Spent` if a number that they need would be 2^62, `OutOfMemory`; an error leaves the start as it
+    /// was.
     pub fn typed_all(&mut self, acts: &[Act]) -> Result<(), Fault>
         requires in_range { All IsInRange acts.now }
         ensures typed { TypesAll self.old acts.now result self.new }
-        // What is shown stays.
+        // The screen stays.
         ensures receiver { self.new.kept.receiver ≡ self.old.kept.receiver }
         ensures err { OnErr result (self.new ≡ self.old) }
     {
@@ -313,9 +314,9 @@ impl Client {
         self.acts.waiting().0 - 1 + self.acts.unacknowledged() as u64
     }
 
-    /// Takes the bytes of a datagram that came at a moment. Refuses `BadDatagram` for bytes that are no datagram to a client; then
-    /// `OtherSession`; `OtherClient`; `BadDatagram` for one of the other version, and for a fragment or an instruction that is none;
-    /// `BadChange`; `OutOfMemory`. A refusal leaves the start as it was.
+    /// Takes the bytes of a datagram that came at a moment. `BadDatagram` for bytes that are no datagram to a client; then `OtherSession`;
+    /// `OtherClient`; `BadDatagram` for one of the other version, and for an invalid fragment or instruction; `BadChange`; `OutOfMemory`.
+    /// An error leaves the start as it was.
     pub fn datagram(&mut self, alloc: Global, bytes: &[u8], now: u64) -> Result<Heard, Fault>
         ensures heard { Hears self.old bytes.now now result self.new }
         ensures err { OnErr result (self.new ≡ self.old) }
@@ -356,7 +357,7 @@ impl Client {
         first - 1 + acts.len() as u64
     }
 
-    // Whether something is to be sent.
+    // Returns true if a datagram should be sent.
     fn is_due(&self, now: u64) -> bool
         ensures due { result ≡ is_client_due self.now.kept now }
     {
@@ -370,7 +371,7 @@ impl Client {
             || has_passed(HEARTBEAT, since, now)
     }
 
-    // The moment from which on something is to be sent.
+    // Returns the moment from which on a datagram should be sent.
     fn due_from(&self) -> Option<u64>
         ensures from { PassesFrom result (is_client_due self.now.kept) }
     {
@@ -389,9 +390,8 @@ impl Client {
         earlier(moment_after(again, since), answer_from(self.owed))
     }
 
-    /// The moment at which a tick next sends something if nothing is typed and nothing comes before, 0 for at once and `None` for never:
-    /// at each one before it, or, where that is earlier, at the greatest moment so far, nothing is due; at it something is. It takes no
-    /// memory.
+    /// Returns the moment at which a tick next sends something if nothing is typed and nothing comes before: 0 for at once and `None` for
+    /// never. Before it, or before the greatest moment so far if that is earlier, nothing is due; at it something is. It takes no memory.
     pub fn next_due(&self) -> Option<u64>
         ensures before { (now : ℕ) → now < 2 ^ 64 → has_come result now ≡ false
             → is_client_due self.now.kept (moment_of self.now.kept now) ≡ false }
@@ -430,8 +430,8 @@ impl Client {
         packed(alloc, heading, text.as_slice())
     }
 
-    /// Answers the texts of the datagrams to send at a moment, in their order; none where nothing is due. `Spent` exactly where something
-    /// is due and a number that it needs would be 2^62; `OutOfMemory`. A refusal leaves the start as it was.
+    /// Returns the texts of the datagrams to send at a moment, in their order; none if nothing is due. `Spent` exactly if something is due
+    /// and a number that it needs would be 2^62; `OutOfMemory`. An error leaves the start as it was.
     pub fn tick(&mut self, alloc: Global, now: u64) -> Result<Vec<Vec<u8>>, Fault>
         ensures sent { Sends self.old now result self.new }
         ensures err { OnErr result (self.new ≡ self.old) }
@@ -451,7 +451,7 @@ impl Client {
         Ok(datagrams)
     }
 
-    /// Whether every act that was typed here is acknowledged. It takes no memory.
+    /// Returns true if every act that was typed here is acknowledged. It takes no memory.
     pub fn is_settled(&self) -> bool
         ensures settled { IsTrue result ↔ (self.now.kept.acts.acts ≡ []) }
     {

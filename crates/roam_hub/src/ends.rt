@@ -42,7 +42,7 @@ fn first_old(alloc: Global) -> Result<RowShot1, Fault>
     Ok(RowShot1::new(shot))
 }
 
-// Holds one more state, where fewer than eight are held. Refuses want of memory.
+// Adds one more state, if there are fewer than eight. `OutOfMemory`.
 fn offered<S: Synced>(sender: &mut Sender<S>, number: u64, state: S) -> Result<(), Fault>
     requires newer { (newest sender.old).number < number }
     requires room { count sender.old < most_held }
@@ -56,7 +56,7 @@ fn offered<S: Synced>(sender: &mut Sender<S>, number: u64, state: S) -> Result<(
     sender.offer(number, state)
 }
 
-// What version 1 shows of a screen: a copy of what is kept of it, which is made where it isn't there. Refuses want of memory.
+// Returns the version 1 form of a screen: a copy of the kept one, which is made if it isn't there. `OutOfMemory`.
 fn narrowed(alloc: Global, screen: &RowShot, kept: &mut Option<RowShot1>) -> Result<RowShot1, Fault>
     requires kept { IfSome kept.old (λ old. old ≡ narrow screen.now) }
     ensures same { IfOk result (λ old. old ≡ narrow screen.now) }
@@ -101,7 +101,7 @@ impl AnySender {
         }
     }
 
-    /// How many states are held.
+    /// Returns the number of states.
     pub fn len(&self) -> usize
         ensures value { result ≡ count (sending_of self.now) }
         ensures most { result ≤ most_held }
@@ -122,8 +122,8 @@ impl AnySender {
         }
     }
 
-    /// Holds the screen of a new number, as a start of its version is shown it, where fewer than eight are held; what is kept of the
-    /// screen for version 1 is made where it is asked for first. Refuses want of memory.
+    /// Adds the screen of a new number, as its version shows it, if there are fewer than eight. The form for version 1 is made when it is
+    /// first needed, and kept. `OutOfMemory`.
     pub fn offer(
         &mut self,
         alloc: Global,
@@ -156,7 +156,7 @@ impl AnySender {
         }
     }
 
-    /// Drops the newest state; two or more are held.
+    /// Drops the newest of two or more states.
     pub fn withdraw(&mut self)
         requires several { 2 ≤ count (sending_of self.old) }
         ensures withdrawn { sending_of self.new ≡ withdrawn (sending_of self.old) }
@@ -168,7 +168,7 @@ impl AnySender {
         }
     }
 
-    /// Drops the states before this number, where it is held.
+    /// Drops the states before this number, if it is there.
     pub fn acked(&mut self, number: u64)
         ensures acked { sending_of self.new ≡ acked (sending_of self.old) number }
         ensures version { version_of self.new ≡ version_of self.old }
@@ -179,7 +179,7 @@ impl AnySender {
         }
     }
 
-    /// What leads the other end from the base to the newest state, in the text of its version. Refuses want of memory.
+    /// Returns the instruction that leads the other end from the base to the newest state, in the text of its version. `OutOfMemory`.
     pub fn instruction(&self, alloc: Global) -> Result<Instruction, Fault>
         ensures old { IfOk result (λ i. i.old ≡ (sending_of self.now).base.number) }
         ensures floor { IfOk result (λ i. i.floor ≡ (sending_of self.now).base.number) }
@@ -197,7 +197,7 @@ impl AnySender {
         }
     }
 
-    /// Whether the newest state is to be sent at this moment.
+    /// Returns true if the newest state should be sent at this moment.
     pub fn due(&self, now: u64) -> bool
         ensures due { result ≡ is_due (sending_of self.now) now }
     {
@@ -207,8 +207,8 @@ impl AnySender {
         }
     }
 
-    /// The moment from which on the newest state is to be sent, where something was last sent at this one, 0 before the first; none past
-    /// the last moment.
+    /// Returns the moment from which on the newest state should be sent, if something was last sent at this one, 0 before the first; `None`
+    /// past the last moment.
     pub fn due_from(&self, last: u64) -> Option<u64>
         requires last { last ≡ (sending_of self.now).last }
         ensures from { PassesFrom result (is_due (sending_of self.now)) }

@@ -23,7 +23,7 @@ fn most(watches: bool) -> usize
     if watches { MOST_WATCHING } else { MOST_EDITING }
 }
 
-// So many, and one more where it is one of those that are counted.
+// Returns so many, and one more if it is one of those that are counted.
 fn counted(count: usize, is_one: bool) -> usize
     requires few { count < 2 ^ 63 }
     ensures count { result ≡ (if is_one then count + 1 else count) }
@@ -55,8 +55,8 @@ pub fn acts_taken(records: &IndexMap<u64, Record>) -> u64
     taken
 }
 
-/// Notes a datagram in the record of its client start, which may be new, and does the new acts of an instruction that it makes whole. A
-/// refusal leaves the records and the session as they were. 64 starts that don't only watch may be known, and 16 that do.
+/// Notes a datagram in the record of its client start, which may be new, and does the new acts of an instruction that it completes. An
+/// error leaves the records and the session as they were. 64 starts that type and 16 read-only ones may be known.
 pub fn hear_in(
     alloc: Global,
     session: &mut Session,

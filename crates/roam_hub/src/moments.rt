@@ -1,4 +1,4 @@
-//! Moments, in milliseconds: when something is due, and what is owed.
+//! Moments, in milliseconds, at which something is due, and owed answers.
 ghost use Rattle.std.specs.Prelude.{◌≡◌, ◌+◌, ◌<◌, ◌^◌, ◌⊎◌, ◌||◌, ℕ, max, nat_lt, if◌then◌else◌, Some, None, IfSome};
 ghost use Rattle.roam_model.specs.Moments.{forget_after, has_passed, is_overdue, owed_from};
 ghost use Rattle.roam_hub.specs.Waits.{has_come, PassesFrom};
@@ -12,14 +12,14 @@ const ANSWER_DELAY: u64 = 100;
 /// A start from which nothing came for so long is sent nothing.
 const FORGET_AFTER: u64 = 60_000;
 
-/// Whether so many milliseconds have passed since a moment.
+/// Returns true if so many milliseconds have passed since a moment.
 pub(crate) fn has_passed(long: u64, since: u64, now: u64) -> bool
     ensures passed { result ≡ has_passed long since now }
 {
     since <= now && now - since >= long
 }
 
-/// Whether an answer has been owed for as long as it may be.
+/// Returns true if an answer has been owed for as long as it may be.
 pub(crate) fn is_overdue(owed: Option<u64>, now: u64) -> bool
     ensures overdue { result ≡ is_overdue owed now }
 {
@@ -55,7 +55,7 @@ pub(crate) fn earlier(one: Option<u64>, other: Option<u64>) -> Option<u64>
     }
 }
 
-/// A moment as ticks see it that go by a clock where they come before it: 0 where it has come at the clock.
+/// Returns a moment for ticks that go by a clock if they come before it: 0 if it has come at the clock.
 pub(crate) fn by_clock(due: Option<u64>, clock: u64) -> Option<u64>
     ensures come { (now : ℕ) → has_come result now ≡ has_come due (max now clock) }
     ensures none { due ≡ None → result ≡ None }
@@ -68,7 +68,7 @@ pub(crate) fn by_clock(due: Option<u64>, clock: u64) -> Option<u64>
     }
 }
 
-/// Since when an answer is owed, where one may be owed from now on.
+/// Returns since when an answer is owed, if one may be owed from now on.
 pub(crate) fn owed_after(owed: Option<u64>, owes: bool, now: u64) -> Option<u64>
     ensures owed { result ≡ (if owes then owed_from owed now else owed) }
 {
@@ -78,7 +78,7 @@ pub(crate) fn owed_after(owed: Option<u64>, owes: bool, now: u64) -> Option<u64>
     }
 }
 
-/// Whether a start was heard of late.
+/// Returns true if a datagram of a start came of late.
 pub(crate) fn is_heard(heard_at: u64, now: u64) -> bool
     ensures heard { result ≡ nat_lt now (heard_at + forget_after) }
 {

@@ -14,7 +14,7 @@ use roam_cells::Fault;
 use roam_wire::{Datagram, Kind, Version, cut, write_datagram};
 use std::alloc::Global;
 
-/// Where the datagrams of an instruction go, and what they count from.
+/// The addressees of an instruction's datagrams, and their first numbers.
 #[derive(Clone, Copy)]
 pub(crate) struct Heading {
     pub version: Version,
@@ -81,8 +81,8 @@ fn datagrams(
     Ok(all)
 }
 
-/// The texts of the datagrams that carry an instruction's text, in their order. `Spent` exactly where the instruction's id or the number
-/// of the last of them would be 2^62; `OutOfMemory`.
+/// Returns the texts of the datagrams that carry an instruction's text, in their order. `Spent` exactly if the instruction's id or the
+/// number of the last of them would be 2^62; `OutOfMemory`.
 pub(crate) fn packed(alloc: Global, heading: Heading, text: &[u8]) -> Result<Vec<Vec<u8>>, Fault>
     requires short { length text.now ≤ most_bytes heading.version }
     requires kind { heading.kind ≡ FromWatcher → heading.version ≡ Two }

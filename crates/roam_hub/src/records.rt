@@ -1,4 +1,4 @@
-//! What a server keeps of a client start.
+//! The server's record of a client start.
 ghost use Rattle.std.specs.Prelude.{◌≡◌, ◌==◌, ◌⊎◌, ◌+◌, ◌++◌, ◌∷◌, [], ◌<◌, ◌≤◌, ◌^◌, ◌&&◌, ◌||◌, ℕ, List, length, map, max, nat_lt, true, false, is_some, if◌then◌else◌, IfOk, IfErr, IfSome, OnOk, OnErr, IsTrue, IsOkUnless};
 ghost use Rattle.roam_screens.specs.Narrow.{narrow};
 ghost use Rattle.roam_sync.specs.Senders.{newest, count, acked, is_due};
@@ -32,7 +32,7 @@ use roam_wire::{Datagram, Gathered, Gatherer, Kind, Version, read_up};
 use std::alloc::Global;
 use std::marker::Model;
 
-/// What a server keeps of a client start.
+/// The server's record of a client start.
 #[derive(Drop)]
 pub struct Record {
     watches: bool,
@@ -51,7 +51,7 @@ pub struct Record {
     instructions: u64,
 }
 
-/// What a tick sends: the session's id, the newest number, and the moment.
+/// The contents of a tick's datagrams: the session's id, the newest number, and the moment.
 #[derive(Clone, Copy)]
 pub struct News {
     pub session: u64,
@@ -59,7 +59,7 @@ pub struct News {
     pub now: u64,
 }
 
-/// What was prepared of a record at a tick: whether the newest number was offered, and how many datagrams go to its client start.
+/// The result of preparing a record at a tick: whether the newest number was offered, and how many datagrams go to its client start.
 #[derive(Clone, Copy)]
 pub struct Prepared {
     offered: bool,
@@ -94,14 +94,14 @@ impl Model for Record {
         × (r.base ≡ (sending_of r.sender).base.number) };
 }
 
-// Where the greatest-numbered datagram came from, where one of this number came from there.
+// Returns the source of the greatest-numbered datagram, if one of this number came from there.
 fn source(latest: u64, address: Addr, number: u64, from: Addr) -> Addr
     ensures source { address_of result ≡ (if nat_lt latest number then address_of from else address_of address) }
 {
     if latest < number { from } else { address }
 }
 
-// Takes the last fragment back, where its instruction's acts stopped.
+// Takes the last fragment back, if its instruction's acts stopped.
 fn keep_unless(gatherer: &mut Gatherer, stopped: bool)
     ensures kept { gatherer.new.current ≡ (if stopped then (untaken gatherer.old).current else gatherer.old.current) }
 {
@@ -110,14 +110,14 @@ fn keep_unless(gatherer: &mut Gatherer, stopped: bool)
     }
 }
 
-// The number of a sender's base, once it dropped the states before this number where it is held: then fewer are left.
+// Returns the number of a sender's base, once it dropped the states before this number, if it is there: then fewer are left.
 fn base_after(base: u64, before: usize, after: usize, number: u64) -> u64
     ensures base { result ≡ (if nat_lt after before then number else base) }
 {
     if after < before { number } else { base }
 }
 
-// Drops a sender's states before this number, where it is held, and notes its base's number.
+// Drops a sender's states before this number, if it is there, and notes its base's number.
 fn acknowledge(sender: &mut AnySender, base: &mut u64, number: u64)
     requires base { base.old ≡ (sending_of sender.old).base.number }
     ensures acked { sending_of sender.new ≡ acked (sending_of sender.old) number }
@@ -129,7 +129,7 @@ fn acknowledge(sender: &mut AnySender, base: &mut u64, number: u64)
     *base = base_after(*base, held, sender.len(), number);
 }
 
-// Whether a number may be offered to a start: it is new to its sender, and fewer than eight are held.
+// Returns true if a number may be offered to a start: it is new to its sender, and there are fewer than eight.
 fn has_room_for(sender: &AnySender, number: u64) -> bool
     ensures room { result ≡ (nat_lt (newest (sending_of sender.now)).number number
         && nat_lt (count (sending_of sender.now)) most_held) }
@@ -137,7 +137,8 @@ fn has_room_for(sender: &AnySender, number: u64) -> bool
     sender.newest_number() < number && sender.len() < MOST_HELD
 }
 
-// Whether a number is offered to a start: it was heard of late, the number is new to its sender, and fewer than eight are held.
+// Returns true if a number is offered to a start: a datagram of it came of late, the number is new to its sender, and there are fewer than
+// eight.
 fn may_be_offered(sender: &AnySender, heard_at: u64, number: u64, now: u64) -> bool
     ensures offered { result ≡ (nat_lt now (heard_at + forget_after) && nat_lt (newest (sending_of sender.now)).number number
         && nat_lt (count (sending_of sender.now)) most_held) }
@@ -145,7 +146,7 @@ fn may_be_offered(sender: &AnySender, heard_at: u64, number: u64, now: u64) -> b
     is_heard(heard_at, now) && has_room_for(sender, number)
 }
 
-// Whether a start is sent to: it was heard of late, and its sender is due or an answer is overdue.
+// Returns true if a start is sent to: a datagram of it came of late, and its sender is due or an answer is overdue.
 fn is_sent_to(sender: &AnySender, heard_at: u64, owed: Option<u64>, now: u64) -> bool
     ensures sent_to { result ≡ (nat_lt now (heard_at + forget_after) && (is_due (sending_of sender.now) now || is_overdue owed now)) }
 {
@@ -174,7 +175,7 @@ fn owed_for(owed: Option<u64>, acts: &[Act], now: u64) -> Option<u64>
     owed_after(owed, true, now)
 }
 
-/// Whether a datagram of this kind comes from a start that only watches.
+/// Returns true if a datagram of this kind comes from a read-only start.
 pub fn is_watching(kind: Kind) -> bool
     ensures watching { result ≡ is_watching_kind kind }
 {
@@ -184,21 +185,21 @@ pub fn is_watching(kind: Kind) -> bool
     }
 }
 
-/// Whether two starts both watch, or neither does.
+/// Returns true if two starts are both read-only, or neither is.
 pub fn is_same(one: bool, other: bool) -> bool
     ensures same { result ≡ are_same one other }
 {
     one == other
 }
 
-/// Whether two versions are one.
+/// Returns true if two versions are equal.
 pub fn is_same_version(one: Version, other: Version) -> bool
     ensures same { result ≡ are_same_version one other }
 {
     one == other
 }
 
-// Whether a datagram is of the version and the kind of its start's first one.
+// Returns Ok if a datagram is of the version and the kind of its start's first one.
 fn admit(version: Version, watches: bool, datagram: &Datagram) -> Result<(), Fault>
     ensures fits { OnOk result (Fits version watches (datagram_value datagram.now)) }
     ensures fault { IfErr result (λ fault. IsOther version watches (datagram_value datagram.now) fault) }
@@ -245,7 +246,7 @@ impl Record {
         self.taker.taken()
     }
 
-    /// Whether the start only watches.
+    /// Returns true if the start is read-only.
     pub fn watches(&self) -> bool
         ensures watches { result ≡ self.now.watches }
     {
@@ -265,9 +266,9 @@ impl Record {
         self.heard_at = now;
     }
 
-    /// Takes a datagram that came from an address at a moment, and does the new acts of an instruction that it makes whole. Refuses one of
-    /// another version, then one of another kind, then a fragment or an instruction that is none, and want of memory before an act; then
-    /// the record and the session are as before.
+    /// Takes a datagram that came from an address at a moment, and does the new acts of an instruction that it completes. It refuses one of
+    /// another version, then one of another kind, then an invalid fragment or instruction. `OutOfMemory` before an act. After an error the
+    /// record and the session are as before.
     pub fn hear(
         &mut self,
         alloc: Global,
@@ -308,7 +309,7 @@ impl Record {
         Ok(taking)
     }
 
-    // Offers the newest number with its screen where it may be needed, and tells whether it did. Refuses want of memory.
+    // Offers the newest number with its screen if it may be needed, and returns true if it did. `OutOfMemory`.
     fn offer(
         &mut self,
         alloc: Global,
@@ -334,7 +335,7 @@ impl Record {
         Ok(true)
     }
 
-    // Takes an offer back, where there was one.
+    // Takes an offer back, if there was one.
     fn take_back(&mut self, offered: bool)
         requires several { IsTrue offered → 2 ≤ count self.old.sender }
         requires low { (newest (back_from self.old offered).sender).number < number_limit }
@@ -345,7 +346,7 @@ impl Record {
         }
     }
 
-    // The texts of the datagrams of the instruction to it. `Spent` exactly where a number that it needs would be 2^62; `OutOfMemory`.
+    // Returns the texts of the datagrams of the instruction to it. `Spent` exactly if a number that it needs would be 2^62; `OutOfMemory`.
     fn instruction(
         &self,
         alloc: Global,
@@ -378,7 +379,7 @@ impl Record {
         packed(alloc, heading, text.as_slice())
     }
 
-    // Adds the texts of the datagrams to it, each with its address, where it is sent to, and tells how many.
+    // Appends the texts of the datagrams to it, each with its address, if it is sent to, and returns their number.
     fn send(
         &self,
         alloc: Global,
@@ -408,9 +409,9 @@ impl Record {
         Ok(Some(fragments))
     }
 
-    /// Offers the newest number with its screen where it may be needed, and adds the texts of the datagrams to the client start, each
-    /// with its address, where it is sent to. `Spent` exactly where a number that this needs would be 2^62; `OutOfMemory`. A refusal
-    /// leaves the record as it was.
+    /// Offers the newest number with its screen if it may be needed, and appends the texts of the datagrams to the client start, each with
+    /// its address, if it is sent to. `Spent` exactly if a number that this needs would be 2^62; `OutOfMemory`. An error leaves the record
+    /// as it was.
     pub fn prepare(
         &mut self,
         alloc: Global,
@@ -451,7 +452,7 @@ impl Record {
         }
     }
 
-    // The moment from which on a number is offered to the start, or something sent to it, where it was heard of late.
+    // Returns the moment from which on a number is offered to the start, or something sent to it, if a datagram of it came of late.
     fn active_from(&self, number: u64) -> Option<u64>
         ensures from { PassesFrom result (is_active self.now number) }
     {
@@ -461,8 +462,8 @@ impl Record {
         earlier(self.sender.due_from(self.sent_at), answer_from(self.owed))
     }
 
-    /// The first moment at which a tick offers the start a number or sends something to it, if nothing comes before and no tick goes by a
-    /// moment before the clock; none where it isn't heard of so late.
+    /// Returns the first moment at which a tick offers the start a number or sends something to it, if nothing comes before and no tick
+    /// goes by a moment before the clock. `None` if no datagram of it came so late.
     pub fn next_due(&self, number: u64, clock: u64) -> Option<u64>
         ensures before { (now : ℕ) → clock ≤ now → now < 2 ^ 64 → has_come result now ≡ false
             → is_record_due self.now number now ≡ false }

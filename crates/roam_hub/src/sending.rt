@@ -1,4 +1,4 @@
-//! What a tick does to all records, or to none.
+//! The effect of a tick on all records, or on none.
 ghost use Rattle.std.specs.Prelude.{◌≡◌, ◌⊎◌, ◌++◌, ◌≤◌, ◌<◌, ◌^◌, length, map, take, drop, true, false, IfErr, IfSome, OnOk, OnErr};
 ghost use Rattle.std.specs.List.{flat_map, list_any};
 ghost use Rattle.roam_screens.specs.Narrow.{narrow};
@@ -15,11 +15,11 @@ use roam_cells::{Addr, Fault};
 use roam_screens::RowShot;
 use std::alloc::Global;
 
-/// Offers the newest number with its screen to the records from a place on, each where it may be needed and as its version is shown it,
-/// adds the texts of the datagrams to those that are sent to, each with its address, and notes that they are sent. What version 1 shows of
-/// the screen is made once, where it is needed, and so is the change of a version between two numbers; both are kept for the records after.
-/// `Spent` exactly where a number that one of them needs would be 2^62; `OutOfMemory`. A refusal leaves all records as they were: each is
-/// settled once all after it are prepared.
+/// Offers the newest number with its screen to the records from a place on, each if it may need it and as its version shows it. Appends the
+/// texts of the datagrams to those that are sent to, each with its address, and notes that they are sent. The version 1 form of the screen
+/// is made once, when it is needed, and so is the change of a version between two numbers; both are kept for later records. `Spent` exactly
+/// if a number that one of them needs would be 2^62; `OutOfMemory`. An error leaves all records as they were: each is settled once all
+/// after it are prepared.
 pub fn send_from(
     alloc: Global,
     news: News,

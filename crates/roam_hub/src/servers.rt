@@ -1,4 +1,4 @@
-//! The server: the session, its numbered screens, and what is kept of each client start.
+//! The server: the session, its numbered screens, and the record of each client start.
 ghost use Rattle.std.specs.Prelude.{◌≡◌, ◌↔◌, ◌⊎◌, ◌≤◌, ◌<◌, ◌^◌, ◌-◌, ◌+◌, ◌||◌, ℕ, List, length, nat_eq, true, false, IfOk, IfErr, IfSome, OnOk, OnErr, IsErrOf, IsOkUnless};
 ghost use Rattle.std.specs.Option.{option_map};
 ghost use Rattle.roam_layout.specs.Layouts.{IsSessionSize};
@@ -77,7 +77,7 @@ impl Model for Server {
     ghost invariant = { λ s. (s.made < number_limit) × (s.id < 2 ^ 64) × HaveScreens s.made s.screen s.records.entries };
 }
 
-// Whether a datagram goes to a server.
+// Returns true if a datagram goes to a server.
 fn is_to_server(kind: Kind) -> bool
     ensures kind { result ≡ is_to_server_kind kind }
 {
@@ -87,7 +87,7 @@ fn is_to_server(kind: Kind) -> bool
     }
 }
 
-// Whether a datagram is for the server of this session.
+// Returns Ok if a datagram is for the server of this session.
 fn admit(session: u64, datagram: &Datagram) -> Result<(), Fault>
     ensures kind { OnOk result (is_to_server_kind datagram.now.kind ≡ true) }
     ensures session { OnOk result (nat_eq datagram.now.session session ≡ true) }
@@ -103,7 +103,7 @@ fn admit(session: u64, datagram: &Datagram) -> Result<(), Fault>
     Ok(())
 }
 
-// What is answered to a datagram of which so many acts were taken.
+// Returns the result for a datagram of which so many acts were taken.
 fn answer(taking: Result<Taking, Fault>) -> Result<usize, Stop>
     ensures answer { result ≡ answer_to_datagram taking }
 {
@@ -142,8 +142,8 @@ impl Server {
         })
     }
 
-    /// Takes bytes that a pane's program sent. Refuses, in this order, `NoPane`, `TooLong` above 1,024 bytes, and `Busy` where the pane's
-    /// queue hasn't 12 free bytes for each; a refusal changes nothing. It takes no memory.
+    /// Takes bytes that a pane's program sent. `NoPane`, then `TooLong` above 1,024 bytes, then `Busy` if the pane's queue hasn't 12 free
+    /// bytes for each; an error changes nothing. It takes no memory.
     pub fn pane_bytes(&mut self, pane: u8, piece: &[u8]) -> Result<(), Fault>
         ensures fed { (s : ServerOf) → Stands self.old s → Feeds s pane piece.now result self.new }
         ensures err { OnErr result (self.new ≡ self.old) }
@@ -175,13 +175,16 @@ impl Server {
         Ok(taking)
     }
 
-    /// Takes the bytes of a datagram that came from an address at a moment, does the new acts of an instruction that it makes whole, in
-    /// their order, and answers how many. Refuses `BadDatagram` for bytes that are no datagram to a server; `OtherSession`; of a client
-    /// start that isn't known `ClientsFull` where 64 are known, or 16 where it only watches; of one that is known `BadDatagram` for
-    /// another version or another kind than its first datagram had; then `BadDatagram` for a fragment or an instruction that is none;
-    /// `OutOfMemory`; then nothing is changed. An act that finds its queue full (`Busy`) or no memory (`OutOfMemory`) stops there: this
-    /// act and later ones aren't taken, all before stands, and the same datagram can bring the rest. Whatever its bytes, a datagram of a
-    /// start that only watches takes no act, and leaves the session and what is kept of every other start as they were.
+    /// Takes the bytes of a datagram that came from an address at a moment, does the new acts of an instruction that it completes, in their
+    /// order, and returns their number.
+    ///
+    /// Errors that change nothing: `BadDatagram` for bytes that are no datagram to a server; `OtherSession`; `ClientsFull` for a new client
+    /// start if 64 are known, or 16 for a read-only one; `BadDatagram` for another version or kind than its first datagram had, and for an
+    /// invalid fragment or instruction; `OutOfMemory`.
+    ///
+    /// An act that finds its queue full (`Busy`) or no memory (`OutOfMemory`) stops there: this act and later ones aren't taken, earlier
+    /// ones are, and the same datagram can bring the rest. Whatever its bytes, a datagram of a read-only start takes no act, and leaves the
+    /// session and the record of every other start as they were.
     pub fn datagram(
         &mut self,
         alloc: Global,
@@ -196,7 +199,7 @@ impl Server {
         answer(self.hear(alloc, from, bytes, now))
     }
 
-    /// Copies the first bytes that wait for a pane's program, as many as fit, and tells how many. Refuses `NoPane`. It takes no memory.
+    /// Copies the first bytes queued for a pane's program, as many as fit, and returns their number. `NoPane`. It takes no memory.
     pub fn output(&self, pane: u8, out: &mut [u8]) -> Result<usize, Fault>
         ensures fault { (s : ServerOf) → Stands self.now s → fault_of result ≡ none_refused (output_at s.size s.log pane) }
         ensures bytes { IfOk result (λ n. (s : ServerOf) → Stands self.now s
@@ -236,14 +239,15 @@ impl Server {
         self.session.room(pane)
     }
 
-    /// Which making of a pane of this number is there, counted from 1 modulo 2^64; `None` where no such pane is there. It takes no memory.
+    /// Returns the generation of the pane with this number, counted from 1 modulo 2^64; `None` if there is no such pane. It takes no
+    /// memory.
     pub fn generation(&self, pane: u8) -> Option<u64>
         ensures life { (s : ServerOf) → Stands self.now s → result ≡ generation_of s.size s.log pane }
     {
         self.session.generation(pane)
     }
 
-    /// Where a pane is, rows and columns from 1; `None` where no pane of this number is there. It takes no memory.
+    /// Returns the rectangle of a pane, rows and columns from 1; `None` if there is no pane with this number. It takes no memory.
     pub fn rect(&self, pane: u8) -> Option<Rect>
         ensures rect { (s : ServerOf) → Stands self.now s → result ≡ rect_at s.size s.log pane }
     {
@@ -286,15 +290,15 @@ impl Server {
         self.session.face(alloc)
     }
 
-    // Whether a number is made at a moment.
+    // Returns true if a number is made at a moment.
     fn makes(&self, now: u64) -> bool
         ensures makes { result ≡ makes_at self.now now }
     {
         self.made == 0 || (self.input && has_passed(FRAME_INTERVAL, self.made_at, now))
     }
 
-    /// The moment from which on a tick makes a number if nothing comes before: 0 for at once, `None` if nothing came since the last number
-    /// was made. It takes no memory.
+    /// Returns the moment from which on a tick makes a number if nothing comes before: 0 for at once, `None` if nothing came since the last
+    /// number was made. It takes no memory.
     pub fn number_due(&self) -> Option<u64>
         ensures from { PassesFrom result (makes_at self.now) }
     {
@@ -307,8 +311,8 @@ impl Server {
         moment_after(FRAME_INTERVAL, self.made_at)
     }
 
-    /// The moment at which a tick next does something if nothing comes before, 0 for at once and `None` for never: at each one before it,
-    /// or, where that is earlier, at the greatest moment so far, a tick changes nothing but the clock and sends nothing; at it a number is
+    /// Returns the moment at which a tick next does something if nothing comes before: 0 for at once and `None` for never. Before it, or
+    /// before the greatest moment so far if that is earlier, a tick changes nothing but the clock and sends nothing. At it a number is
     /// made, or a start is offered a screen or sent something. It takes no memory.
     pub fn next_due(&self) -> Option<u64>
         ensures before { (s : ServerOf) → Stands self.now s → (now : ℕ) → now < 2 ^ 64 → has_come result now ≡ false
@@ -391,10 +395,10 @@ impl Server {
         Ok(parcels)
     }
 
-    /// Makes a number of the session's face where none was made yet, or where an input came since the last was made and 20 ms passed;
-    /// offers the newest number, as its version is shown it, to each client start that was heard less than 60,000 ms ago and has room for
-    /// it; and answers the datagrams to those that are due one, in the order of arrival, each with the address that it goes to. `Spent`
-    /// exactly where a number that it needs would be 2^62; `OutOfMemory`. A refusal changes nothing.
+    /// Makes a number of the session's face if none was made yet, or if an input came since the last was made and 20 ms passed. Offers the
+    /// newest number, as its version shows it, to each client start whose last datagram came less than 60,000 ms ago and that has room for
+    /// it. Returns the datagrams to those that are due one, in the order of arrival, each with its address. `Spent` exactly if a number
+    /// that it needs would be 2^62; `OutOfMemory`. An error changes nothing.
     pub fn tick(&mut self, alloc: Global, now: u64) -> Result<Vec<(Addr, Vec<u8>)>, Fault>
         ensures ticked { (s : ServerOf) → Stands self.old s → Ticks s now result self.new }
         ensures err { OnErr result (self.new ≡ self.old) }

@@ -1,4 +1,4 @@
-//! What a tick makes once, and lends to each record that needs it.
+//! The parts that a tick makes once, and lends to each record that needs them.
 ghost use Rattle.std.specs.Prelude.{◌≡◌, ◌<◌, ◌≤◌, [], None, length, IsTrue, IfOk, IfSome, OnOk, IsOkUnless};
 ghost use Rattle.roam_acts.specs.Limits.{number_limit};
 ghost use Rattle.roam_sync.specs.Senders.{newest};
@@ -15,14 +15,14 @@ use roam_screens::RowShot1;
 use roam_wire::{Down, Version, write_down};
 use std::alloc::Global;
 
-/// The change between two numbers in a version, as an instruction tells it; how many acts that acknowledges is each record's own.
+/// The change between two numbers in a version, as in an instruction; the number of acknowledged acts is each record's own.
 #[derive(Drop)]
 pub struct SharedChange {
     pub version: Version,
     pub down: Down,
 }
 
-/// What a tick made so far: what version 1 shows of its screen, and the changes.
+/// The parts that a tick made so far: the version 1 form of its screen, and the changes.
 #[derive(Drop)]
 pub struct Shared {
     pub narrow: Option<RowShot1>,
@@ -42,14 +42,14 @@ impl Shared {
     }
 }
 
-// Whether a change is of a version and leads from one number to another.
+// Returns true if a change is of a version and leads from one number to another.
 fn is_between(change: &SharedChange, version: Version, old: u64, new: u64) -> bool
     ensures from_to { IsTrue result → IsFromTo version old new change.now }
 {
     change.down.old == old && change.down.new == new && is_same_version(change.version, version)
 }
 
-// The place of the change of a version from one number to another, where it was made.
+// Returns the place of the change of a version from one number to another, if it was made.
 fn place_of(changes: &[SharedChange], version: Version, old: u64, new: u64) -> Option<usize>
     ensures has { IfSome result (λ at. HasChange changes.now at version old new) }
 {
@@ -61,7 +61,7 @@ fn place_of(changes: &[SharedChange], version: Version, old: u64, new: u64) -> O
     None
 }
 
-// The place of the change from a sender's base to its newest, which is made where it isn't there. Refuses want of memory.
+// Returns the place of the change from a sender's base to its newest, which is made if it isn't there. `OutOfMemory`.
 fn made_at(
     alloc: Global,
     sender: &AnySender,
@@ -102,8 +102,8 @@ fn text_with(alloc: Global, change: &mut SharedChange, acked: u64) -> Result<Vec
     write_down(alloc, &change.down)
 }
 
-/// The text of the instruction from a sender's base to its newest, which acknowledges so many acts. The change is made where none was made
-/// of this version between these numbers, and kept for the next. Refuses want of memory.
+/// Returns the text of the instruction from a sender's base to its newest, which acknowledges so many acts. The change is made if there is
+/// none of this version between these numbers, and kept for the next. `OutOfMemory`.
 pub fn text_of(
     alloc: Global,
     sender: &AnySender,

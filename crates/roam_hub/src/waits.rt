@@ -7,8 +7,8 @@ use crate::moments::earlier;
 use crate::records::Record;
 use indexmap::IndexMap;
 
-/// The first moment at which a tick offers one of these records a number or sends something to it, if nothing comes before and no tick goes
-/// by a moment before the clock.
+/// Returns the first moment at which a tick offers one of these records a number or sends something to it, if nothing comes before and no
+/// tick goes by a moment before the clock.
 pub fn next_due_of(records: &IndexMap<u64, Record>, number: u64, clock: u64) -> Option<u64>
     ensures before { (now : ℕ) → clock ≤ now → now < 2 ^ 64 → has_come result now ≡ false
         → list_any (is_entry_due number now) records.now.entries ≡ false }
