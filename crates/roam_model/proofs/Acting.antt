@@ -1,4 +1,4 @@
--- From typing to taking: what is sent is a stretch of what was typed, and what is new in it follows what was taken.
+-- From typing to taking: the acts sent are a stretch of those typed, and the new ones in it follow those taken.
 use Rattle.std.proofs.Common.{◌≡◌, ℕ, suc, zero, ◌+◌, ◌-◌, ◌<◌, ◌≤◌, ◌⊎◌, List, [], ◌∷◌, ◌++◌, length, take, drop, leb, ltb, refl, sym, ap, ◌∙◌, inl, inr, arith, length-append, length-drop, length-take}
 use Rattle.std.proofs.lemmas.Bool.{cases_Bool}
 use Rattle.std.proofs.lemmas.Bool.Decides.{nat_tests}

@@ -304,7 +304,7 @@ one_server w from now (Some d) r r' v v' x y = one_coming w from now d (coming w
 
 -- ---- a datagram to a client start
 
--- what a receiver makes of an update is one
+-- the result of a receiver for an update is unique
 delivers_one : (a : Version) (c r r' : Receiving Screenshot) (u : Update) → Delivers (applied_by a) c u r → Delivers (applied_by a) c u r' → r ≡ r'
 delivers_one v c r r' u d e = go (step_for c u.old u.new u.floor) refl
   where

@@ -1,4 +1,4 @@
--- What a datagram of the list is to either end.
+-- The kind of a sent datagram at either end.
 use Rattle.std.proofs.Common.{◌≡◌, ℕ, max, List, length, Option, Some, None, Bool, true, false, refl, sym, ◌∙◌, subst, arith, cond}
 use Rattle.std.specs.Prelude.{nat_eq, nat_le, not, ◌&&◌}
 use Rattle.std.proofs.lemmas.Bool.Decides.{nat_tests}
@@ -23,7 +23,7 @@ use Rattle.roam_wire.specs.Datagrams.{DatagramValue}
 
 -- ---- a text says one instruction
 
--- what a text says that one of these has is that one
+-- a text that one of these has is the text of that one
 pub says_down : (vs : List DownValue) (text : List ℕ) (d v : DownValue) → ((v : DownValue) → IsIn v vs → IsDown v)
     → IsIn v vs → text ≡ down_text v → SaysDown text d → v ≡ d
 says_down vs text d v are i e says = one_down v d (are v i) says.is (sym e ∙ says.spelled)
@@ -32,7 +32,7 @@ pub says_up : (us : List UpValue) (text : List ℕ) (u v : UpValue) (watches : B
     → IsIn v us → text ≡ up_text v → SaysUp watches text u → v ≡ u
 says_up us text u v watches are i e says = one_up v u (are v i) says.is.is (sym e ∙ says.spelled)
 
--- ---- at the server: what is gathered is of the client's instructions, and what came whole is the text of one
+-- ---- at the server: the gathered fragments are of the client's instructions, and a whole text is that of one
 
 abbrev pub ComesWell : List UpValue → Arrival (Unit {0}) → Type 0
 ComesWell us (turned_away fault) = Unit {0}
@@ -78,7 +78,7 @@ coming_well s r c d same is of =
     one true i false false false false = came_well c.instructions r.gathering (fragment_of d) (gather r.gathering (fragment_of d)) i of
         (well (cuts_of up_text c.instructions) r.gathering (fragment_of d) of.of i)
 
--- what isn't turned away is a datagram to the server
+-- a datagram that isn't turned away goes to the server
 abbrev pub IsTo : Bool → Arrival (Unit {0}) → Type 0
 IsTo to (turned_away fault) = Unit {0}
 IsTo to (noted tt g) = to ≡ true
@@ -103,7 +103,7 @@ to_server s d = go (is_to_server d.kind) (not (nat_eq d.session s.session)) (is_
     go true false false false true x = tt
     go true false false false false x = there x
 
--- ---- at a client start: what is gathered is of the record's instructions, and what came whole is the text of one
+-- ---- at a client start: the gathered fragments are of the record's instructions, and a whole text is that of one
 
 abbrev pub ArrivesWell : List DownValue → Arrival Hearing → Type 0
 ArrivesWell vs (turned_away fault) = fault ≡ BadChange → ⊥

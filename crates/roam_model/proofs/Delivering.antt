@@ -33,7 +33,7 @@ use Rattle.roam_wire.specs.declared.versions.Version.{Version}
 use Rattle.roam_wire.specs.declared.datagrams.Kind.TheVariants.{ToClient}
 use Rattle.roam_wire.specs.Datagrams.{DatagramValue}
 
--- where instruction n came whole, the number that is shown is m
+-- if instruction n came whole, the number that is shown is m
 abbrev pub Shows : ℕ → ℕ → Gathering → ℕ → Type 0
 Shows n m g shown = g.id ≡ n → all_there g.fragments ≡ true → shown ≡ m
 
@@ -46,13 +46,13 @@ pub record IsOne (w : World) (id n : ℕ) (d : DatagramValue) : Type 0 where
   pub number_is : d.id ≡ n
   pub fragment_of_it : IsFragmentOf (cuts_of down_text (w.server.records id).instructions) (fragment_of d)
 
--- instruction n to this start is v, which tells of the newest number m
+-- instruction n to this start is v, which leads to the newest number m
 pub record IsTop (w : World) (id n m : ℕ) (v : DownValue) : Type 0 where
   pub told : instruction_of (w.server.records id).instructions n ≡ Some v
   pub new : v.new ≡ m
   pub top : m ≡ (newest (w.server.records id).sender).number
 
--- what a fragment of instruction n leaves: the gatherer h, and where it came whole the text of v
+-- the effect of a fragment of instruction n: the gatherer h, and if it came whole the text of v
 abbrev Leaves : ℕ → ℕ → ℕ → Gathering → Gathering → DownValue → Arrival Hearing → Type 0
 Leaves n m shown old h v (turned_away f) = ⊥
 Leaves n m shown old h v (noted how g) = (g ≡ h) × (Shows n m old shown → Shows n m g shown)
@@ -115,7 +115,7 @@ pub record Delivered (w w' : World) (id n m : ℕ) (d : DatagramValue) : Type 0 
 pub some_same : {X : Type 0} (x y : X) (o : Option X) → o ≡ Some x → o ≡ Some y → x ≡ y
 some_same x y o e f = let z : Some x ≡ Some y = sym e ∙ f in cc
 
--- what arrives at the start in the slot is what the step tells
+-- the arrival at the start in the slot is the one in the step
 same_arrival : (w : World) (id id' : ℕ) (d d' : DatagramValue) (a : Arrival Hearing) → id ≡ id' → d ≡ d'
     → arriving w.server.session id' (w.clients id').kept d' ≡ a
     → arriving w.server.session id (w.clients id).kept d ≡ a

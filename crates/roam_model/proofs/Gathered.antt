@@ -9,7 +9,7 @@ use Rattle.roam_wire.specs.AnyOrder.{IsFragmentOf, GathersOf, GathersWell, after
 use Rattle.roam_wire.proofs.Arrive.{well}
 use Rattle.roam_model.proofs.Members.{slice_get-within}
 
--- what is gathered after fragments came one after another
+-- the gathered fragments after some came one after another
 abbrev pub gathered_all : Gathering → List FragmentValue → Gathering
 gathered_all g [] = g
 gathered_all g (p ∷ ps) = gathered_all (after g (gather g p)) ps
@@ -156,14 +156,14 @@ all_gathered_anew cuts n g p ps all is lt each =
 
 -- ---- what isn't whole
 
--- what a gatherer says is whole where each fragment is there, and a part where one is missing
+-- the result of a gatherer is whole if each fragment is there, and a part if one is missing
 abbrev pub IsPart : Option (Answer × Gathering) → Type 0
 IsPart None = Unit {0}
 IsPart (Some (Part, h)) = all_there h.fragments ≡ false
 IsPart (Some (Old, h)) = Unit {0}
 IsPart (Some (Whole text, h)) = Unit {0}
 
--- an old fragment leaves what was gathered
+-- an old fragment leaves the gathered ones
 abbrev pub IsSame : Gathering → Option (Answer × Gathering) → Type 0
 IsSame g None = Unit {0}
 IsSame g (Some (Part, h)) = Unit {0}

@@ -1,4 +1,4 @@
--- Each event at a client start, and each input, keeps what holds.
+-- Each event at a client start, and each input, keeps the invariant.
 use Rattle.std.proofs.Common.{◌≡◌, ℕ, ◌+◌, ◌<◌, ◌≤◌, ◌⊎◌, ◌^◌, List, [], ◌∷◌, ◌++◌, length, All, Option, Some, Bool, true, false, refl, sym, ap, ◌∙◌, subst, inl, inr, arith, append-nil, length-append, length-drop, length-take}
 use Rattle.std.specs.Prelude.{◌||◌}
 use Rattle.std.proofs.lemmas.Bool.Decides.{nat_tests}
@@ -126,7 +126,7 @@ keeps-client w id c made version watches alone same link h =
     like false d p = p
     like true d p = subst (λ (us : List UpValue). IsFragmentOf (cuts_of up_text us) (fragment_of d)) (sym same) p
 
--- what a start sends goes to the server, and tells whether it watches
+-- the datagrams of a start go to the server, and their kind names a read-only start
 pub kind_goes : (watches : Bool) → is_to_server (kind_from watches) ≡ true
 kind_goes true = refl
 kind_goes false = refl
@@ -135,7 +135,7 @@ pub kind_watches : (watches : Bool) → is_watching (kind_from watches) ≡ watc
 kind_watches true = refl
 kind_watches false = refl
 
--- all that was typed: what is acknowledged, and what isn't
+-- all acts that were typed: the acknowledged ones, and the others
 typed_length : (taken : List Act) (r : Record) (c : Client) → ActsOf taken r c
     → length c.typed ≡ c.kept.acts.acked + length c.kept.acts.acts
 typed_length taken r c a =

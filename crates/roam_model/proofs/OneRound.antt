@@ -32,7 +32,7 @@ use Rattle.roam_wire.specs.Datagrams.{DatagramValue}
 
 -- ---- the deliveries
 
--- what a round of deliveries leaves
+-- the effect of a round of deliveries
 record Went (w w'' : World) (cuts : ℕ → List (List ℕ)) (id n m : ℕ) (ks : List (ℕ × ℕ)) : Type 0 where
   ps : List FragmentValue
   all : AllOf cuts n ps
@@ -147,7 +147,7 @@ sends_to session id r n s now d i = go (sends r n s now) refl i
     go true e i = (e, packed_id r.version session id r.datagrams (length r.instructions + 1) (fragments_to r n s now) d i)
     go false e i = absurd i
 
--- what a tick leaves, where it sends to this start
+-- the effect of a tick that sends to this start
 record IsRound (w w' : World) (id : ℕ) : Type 0 where
   holds : Holds w'
   slots : w'.slots ≡ w.slots
@@ -159,7 +159,7 @@ record IsRound (w w' : World) (id : ℕ) : Type 0 where
   each : (i : ℕ) → i < length (cuts_of down_text (w'.server.records id).instructions n) → (k : ℕ) × (d : DatagramValue) × (d.index ≡ i)
       × IsFresh w w' id k d
 
--- what is true of a record that is sent to
+-- the facts about a record that is sent to
 sent_top : (r : Record) (n : ℕ) (s : Screenshot) (now : ℕ) → sends r n s now ≡ true
     → (instruction_of (ticked_record r n s now).instructions (length r.instructions + 1) ≡ Some (down_to r n s now))
     × ((down_to r n s now).new ≡ (newest (ticked_record r n s now).sender).number)

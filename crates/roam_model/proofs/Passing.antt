@@ -16,7 +16,7 @@ use Rattle.roam_session.specs.Refusals.{waiting_in, output_at}
 use Rattle.roam_session.proofs.Logs.{session-append}
 use Rattle.roam_model.specs.Outputs.{answers_in, key_bytes_in, put_by, taken_in, taken_by, all_put, all_taken, StaysThere, PassesEachByteOn, BeginsWithNoOutput}
 
--- ---- a pane is there where its layout has a rectangle for it
+-- ---- a pane is there if its layout has a rectangle for it
 
 abbrev Agree : SessionState → Type 0
 Agree s = (k : ℕ) → is_some (s.pane k) ≡ is_some (rect_in k (panes s.plan))
@@ -65,7 +65,7 @@ agree size log = agree_from size [] log (agree_first size)
 
 -- ---- one entry
 
--- what waits in a pane that is there before and after
+-- the queued bytes of a pane that is there before and after
 abbrev Passes : List ℕ → List ℕ → Option Pane → Option Pane → Type 0
 Passes off on (Some old) (Some new) = off ++ new.waiting ≡ old.waiting ++ on
 Passes off on _ _ = Unit {0}

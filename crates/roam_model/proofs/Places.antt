@@ -1,4 +1,4 @@
--- Where the datagrams of a tick stand in the list.
+-- The places of a tick's datagrams in the list.
 use Rattle.std.proofs.Common.{◌≡◌, ℕ, zero, suc, ◌+◌, ◌-◌, ◌<◌, ◌≤◌, List, [], ◌∷◌, ◌++◌, length, Some, None, Bool, true, false, refl, sym, ap, ◌∙◌, subst, inl, inr, arith, cond}
 use Rattle.std.specs.Prelude.{nat_eq, slice_get, map}
 use Rattle.std.specs.List.{flat_map, enumerate_from}
@@ -50,7 +50,7 @@ behind [] ys y i e le = IsIn-slice_get y i ys e
 behind (x ∷ xs) ys y zero e le = absurd (omega arith)
 behind (x ∷ xs) ys y (suc i) e le = behind xs ys y i e (omega arith)
 
--- a member of the second list stands behind the first, under some number
+-- a member of the second list is behind the first, under some number
 pub number_behind : (xs ys : List DatagramValue) (d : DatagramValue) → IsIn d ys
     → (k : ℕ) × (length xs < k) × (datagram_at (xs ++ ys) k ≡ Some d)
 number_behind xs ys d i =
@@ -66,7 +66,7 @@ number_behind xs ys d i =
     go k true z e = absurd (grind (arith, nat_tests))
     go k false z e = e
 
--- what stands behind the first list is a member of the second
+-- an element behind the first list is a member of the second
 pub late : (xs ys : List DatagramValue) (k : ℕ) (d : DatagramValue) → length xs < k → datagram_at (xs ++ ys) k ≡ Some d → IsIn d ys
 late xs ys k d lt e = go (nat_eq k 0) refl e
   where

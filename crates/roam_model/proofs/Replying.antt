@@ -1,4 +1,4 @@
--- Each event has a reply that doesn't tell of memory.
+-- Each event has a reply that doesn't report want of memory.
 use Rattle.std.proofs.Common.{◌≡◌, ◌⊎◌, ℕ, zero, suc, ◌+◌, ◌-◌, ◌<◌, ◌≤◌, ◌^◌, List, [], length, take, drop, Option, Some, None, Bool, true, false, refl, sym, ap, ◌∙◌, subst, inl, inr, arith, cond}
 use Rattle.std.specs.Prelude.{nat_lt, nat_le, nat_eq, is_none, not, ◌&&◌}
 use Rattle.roam_cells.specs.declared.faults.Fault.{Fault}
@@ -38,7 +38,7 @@ use Rattle.roam_model.proofs.Runs.{comes, arrives, reach_low, was_sent}
 use Rattle.roam_wire.specs.declared.versions.Version.{Version}
 use Rattle.roam_wire.specs.Datagrams.{DatagramValue}
 
--- ---- replies that don't tell of memory
+-- ---- replies that don't report want of memory
 
 done_ample : IsAmple Done
 done_ample = record { whole = (λ e. cc); part = (λ n e. cc) }
@@ -73,7 +73,7 @@ pane_other bytes (Some waiting) f e g = go (nat_lt 1024 (length bytes))
     go false true e = let z : Some Busy ≡ Some OutOfMemory = e ∙ ap Some g in cc
     go false false e = cc
 
--- what is turned away isn't for want of memory
+-- a datagram that is turned away isn't so for want of memory
 IsOther : Arrival (Unit {0}) → Type 0
 IsOther (turned_away f) = f ≡ OutOfMemory → ⊥
 IsOther (noted tt g) = Unit {0}

@@ -1,4 +1,4 @@
--- Whole runs: what holds at first and after each step holds in every world that can be reached.
+-- Whole runs: an invariant at first and after each step is one of every world that can be reached.
 use Rattle.std.proofs.Common.{◌≡◌, ℕ, suc, ◌-◌, ◌≤◌, List, [], ◌∷◌, ◌++◌, length, Some, None, Bool, true, false, refl, sym, subst, arith, cond}
 use Rattle.std.specs.Prelude.{nat_eq, slice_get}
 use Rattle.std.proofs.lemmas.List.Elements.{All-nil}
@@ -33,7 +33,7 @@ use Rattle.roam_wire.specs.declared.versions.Version.{Version}
 use Rattle.roam_wire.specs.declared.versions.Version.TheVariants.{Two}
 use Rattle.roam_wire.specs.Datagrams.{DatagramValue}
 
--- ---- what was sent
+-- ---- the datagrams that were sent
 
 -- a datagram of the list was sent
 pub was_sent : (w : World) (k : ℕ) (d : DatagramValue) → datagram_at w.sent k ≡ Some d → IsIn d w.sent
@@ -43,7 +43,7 @@ was_sent w k d e = go (nat_eq k 0) e
     go true f = absurd (cc)
     go false f = IsIn-slice_get d (k - 1) w.sent f
 
--- what one of the list is to the server, and to a client start
+-- the kind of a sent datagram at the server, and at a client start
 pub comes : (w : World) (k : ℕ) (d : DatagramValue) → datagram_at w.sent k ≡ Some d → Holds w
     → ComesWell (w.clients d.client).instructions (coming w.server d)
 comes w k d e h = coming_well w.server (w.server.records d.client) (w.clients d.client) d refl (h.fragments d (was_sent w k d e))
@@ -98,7 +98,7 @@ keeps-client_tick w slot now r w' (sent id x y z e is) h =
     subst Holds (sym is) (keeps-sending w id (moment_of (w.clients id).kept now) (h.slots slot id x) z h)
 keeps-client_tick w slot now r w' (no_memory e is) h = subst Holds (sym is) h
 
--- what an instruction says that came whole at the server was sent
+-- a whole instruction at the server was sent
 came : (w : World) (d : DatagramValue) (text : List ℕ) (u : UpValue) → IsTextOf up_text (w.clients d.client).instructions text
     → SaysUp (is_watching d.kind) text u → Holds w → IsIn u (w.clients d.client).instructions
 came w d text u of says h =
@@ -129,7 +129,7 @@ keeps-to_server w k from now r w' (no_memory_at_act d g text u n x y z lt e is) 
     (omega (arith, lt, reach_low w.server.size w.server.log d.client (new_acts w.server d u))) h)
 keeps-to_server w k from now r w' (no_memory e is) h = subst Holds (sym is) h
 
--- what an instruction says that came whole at a client start was sent to it
+-- a whole instruction at a client start was sent to it
 pub arrived : (w : World) (id : ℕ) (text : List ℕ) (v : DownValue) → IsTextOf down_text (w.server.records id).instructions text
     → SaysDown text v → Holds w → IsIn v (w.server.records id).instructions
 arrived w id text v of says h =

@@ -1,4 +1,4 @@
--- The screen of a number stays what it was, and each is a screen.
+-- The screen of a number stays, and each is a screen.
 use Rattle.std.proofs.Common.{◌≡◌, ℕ, ◌-◌, ◌<◌, ◌≤◌, ◌⊎◌, List, [], ◌∷◌, ◌++◌, length, false, refl, sym, subst, ◌∙◌, inl, inr, arith, length-append}
 use Rattle.std.specs.Prelude.{nat_eq, slice_index, map}
 use Rattle.std.proofs.lemmas.Bool.Decides.{nat_tests}

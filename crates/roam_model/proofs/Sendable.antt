@@ -126,7 +126,7 @@ packed_sendable v kind session client before id text d s c low high numbers shor
 
 -- ---- a client start sends
 
--- what fits into the smaller limit fits into each
+-- a text within the smaller limit is within each
 roomy : (v : Version) (n : ℕ) → n ≤ 1000 → n ≤ most_bytes v
 roomy One n le = omega (arith, le)
 roomy Two n le = omega (arith, le)
@@ -231,7 +231,7 @@ watches_ticked r n s now = go (sends r n s now)
 
 -- ---- a datagram comes
 
--- where a datagram isn't turned away, there is room for its record, or it comes from a start that watches, or doesn't, as before
+-- if a datagram isn't turned away, there is room for its record, or it comes from a start that is read-only, or isn't, as before
 record Enters (s : Server) (d : DatagramValue) : Type 0 where
   room : (s.records d.client).known ≡ false → length (alike s (is_watching d.kind)) < most_of (is_watching d.kind)
   same : (s.records d.client).known ≡ true → (s.records d.client).watches ≡ is_watching d.kind

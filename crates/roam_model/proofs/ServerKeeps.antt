@@ -1,4 +1,4 @@
--- Each event at the server keeps what holds.
+-- Each event at the server keeps the invariant.
 use Rattle.std.proofs.Common.{◌≡◌, ℕ, ◌+◌, ◌<◌, ◌≤◌, ◌⊎◌, ◌^◌, max, List, [], ◌∷◌, ◌++◌, length, take, map, Some, Bool, true, false, refl, sym, ap, ◌∙◌, subst, inl, inr, arith, cond, append-nil}
 use Rattle.std.specs.Prelude.{nat_eq, nat_lt, ◌&&◌, ◌||◌}
 use Rattle.std.proofs.lemmas.Bool.Decides.{nat_tests}
@@ -232,7 +232,7 @@ top_true Is s are = go s.base s.later are
     go base [] are = All-head (λ (h : Held Screenshot). Is h.number h.state) base [] are
     go base (h ∷ hs) are = go h hs (All-tail (λ (h : Held Screenshot). Is h.number h.state) base (h ∷ hs) are)
 
--- what a link is that holds, with the sender s
+-- the invariant of a link, with the sender s
 record HoldsLine (size : SessionSize) (log : List Entry) (cuts : List ℕ) (s : Sending Screenshot) (vs : List DownValue)
     (c : Client) : Type 0 where
   truth : TrueLink (applied_by c.kept.version) (IsScreenOf c.kept.version size log cuts) s c.kept.receiver (Tells vs)
@@ -285,7 +285,7 @@ module _ (size : SessionSize) (log : List Entry) (cuts : List ℕ) (taken : List
           }
       go false e = record { truth = l.truth; in_step = l.in_step }
 
-  -- what is told is a screen
+  -- the screen that is sent is a screen
   pub newest_shown : IsSeenBy c.kept.version (newest (holds_after r n s now)).state
   newest_shown =
       let top = top_true (IsScreenOf c.kept.version size log cuts) (holds_after r n s now) offer_holds.truth.sender in
@@ -298,7 +298,7 @@ module _ (size : SessionSize) (log : List Entry) (cuts : List ℕ) (taken : List
       (sym (fit.version known))
       (difference_leads c.kept.version (holds_after r n s now).base.state (newest (holds_after r n s now)).state newest_shown)
 
-  -- what is sent has a text
+  -- the instruction that is sent has a text
   pub down_is : IsDown (down_to r n s now)
   down_is =
       let held = holds_after r n s now in
@@ -419,7 +419,7 @@ to_known session id r n s now d i = go (sends r n s now) refl i
     go true e i = sends_known r n s now e
     go false e i = absurd i
 
--- what fits still fits after a tick, which gives nothing to a record that isn't known
+-- the fit stays after a tick, which gives nothing to a record that isn't known
 fits_ticked : (r : Record) (c : Client) (n : ℕ) (s : Screenshot) (now : ℕ) → Fits r c → Fits (ticked_record r n s now) c
 fits_ticked r c n s now f = go (sends r n s now) refl
   where
@@ -437,7 +437,7 @@ fits_ticked r c n s now f = go (sends r n s now) refl
       none = (λ k. ap (λ (x : Record). record x { sender = holds_after x n s now }) (f.none k) ∙ none_held n s now);
     }
 
--- a datagram of a tick, and where it goes
+-- a datagram of a tick, and its address
 pub record IsOfTick (s : Server) (now : ℕ) (p : Parcel) : Type 0 where
   pub known : (s.records p.datagram.client).known ≡ true
   pub packed : IsPacked down_text (ticked_record (s.records p.datagram.client) (number_after s now) (screen_to s now p.datagram.client)
@@ -498,7 +498,7 @@ screen_for w now id f known = record {
   same = ap (λ (v : Version). screen v w.server.size w.server.log (cuts_after w.server now) (number_after w.server now)) (f.version known);
 }
 
--- the screen that a tick tells a record of is one that its start may be shown
+-- the screen that a tick sends to a record is one that its start may be shown
 pub newest_screen : (w : World) (now : ℕ) → is_tick_spent w.server now ≡ false → Holds w → (id : ℕ)
     → IsSeenBy (w.clients id).kept.version
     (newest (holds_after (w.server.records id) (number_after w.server now) (screen_to w.server now id) now)).state

@@ -1,4 +1,4 @@
--- What is shown and told in each version.
+-- The screens and texts of each version.
 use Rattle.std.proofs.Common.{◌≡◌, ◌+◌, ◌≤◌, length, Some, true, refl, arith}
 use Rattle.roam_screens.specs.Screenshot.{Screenshot, IsScreenshot}
 use Rattle.roam_model.specs.Versions.{is_same_version, seen_by, IsSeenBy, difference_by, applied_by}

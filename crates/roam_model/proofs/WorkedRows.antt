@@ -68,7 +68,7 @@ own_acts = refl
 first_acts : acts_of 161 (Did 161 a ∷ Did 161 b ∷ Did 162 c ∷ []) ≡ a ∷ b ∷ []
 first_acts = refl
 
--- what was sent to the first start is nothing for the later one in its slot
+-- datagrams to the first start are nothing for the later one in its slot
 other_start : arriving 1 162 (new_kept One false) (first_of One ToClient 161) ≡ turned_away OtherClient
 other_start = refl
 
@@ -78,7 +78,7 @@ other_session = refl
 wrong_way : arriving 1 161 (new_kept One false) (first_of One ToServer 161) ≡ turned_away (BadDatagram reason.Kind)
 wrong_way = refl
 
--- nor is what was sent to it in the other version
+-- nor are those to it in the other version
 other_version : arriving 1 161 (new_kept One false) (first_of Two ToClient 161) ≡ turned_away (BadDatagram reason.Version)
 other_version = refl
 
@@ -123,7 +123,7 @@ other_kind_there : coming known_server (first_of Two FromWatcher 161) ≡ turned
 unfolding new_server no_record
 other_kind_there = refl
 
--- ---- numbers are made 20 ms apart, where an input came
+-- ---- numbers are made 20 ms apart, if an input came
 
 abbrev first_ticked : Server
 first_ticked = record (new_server 1 size) { cuts = 0 ∷ []; made_at = 0 }
@@ -166,7 +166,7 @@ still_live = refl
 no_longer_live : is_live heard_at_5 60005 ≡ false
 no_longer_live = refl
 
--- ---- two clients: the first never answers, so its sender holds eight pairs at 120 ms; the second answered with 7
+-- ---- two clients: the first never answers, so its sender has eight pairs at 120 ms; the second answered with 7
 
 abbrev pair : ℕ → Screenshot → Held Screenshot
 pair n s = record { number = n; state = s; sent = true }

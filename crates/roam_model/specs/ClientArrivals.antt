@@ -1,4 +1,4 @@
--- A datagram comes to a client start: what it is there, and what it leaves.
+-- A datagram comes to a client start: its kind there, and its effect.
 use Rattle.std.specs.Prelude.{ℕ, Option, Some, None, not, nat_lt, ◌==◌, if◌then◌else◌}
 use Rattle.roam_cells.specs.declared.faults.Fault.TheVariants.{BadDatagram, OtherSession, OtherClient}
 use Rattle.roam_cells.specs.declared.faults.Reason.TheVariants.{Fragment}
@@ -17,14 +17,14 @@ use Rattle.roam_model.specs.Texts.{is_to_server}
 use Rattle.roam_model.specs.Clients.{Kept}
 use Rattle.roam_wire.specs.Datagrams.{DatagramValue}
 
--- what a client start answers to a datagram that it takes: the instruction isn't whole, or its update is old, leaves a gap or is new
+-- the result of a client start for a datagram that it takes: the instruction isn't whole, or its update is old, leaves a gap or is new
 pub data Hearing : Type 0 where
   IsPart : Hearing
   IsOld : Hearing
   IsGap : Hearing
   IsNew : Hearing
 
--- by what the gatherer says
+-- by the result of the gatherer
 abbrev pub arriving_gathered : Option (Answer × Gathering) → Arrival Hearing
 arriving_gathered None = turned_away (BadDatagram Fragment)
 arriving_gathered (Some (Part, g)) = noted IsPart g
@@ -40,13 +40,13 @@ arriving session id k d =
     else if not (is_same_version k.version d.version) then turned_away (BadDatagram reason.Version)
     else arriving_gathered (gather k.gathering (fragment_of d))
 
--- ---- what it leaves
+-- ---- its effect
 
 -- after a datagram that made no instruction whole
 abbrev pub after_fragment : Kept → ℕ → Gathering → Kept
 after_fragment k now g = record k { gathering = g; clock = now }
 
--- what the receiver makes of an instruction's update, by its numbers alone
+-- the receiver's result for an instruction's update, by its numbers alone
 abbrev pub step_of : Kept → DownValue → Step
 step_of k d = step_for k.receiver d.old d.new d.floor
 
@@ -55,8 +55,8 @@ hearing_of step.Old = IsOld
 hearing_of step.Gap = IsGap
 hearing_of step.New = IsNew
 
--- after a whole instruction, where the receiver holds r then: what it acknowledges goes to the acts, whatever the receiver made of it, and
--- where its new number is above its old one an answer is owed
+-- After a whole instruction, with the receiver r then: the acknowledged number goes to the acts, whatever the receiver's result. If its new
+-- number is above its old one an answer is owed.
 abbrev pub after_whole : Kept → ℕ → Gathering → Receiving Screenshot → DownValue → Kept
 after_whole k now g r d =
     record k {

@@ -1,4 +1,4 @@
--- A client start, and what is typed at it.
+-- A client start, and the acts typed at it.
 use Rattle.std.specs.Prelude.{ℕ, max, List, [], ◌∷◌, ◌++◌, Option, None, Bool, true, false}
 use Rattle.roam_screens.specs.Screenshot.{Screenshot}
 use Rattle.roam_acts.specs.declared.acts.Act.{Act}
@@ -10,14 +10,14 @@ use Rattle.roam_model.specs.Numbers.{first_screen}
 use Rattle.roam_wire.specs.declared.versions.Version.{Version}
 use Rattle.roam_wire.specs.declared.versions.Version.TheVariants.{Two}
 
--- what a program keeps of a client start
+-- the part of a client start that a program keeps
 pub record Kept : Type 0 where
   -- its version, and whether it only watches
   pub version : Version
   pub watches : Bool
   -- how many of the acts that were typed at it are acknowledged, and those that aren't
   pub acts : Typing
-  -- what is gathered of the newest instruction to it
+  -- the gathered fragments of the newest instruction to it
   pub gathering : Gathering
   -- the screens that an instruction may start from
   pub receiver : Receiving Screenshot
@@ -32,7 +32,7 @@ pub record Kept : Type 0 where
   pub datagrams : ℕ
   pub instructions : ℕ
 
--- a client start: what is kept of it, and its histories, which no program keeps
+-- a client start: its kept part, and its histories, which no program keeps
 pub record Client : Type 0 where
   -- whether there was such a start
   pub made : Bool
@@ -42,7 +42,7 @@ pub record Client : Type 0 where
   -- all instructions that it sent, the first under the number 1
   pub instructions : List UpValue
 
--- what is there before a start
+-- the value before a start
 unfoldable pub nobody : Client
 nobody =
     record {
@@ -64,7 +64,7 @@ nobody =
       instructions = [];
     }
 
--- what a start is at first
+-- a start at first
 abbrev pub new_kept : Version → Bool → Kept
 new_kept v watches = record nobody.kept { version = v; watches = watches }
 

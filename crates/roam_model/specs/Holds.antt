@@ -1,4 +1,4 @@
--- What holds of every world that can be reached, and with every step again.
+-- The invariant of every world that can be reached.
 use Rattle.std.specs.Prelude.{◌≡◌, ℕ, zero, suc, ◌<◌, ◌≤◌, ◌^◌, All, List, [], length, take, slice_index, slice_get, Option, Some, None, Bool, true, false}
 use Rattle.roam_acts.specs.Limits.{number_limit, most_unacknowledged}
 use Rattle.roam_acts.specs.declared.acts.Act.{Act}
@@ -39,7 +39,7 @@ fragments_by text_of (Some v) = fragments_of (text_of v)
 abbrev pub cuts_of : {V : Type 0} → (V → List ℕ) → List V → ℕ → List (List ℕ)
 cuts_of text_of vs n = fragments_by text_of (instruction_of vs n)
 
--- what is gathered are fragments of one of these instructions
+-- the gathered fragments are of one of these instructions
 pub record Gathers {V : Type 0} (text_of : V → List ℕ) (vs : List V) (g : Gathering) : Type 0 where
   pub of : GathersOf (cuts_of text_of vs) g
   pub low : g.id ≤ length vs
@@ -80,7 +80,7 @@ abbrev pub IsFragment : Bool → DatagramValue → Record → Client → Type 0
 IsFragment false d r c = IsFragmentOf (cuts_of down_text r.instructions) (fragment_of d)
 IsFragment true d r c = IsFragmentOf (cuts_of up_text c.instructions) (fragment_of d)
 
--- its client start was made, it has that one's version, and one to the server tells whether the start watches
+-- its client start was made, it has that one's version, and its kind to the server names a read-only start
 pub record Bears (d : DatagramValue) (c : Client) : Type 0 where
   pub made : c.made ≡ true
   pub version : d.version ≡ c.kept.version
@@ -97,7 +97,7 @@ pub record Fits (r : Record) (c : Client) : Type 0 where
 abbrev pub OnlyWatches : Client → Type 0
 OnlyWatches c = c.kept.watches ≡ true → (c.typed ≡ []) × (c.kept.version ≡ Two)
 
--- each number stands for a place in the log
+-- each number is a place in the log
 abbrev pub AreCuts : List Entry → List ℕ → Type 0
 AreCuts log cuts = (k : ℕ) → k < length cuts → slice_index cuts k ≤ length log
 
@@ -118,7 +118,7 @@ pub record Holds (w : World) : Type 0 where
   pub unused : (id : ℕ) → (w.clients id).made ≡ false → w.clients id ≡ nobody
   pub slots : (slot id : ℕ) → w.slots slot ≡ Some id → (w.clients id).made ≡ true
 
--- what is counted, and all datagrams that were sent
+-- the counts, and all datagrams that were sent
 pub record Counts (w : World) : Type 0 where
   pub session : w.server.session < 2 ^ 64
   pub starts : (id : ℕ) → (w.clients id).made ≡ true → id < 2 ^ 64

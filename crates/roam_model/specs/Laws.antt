@@ -1,4 +1,4 @@
--- What is promised of every world that can be reached.
+-- The promises about every world that can be reached.
 use Rattle.std.specs.Prelude.{◌≡◌, ◌⊎◌, ℕ, ◌<◌, ◌≤◌, ◌^◌, List, [], ◌∷◌, length, map, Some, nat_lt, if◌then◌else◌, true}
 use Rattle.roam_sync.specs.Limits.{most_held}
 use Rattle.roam_cells.specs.declared.faults.Fault.TheVariants.{OutOfMemory, BadChange}
@@ -24,7 +24,7 @@ use Rattle.roam_wire.specs.Datagrams.{DatagramValue}
 
 -- ---- what can be reached
 
--- what may be handed in: acts that can be typed, with numbers in their ranges, and ids of 64 bits
+-- the conditions on events: acts that can be typed, with numbers in their ranges, and ids of 64 bits
 abbrev pub IsEvent : Event → Type 0
 IsEvent (PaneBytes pane bytes) = Unit {0}
 IsEvent (Typed slot act) = IsAct act
@@ -39,7 +39,7 @@ abbrev pub AreEvents : List Event → Type 0
 AreEvents [] = Unit {0}
 AreEvents (e ∷ es) = IsEvent e × AreEvents es
 
--- a new world, of a session of this id and first size, which a session may have, comes to this one by these events with these replies
+-- these events with these replies lead from a new world to this one; the session has this id and first size, which a session may have
 pub record Reaches (session : ℕ) (size : SessionSize) (es : List Event) (rs : List Reply) (w : World) : Type 0 where
   pub id : session < 2 ^ 64
   pub limits : IsSessionSize size.rows size.cols
@@ -115,8 +115,7 @@ Headline w = ShowsTrueScreens w × TakesActsInOrder w
 
 -- ---- datagrams
 
--- An instruction's id names one text for good: two datagrams of one direction, start and id tell one count, and at one index they have one
--- payload.
+-- An instruction's id names one text for good: two datagrams of one direction, start and id have one count, and at one index one payload.
 abbrev pub NamesOneText : World → Type 0
 NamesOneText w = (d e : DatagramValue) → IsIn d w.sent → IsIn e w.sent → is_to_server d.kind ≡ is_to_server e.kind → d.client ≡ e.client
     → d.id ≡ e.id
@@ -156,7 +155,7 @@ pub record KeepsStep (w : World) (id : ℕ) : Type 0 where
   -- the start gathered no id above those that were sent to it
   pub gathered : (w.clients id).kept.gathering.id ≤ length (w.server.records id).instructions
 
--- What always holds, of which the headline is a part.
+-- The whole invariant, of which the headline is a part.
 pub record KeepsAll (w : World) : Type 0 where
   -- each update that was ever sent leads from the screen of its old number to that of its new one
   pub updates : (id : ℕ) (v : DownValue) → IsIn v (w.server.records id).instructions
@@ -167,12 +166,12 @@ pub record KeepsAll (w : World) : Type 0 where
   pub ids : NamesOneText w
   -- each pair at either end is a number with its screen
   pub pairs : HoldTrueScreens w
-  -- a sender's base is held by its start, and they keep in step from there on
+  -- a start has its sender's base, and they are in step from there on
   pub step : (id : ℕ) → KeepsStep w id
   -- each update that was sent has its old number at the start, or its new one isn't above the one that is shown
   pub known : (id : ℕ) (v : DownValue) → IsIn v (w.server.records id).instructions
       → IsAmong v.old (numbers_had (w.clients id).kept.receiver) ⊎ (v.new ≤ shown_number (w.clients id))
-  -- a record's count is the length of a front of what was typed
+  -- a record's count is the length of a front of the acts typed
   pub count : TakesActsInOrder w
 
 -- ---- one round
@@ -190,8 +189,8 @@ pub record DeliversAll (w w' : World) (id : ℕ) (ks : List (ℕ × ℕ)) : Type
   pub just : (k now : ℕ) → IsIn (k, now) ks → (d : DatagramValue) × IsFresh w w' id k d
   pub all : (k : ℕ) (d : DatagramValue) → IsFresh w w' id k d → (now : ℕ) × IsIn (k, now) ks
 
--- A tick sends to a start that is in a slot, just those datagrams come, and memory is never wanting: then the start shows the newest number
--- that its sender holds.
+-- A tick sends to a start that is in a slot, just those datagrams come, and memory is never refused: then the start shows the newest number
+-- of its sender.
 abbrev pub OneRoundSuffices : World → Type 0
 OneRoundSuffices w = (slot id now : ℕ) (ks : List (ℕ × ℕ)) (reply : Reply) (w' : World) (rs : List Reply) (w'' : World)
     → w.slots slot ≡ Some id → wstep w (ServerTick now) reply w' → ((reply ≡ Failed OutOfMemory) → ⊥)
@@ -199,8 +198,8 @@ OneRoundSuffices w = (slot id now : ℕ) (ks : List (ℕ × ℕ)) (reply : Reply
     → Run w' (deliveries slot ks) rs w'' → (IsIn (Failed OutOfMemory) rs → ⊥)
     → shown_number (w''.clients id) ≡ (newest (w'.server.records id).sender).number
 
--- A tick offers the newest number to each record that it may send to: where the sender holds fewer than eight, or has that number, its
--- newest is that number then.
+-- A tick offers the newest number to each record that it may send to: if the sender has fewer than eight, or has that number, its newest is
+-- that number then.
 abbrev pub OffersNewest : World → Type 0
 OffersNewest w = (id now : ℕ) → is_live (w.server.records id) (moment w.server now) ≡ true
     → (count (w.server.records id).sender < most_held) ⊎ ((newest (w.server.records id).sender).number ≡ number_after w.server
@@ -209,16 +208,16 @@ OffersNewest w = (id now : ℕ) → is_live (w.server.records id) (moment w.serv
 
 -- ---- answers
 
--- a reply that doesn't tell of memory
+-- a reply that doesn't report want of memory
 pub record IsAmple (reply : Reply) : Type 0 where
   pub whole : (reply ≡ Failed OutOfMemory) → ⊥
   pub part : (n : ℕ) → (reply ≡ Stopped OutOfMemory n) → ⊥
 
--- where memory isn't told of, an event has one reply, and leaves one world
+-- without want of memory, an event has one reply, and leads to one world
 abbrev pub HasOneReply : World → Type 0
 HasOneReply w = (e : Event) (r r' : Reply) (v v' : World) → wstep w e r v → wstep w e r' v' → IsAmple r → IsAmple r' → (r ≡ r') × (v ≡ v')
 
--- an event has a reply that doesn't tell of memory
+-- an event has a reply that doesn't report want of memory
 pub record IsAnswered (w : World) (e : Event) : Type 0 where
   pub reply : Reply
   pub left : World

@@ -1,4 +1,4 @@
--- All that is sent is within the limits of its text, so that it is read as it was written; and what is kept is bounded.
+-- Everything that is sent is within the limits of its text, so that it is read as it was written; and all kept parts are bounded.
 use Rattle.std.specs.Prelude.{ℕ, ◌<◌, ◌≤◌, Bool, length}
 use Rattle.roam_acts.specs.Limits.{number_limit, most_unacknowledged}
 use Rattle.roam_wire.specs.Instructions.{DownValue, IsDown, UpValue, IsUp}

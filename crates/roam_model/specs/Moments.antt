@@ -1,4 +1,4 @@
--- Moments, in milliseconds, and what is owed.
+-- Moments, in milliseconds, and owed answers.
 use Rattle.std.specs.Prelude.{ℕ, ◌+◌, Bool, false, Option, Some, None, nat_le}
 use Rattle.roam_acts.specs.Limits.{number_limit}
 
@@ -23,7 +23,7 @@ abbrev pub is_overdue : Option ℕ → ℕ → Bool
 is_overdue None now = false
 is_overdue (Some since) now = has_passed answer_delay since now
 
--- an answer is owed from now on, where none is owed already
+-- an answer is owed from now on, if none is owed already
 abbrev pub owed_from : Option ℕ → ℕ → Option ℕ
 owed_from None now = Some now
 owed_from (Some since) now = Some since

@@ -1,4 +1,4 @@
--- Screens by their numbers: a number stands for a place in the session's log.
+-- Screens by their numbers: a number is a place in the session's log.
 use Rattle.std.specs.Prelude.{◌≡◌, ℕ, ◌-◌, ◌≤◌, List, [], ◌∷◌, length, take, slice_index, ◌==◌, if◌then◌else◌}
 use Rattle.roam_acts.specs.declared.acts.Act.{Act}
 use Rattle.roam_screens.specs.Screenshot.{Screenshot, blank_screenshot}

@@ -1,4 +1,4 @@
--- The bytes that go to the program of a pane: the bytes of keys, and what the pane's terminal answers.
+-- The bytes that go to the program of a pane: the bytes of keys, and the answers of the pane's terminal.
 use Rattle.std.specs.Prelude.{◌≡◌, ℕ, ◌==◌, List, [], ◌∷◌, ◌++◌, take, Option, Some, None, if◌then◌else◌, true}
 use Rattle.std.specs.Prelude.{is_some}
 use Rattle.roam_keys.specs.declared.keys.Key.{Key}
@@ -6,7 +6,7 @@ use Rattle.roam_session.specs.Panes.{Pane, answers, key_bytes}
 use Rattle.roam_session.specs.Sessions.{Entry, Given, Did, Drained, SessionSize, SessionState, session, key_in}
 use Rattle.roam_session.specs.Refusals.{output_at}
 
--- what an entry puts behind the bytes that wait, where a pane is there
+-- the bytes that an entry adds behind the queued ones, if a pane is there
 abbrev pub answers_in : Option Pane → List ℕ → List ℕ
 answers_in None bytes = []
 answers_in (Some pane) bytes = answers pane bytes
@@ -21,7 +21,7 @@ put_by s (Given q bytes) p = if q == p then answers_in (s.pane p) bytes else []
 put_by s (Did client act) p = if s.plan.focus == p then key_bytes_in (s.pane p) (key_in act) else []
 put_by s (Drained q n) p = []
 
--- what it takes off their front
+-- the bytes that it takes off their front
 abbrev pub taken_in : Option Pane → ℕ → List ℕ
 taken_in None n = []
 taken_in (Some pane) n = take n pane.waiting
@@ -45,14 +45,14 @@ abbrev pub StaysThere : SessionSize → List Entry → List Entry → ℕ → Ty
 StaysThere size log [] p = is_some ((session size log).pane p) ≡ true
 StaysThere size log (e ∷ es) p = (is_some ((session size log).pane p) ≡ true) × StaysThere size (log ++ e ∷ []) es p
 
--- While a pane is there, the bytes that were taken, followed by those that wait, are those that waited at first, followed by all that were
--- put behind them: each once and in order.
+-- While a pane is there, the bytes that were taken, followed by the queued ones, are those queued at first, followed by all that were
+-- added: each once and in order.
 abbrev pub PassesEachByteOn : Type 0
 PassesEachByteOn = (size : SessionSize) (log entries : List Entry) (p : ℕ) (first last : List ℕ) → StaysThere size log entries p
     → output_at size log p ≡ Some first → output_at size (log ++ entries) p ≡ Some last
     → all_taken size log entries p ++ last ≡ first ++ all_put size log entries p
 
--- where a pane begins, nothing waits
+-- at the beginning of a pane, nothing is queued
 pub record BeginsWithNoOutput : Type 0 where
   pub at_first : (size : SessionSize) (p : ℕ) (output : List ℕ) → output_at size [] p ≡ Some output → output ≡ []
   pub later : (size : SessionSize) (log : List Entry) (e : Entry) (p : ℕ) (output : List ℕ) → output_at size log p ≡ None

@@ -1,4 +1,4 @@
--- A datagram comes to the server: what it is there, and what it leaves.
+-- A datagram comes to the server: its kind there, and its effect.
 use Rattle.std.specs.Prelude.{ℕ, ◌+◌, suc, max, filter, List, [], ◌∷◌, ◌++◌, length, take, map, Option, Some, None, Bool, true, false, not, ◌&&◌, ◌||◌, nat_le, nat_lt, ◌==◌, if◌then◌else◌}
 use Rattle.roam_cells.specs.declared.faults.Fault.TheVariants.{BadDatagram, OtherSession, ClientsFull}
 use Rattle.roam_cells.specs.declared.faults.Reason.TheVariants.{Fragment}
@@ -18,7 +18,7 @@ use Rattle.roam_model.specs.Versions.{is_same_version}
 use Rattle.roam_model.specs.Servers.{Record, Server}
 use Rattle.roam_wire.specs.Datagrams.{DatagramValue}
 
--- by what the gatherer says
+-- by the result of the gatherer
 abbrev pub coming_gathered : Option (Answer × Gathering) → Arrival (Unit {0})
 coming_gathered None = turned_away (BadDatagram Fragment)
 coming_gathered (Some (Part, g)) = noted tt g
@@ -64,7 +64,7 @@ coming s d =
     else if is_else s d then turned_away (BadDatagram reason.Kind)
     else coming_gathered (gather (s.records d.client).gathering (fragment_of d))
 
--- ---- what it leaves
+-- ---- its effect
 
 -- the record of its client start: it was heard now, from there, and this is gathered then
 abbrev pub heard_from : Record → DatagramValue → Address → ℕ → Gathering → Record
@@ -80,7 +80,7 @@ heard_from r d from now g =
       notes = r.notes ++ record { number = d.number; source = from } ∷ [];
     }
 
--- and with an instruction: what it acknowledges goes to the sender, n of its acts are taken, and acts make an answer owed
+-- and with an instruction: the acknowledged number goes to the sender, n of its acts are taken, and acts make an answer owed
 abbrev pub informed_from : Record → DatagramValue → Address → ℕ → Gathering → UpValue → ℕ → Record
 informed_from r d from now g u n =
     record (heard_from r d from now g) {

@@ -1,4 +1,4 @@
--- The server, and what it keeps of each client start.
+-- The server, and its record of each client start.
 use Rattle.std.specs.Prelude.{ℕ, ◌++◌, max, List, [], ◌∷◌, Option, None, Bool, true, false}
 use Rattle.roam_screens.specs.Screenshot.{Screenshot}
 use Rattle.roam_sync.specs.Senders.{Sending, start}
@@ -10,19 +10,19 @@ use Rattle.roam_model.specs.Texts.{Address}
 use Rattle.roam_wire.specs.declared.versions.Version.{Version}
 use Rattle.roam_wire.specs.declared.versions.Version.TheVariants.{Two}
 
--- the number of a datagram that came, and where it came from
+-- the number of a datagram that came, and its source
 pub record Note : Type 0 where
   pub number : ℕ
   pub source : Address
 
--- what the server keeps of a client start
+-- the server's record of a client start
 pub record Record : Type 0 where
   -- whether something came from it
   pub known : Bool
   -- the version of its first datagram, and whether that came from a watcher
   pub version : Version
   pub watches : Bool
-  -- what is gathered of its newest instruction
+  -- the gathered fragments of its newest instruction
   pub gathering : Gathering
   -- how many of its acts were taken
   pub taken : ℕ
@@ -30,7 +30,7 @@ pub record Record : Type 0 where
   pub sender : Sending Screenshot
   -- when it was heard
   pub heard_at : ℕ
-  -- the greatest number of a datagram that came, and where that came from
+  -- the greatest number of a datagram that came, and its source
   pub latest : ℕ
   pub address : Address
   -- all that came, as a history: no program keeps it

@@ -1,5 +1,5 @@
--- Each event with its reply and what it leaves, a case at a time. Want of memory may come in every call that asks for memory; it leaves the
--- world as it was, but for a datagram to the server that stops at an act.
+-- Each event with its reply and its effect, a case at a time. Want of memory is possible in every call that asks for memory. It leaves the
+-- world as it was, except for a datagram to the server that stops at an act.
 use Rattle.std.specs.Prelude.{◌≡◌, ℕ, ◌+◌, ◌<◌, ◌≤◌, List, [], ◌∷◌, length, Some, None, Bool, true, false}
 use Rattle.roam_cells.specs.declared.faults.Fault.{Fault}
 use Rattle.roam_cells.specs.declared.faults.Fault.TheVariants.{OutOfMemory, NoPane, Busy, BadDatagram, BadChange, Spent, Watching}
@@ -84,8 +84,8 @@ pub data ClientTickStep (w : World) (slot now : ℕ) (reply : Reply) (w' : World
       → w' ≡ after_client_sent w id (moment_of (w.clients id).kept now) → ClientTickStep w slot now reply w'
   no_memory : reply ≡ Failed OutOfMemory → w' ≡ w → ClientTickStep w slot now reply w'
 
--- A datagram comes to the server: it was never sent; it is refused; it makes no instruction whole; its instruction can't be read; all its
--- new acts are taken; one finds its queue full; memory is wanting at one. A stop at an act keeps what was gathered before, so that the
+-- A datagram comes to the server: it was never sent; it is refused; it completes no instruction; its instruction is invalid; all its new
+-- acts are taken; one finds its queue full; memory is refused at one. A stop at an act keeps the fragments gathered before, so that the
 -- same datagram can bring the rest.
 pub data ToServerStep (w : World) (k : ℕ) (from : Address) (now : ℕ) (reply : Reply) (w' : World) : Type 0 where
   not_sent : datagram_at w.sent k ≡ None
@@ -116,8 +116,8 @@ pub data ToServerStep (w : World) (k : ℕ) (from : Address) (now : ℕ) (reply 
       → ToServerStep w k from now reply w'
   no_memory : reply ≡ Stopped OutOfMemory 0 → w' ≡ w → ToServerStep w k from now reply w'
 
--- A datagram comes to a client start: none in the slot; it was never sent; it is refused; it makes no instruction whole; its instruction
--- can't be read; its change is bad; or the receiver hears its update.
+-- A datagram comes to a client start: none in the slot; it was never sent; it is refused; it completes no instruction; its instruction is
+-- invalid; its change is bad; or the receiver takes its update.
 pub data ToClientStep (w : World) (slot k now : ℕ) (reply : Reply) (w' : World) : Type 0 where
   empty_slot : w.slots slot ≡ None
       → reply ≡ Refused → w' ≡ w → ToClientStep w slot k now reply w'

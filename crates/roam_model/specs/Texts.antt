@@ -1,4 +1,4 @@
--- What goes over the network: datagrams, each with one fragment of an instruction's text.
+-- The network: datagrams, each with one fragment of an instruction's text.
 use Rattle.std.specs.Prelude.{◌≡◌, ℕ, ◌+◌, List, length, map, Bool, true, false, if◌then◌else◌}
 use Rattle.std.specs.List.{enumerate_from}
 use Rattle.roam_cells.specs.declared.faults.Reason.{Reason}
@@ -9,7 +9,7 @@ use Rattle.roam_wire.specs.declared.datagrams.Kind.TheVariants.{ToClient, ToServ
 use Rattle.roam_wire.specs.Datagrams.{DatagramValue}
 use Rattle.roam_wire.specs.declared.versions.Version.{Version}
 
--- where datagrams come from and go to: an IPv4 address and a port
+-- the source or destination of datagrams: an IPv4 address and a port
 pub record Address : Type 0 where
   pub host : ℕ
   pub port : ℕ
@@ -50,7 +50,7 @@ is_watching ToClient = false
 is_watching ToServer = false
 is_watching FromWatcher = true
 
--- the kind of what a start sends
+-- the kind of a start's datagrams
 abbrev pub kind_from : Bool → Kind
 kind_from watches = if watches then FromWatcher else ToServer
 

@@ -17,7 +17,7 @@ use Rattle.roam_wire.specs.declared.versions.Version.{Version}
 
 -- ---- the number
 
--- a number is made where none was made yet, or where an input came since the last was made and 20 ms passed
+-- a number is made if none was made yet, or if an input came since the last was made and 20 ms passed
 abbrev pub makes : Server → ℕ → Bool
 makes s now = length s.cuts == 0 || (s.input && has_passed frame_interval s.made_at now)
 
@@ -31,17 +31,17 @@ number_after s now = length (cuts_after s now)
 abbrev pub screen_after : Server → Version → ℕ → Screenshot
 screen_after s v now = screen v s.size s.log (cuts_after s now) (number_after s now)
 
--- ---- what it does to one record, where s is the screen of the newest number n in its version
+-- ---- its effect on one record, with s as the screen of the newest number n in its version
 
 -- it was heard less than 60,000 ms ago
 abbrev pub is_live : Record → ℕ → Bool
 is_live r now = r.known && nat_lt now (r.heard_at + forget_after)
 
--- the newest number is offered to it: it is above the sender's newest, and fewer than eight are held
+-- the newest number is offered to it: it is above the sender's newest, and there are fewer than eight
 abbrev pub is_offered : Record → ℕ → ℕ → Bool
 is_offered r n now = is_live r now && nat_lt (newest r.sender).number n && nat_lt (count r.sender) most_held
 
--- what its sender holds then
+-- the states of its sender then
 unfoldable pub holds_after : Record → ℕ → Screenshot → ℕ → Sending Screenshot
 holds_after r n s now = if is_offered r n now then offered r.sender n s else r.sender
 
@@ -49,7 +49,7 @@ holds_after r n s now = if is_offered r n now then offered r.sender n s else r.s
 unfoldable pub sends : Record → ℕ → Screenshot → ℕ → Bool
 sends r n s now = is_live r now && (is_due (holds_after r n s now) now || is_overdue r.owed now)
 
--- what is told by a sender: the change from its base to its newest, and how many acts were taken
+-- the instruction of a sender: the change from its base to its newest, and how many acts were taken
 abbrev pub down_from : Version → Sending Screenshot → ℕ → DownValue
 down_from v s taken =
     record {
@@ -98,7 +98,7 @@ is_record_spent r n s now =
 abbrev pub screen_to : Server → ℕ → ℕ → Screenshot
 screen_to s now id = screen_after s (s.records id).version now
 
--- a datagram, and where it goes
+-- a datagram, and its address
 pub record Parcel : Type 0 where
   pub to : Address
   pub datagram : DatagramValue

@@ -1,4 +1,4 @@
--- What a client start of each version is shown, and by which texts it is told.
+-- The screens and texts that a client start of each version gets.
 use Rattle.std.specs.Prelude.{ℕ, List, Option, Bool, true, false}
 use Rattle.roam_screens.specs.Screenshot.{Screenshot, IsScreenshot}
 use Rattle.roam_screens.specs.Narrow.{IsOldScreenshot, narrow}
@@ -12,7 +12,7 @@ is_same_version Two Two = true
 is_same_version One Two = false
 is_same_version Two One = false
 
--- the screen that a start of a version is shown where the session shows this one
+-- the screen that a start of a version is shown if the session shows this one
 abbrev pub seen_by : Version → Screenshot → Screenshot
 seen_by One s = narrow s
 seen_by Two s = s
@@ -22,7 +22,7 @@ abbrev pub IsSeenBy : Version → Screenshot → Type 0
 IsSeenBy One s = IsOldScreenshot s
 IsSeenBy Two s = IsScreenshot s
 
--- the change in the text of a version, and what it makes of a base
+-- the change in the text of a version, and its result on a base
 abbrev pub difference_by : Version → Screenshot → Screenshot → List ℕ
 difference_by One base s = difference_one base s
 difference_by Two base s = difference_two base s

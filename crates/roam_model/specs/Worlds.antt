@@ -46,7 +46,7 @@ pub data Event : Type 0 where
 -- how it is answered
 pub data Reply : Type 0 where
   Done : Reply
-  -- the number of the first datagram that was sent, or of the next one where none was; and how many were sent
+  -- the number of the first datagram that was sent, or of the next one if none was; and how many were sent
   Sent : (first : ℕ) → (count : ℕ) → Reply
   -- so many acts were taken
   Taken : (count : ℕ) → Reply

@@ -1,4 +1,4 @@
-//! What may happen between one server and its clients, and what holds after every list of it.
+//! The events between one server and its clients, and the facts after every list of them.
 #![tactic(auto)]
 
 pub mod laws;

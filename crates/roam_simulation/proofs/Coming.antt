@@ -24,7 +24,7 @@ use Rattle.roam_simulation.specs.Networks.{text_at}
 use Rattle.roam_simulation.specs.Worlds.{WorldView, start_in, Stands, Steps}
 use Rattle.roam_simulation.proofs.Slots.{Sits, sits, stands_kept, stands_put, stands_served, stands_serving}
 
--- ---- what was sent under a number
+-- ---- the datagram sent under a number
 
 text_of : (ds : List DatagramValue) (n : ℕ) → text_at (map datagram_text ds) n ≡ option_map datagram_text (datagram_at ds n)
 text_of ds n = go (nat_eq n 0)
@@ -56,7 +56,7 @@ is_sent v w n bytes st e = go (datagram_at w.sent n) refl (e ∙ ap (λ (xs : Li
 abbrev pub OneText : Type 0
 OneText = (d e : DatagramValue) → IsDatagram d → IsDatagram e → datagram_text d ≡ datagram_text e → d ≡ e
 
--- what the bytes are read as is what was sent
+-- the bytes are read as the datagram that was sent
 read_as : (w : World) (n : ℕ) (bytes : List ℕ) (d : DatagramValue) → Limits w → OneText → IsSent w n bytes → IsTextOf bytes d
     → datagram_at w.sent n ≡ Some d
 read_as w n bytes d l one s text =

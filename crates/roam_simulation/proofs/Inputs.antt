@@ -1,4 +1,4 @@
--- What comes from a pane's program, and what goes to it.
+-- Bytes from a pane's program, and bytes to it.
 use Rattle.std.proofs.Common.{◌≡◌, ℕ, ◌+◌, ◌*◌, ◌<◌, List, length, Option, Some, None, Bool, true, false, refl, sym, ap, subst}
 use Rattle.std.specs.Prelude.{Result, Ok, Err, nat_lt, if◌then◌else◌}
 use Rattle.std.specs.Option.{option_map}
@@ -19,7 +19,7 @@ abbrev pub done_by : Result (Unit {0}) Fault → Reply
 done_by (Ok x) = Done
 done_by (Err fault) = Failed fault
 
--- what refuses a piece is no want of memory
+-- a piece is not refused for want of memory
 chosen : (a b : Bool) (fault : Fault) → (if a then Some TooLong else if b then Some Busy else None) ≡ Some fault → IsWant (Failed fault) → ⊥
 chosen true b fault e want = let is : TooLong ≡ fault = cc in subst (λ x. IsWant (Failed x)) (sym is) want
 chosen false true fault e want = let is : Busy ≡ fault = cc in subst (λ x. IsWant (Failed x)) (sym is) want

@@ -1,4 +1,4 @@
--- The client starts in the slots, where one of them is another than before.
+-- The client starts in the slots, if one of them is another than before.
 use Rattle.std.proofs.Common.{◌≡◌, ℕ, zero, suc, ◌<◌, ◌≤◌, ◌≢◌, get_or, List, [], ◌∷◌, ◌++◌, length, set, Option, Some, None, Bool, true, false, refl, sym, ap, ◌∙◌, subst, inl, inr, arith, cond, get_or-set_same, get_or-set_other}
 use Rattle.std.specs.Prelude.{nat_eq}
 use Rattle.std.proofs.lemmas.Bool.Decides.{nat_tests}
@@ -40,7 +40,7 @@ vacant v w slot st at =
 same_some : (a b : Option ClientView) → Some a ≡ Some b → a ≡ b
 same_some a b e = cc
 
--- what is read in a slot is the start there
+-- reading a slot gives the start there
 pub start_read : (slots : List (Option ClientView)) (slot : ℕ) (o p : Option ClientView) → slot < length slots → o ≡ get_or slots slot o
     → o ≡ p → start_in slots slot ≡ p
 start_read slots slot o p lt is e =
@@ -58,7 +58,7 @@ start_past (o ∷ slots) (suc n) le = start_past slots n (omega arith)
 not_same : (x slot : ℕ) → nat_eq x slot ≡ false → x ≢ slot
 not_same x slot e f = grind (arith, nat_tests)
 
--- where another start is in one slot, the others are filled as before
+-- if another start is in one slot, the others are filled as before
 filled-set : (session : ℕ) (slots : List (Option ClientView)) (slot : ℕ) (v : ClientView) (clients : ℕ → Client) (ids : ℕ → Option ℕ)
     → slot < length slots → Fills session clients (Some v) (ids slot)
     → ((x : ℕ) → nat_eq x slot ≡ false → Fills session clients (start_in slots x) (ids x)) → (x : ℕ)

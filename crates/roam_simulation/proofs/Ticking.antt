@@ -1,4 +1,4 @@
--- Ticks: what they send is added to all that was sent.
+-- Ticks: their datagrams are added to all that was sent.
 use Rattle.std.proofs.Common.{◌≡◌, ℕ, ◌+◌, ◌<◌, ◌^◌, List, [], ◌∷◌, ◌++◌, length, set, Some, None, Bool, true, false, refl, sym, ap, ◌∙◌, arith, length-append, append-nil, subst}
 use Rattle.std.specs.Prelude.{Ok, Err, Vec, map, ◌&&◌, ◌||◌}
 use Rattle.std.specs.List.{list_any}
@@ -63,7 +63,7 @@ no_number_spent w now t l =
     or_false (is_tick_spent w.server now) (list_any (is_ack_spent w.server now) w.server.arrival)
     (no_ack_spent w now w.server.arrival t l)
 
--- ---- what was sent
+-- ---- the datagrams that were sent
 
 -- the list of all that was sent can be another one that is the same
 pub sent_same : (v : WorldView) (w : World) (texts : List (List ℕ)) → Stands v w → texts ≡ v.sent → Stands (record v { sent = texts }) w
@@ -99,7 +99,7 @@ texts_of_parcels xs ps e =
     right [] = refl
     right (q ∷ qs) = ap (λ (zs : List (List ℕ)). datagram_text q.datagram ∷ zs) (right qs)
 
--- there is no room for what a tick would send
+-- there is no room for the datagrams of a tick
 pub no_room : (v : WorldView) (w : World) (now : ℕ) → Stands v w → Steps w (ServerTick now) (Failed OutOfMemory) v
 no_room v w now st = record { left = w; step = no_memory refl refl; stands = st; memory = λ want. tt }
 

@@ -1,4 +1,4 @@
--- What events and replies are in the words of the definitions.
+-- Events and replies in the words of the definitions.
 use Rattle.std.specs.Prelude.{◌<◌, Result, Ok, Err}
 use Rattle.roam_cells.specs.declared.faults.Fault.{Fault}
 use Rattle.roam_acts.specs.Acts.{IsInRange}
@@ -10,7 +10,7 @@ use Rattle.roam_simulation.specs.declared.events.Event.TheVariants as event
 use Rattle.roam_simulation.specs.declared.events.Reply.{Reply}
 use Rattle.roam_simulation.specs.declared.events.Reply.TheVariants as reply
 
--- what happens, as the definitions name it
+-- an event, as the definitions name it
 abbrev pub event_of : Event → EventOf
 event_of (event.PaneBytes pane bytes) = PaneBytes pane bytes.items
 event_of (event.Typed slot act) = Typed slot act
@@ -36,7 +36,7 @@ abbrev pub reply_in : Result Reply Fault → ReplyOf
 reply_in (Ok r) = reply_of r
 reply_in (Err fault) = Failed fault
 
--- what is a caller's condition: acts with numbers in their ranges, and one of the eight slots for a start
+-- the conditions on a caller: acts with numbers in their ranges, and one of the eight slots for a start
 abbrev pub IsHandedIn : Event → Type 0
 IsHandedIn (event.Typed slot act) = IsInRange act
 IsHandedIn (event.Start slot id version watches) = slot < 8

@@ -6,7 +6,7 @@ use Rattle.roam_cells.specs.declared.addresses.Addr.{Addr}
 use Rattle.roam_simulation.specs.declared.networks.Batch.{Batch}
 use Rattle.roam_simulation.specs.declared.networks.Batch.TheVariants.{FromServer, FromClient}
 
--- what contracts see of a network: the texts of all datagrams ever sent, and for how many more ticks there is room
+-- the value of a network for contracts: the texts of all datagrams ever sent, and for how many more ticks there is room
 pub record NetworkView : Type 0 where
   pub texts : List (List ℕ)
   pub room : ℕ

@@ -1,4 +1,4 @@
--- What a world of the code stands for.
+-- The model of a world of the code.
 use Rattle.std.specs.Prelude.{◌≡◌, ℕ, List, map, slice_index_or, Option, Some, None, true, false, ◌≤◌, length}
 use Rattle.roam_acts.specs.Senders.{IsFull, IsSpent}
 use Rattle.roam_cells.specs.declared.faults.Fault.TheVariants.{BadChange, OutOfMemory}
@@ -14,7 +14,7 @@ use Rattle.roam_model.specs.Numbers.{screen}
 use Rattle.roam_hub.specs.Clients.{ClientView, Stands as ClientStands}
 use Rattle.roam_hub.specs.Servers.{ServerView, Stands as ServerStands}
 
--- what contracts see of a world: its session's id, its server, the start in each slot, the ids that were used, and the texts of all
+-- the value of a world for contracts: its session's id, its server, the start in each slot, the ids that were used, and the texts of all
 -- datagrams ever sent
 pub record WorldView : Type 0 where
   pub session : ℕ
@@ -23,11 +23,11 @@ pub record WorldView : Type 0 where
   pub used : List ℕ
   pub sent : List (List ℕ)
 
--- the start in a slot, where there is one
+-- the start in a slot, if there is one
 abbrev pub start_in : List (Option ClientView) → ℕ → Option ClientView
 start_in slots slot = slice_index_or slots slot None
 
--- a start in a slot is that of the slot's id, and where none is no id is
+-- a start in a slot is that of the slot's id, and an empty slot has no id
 abbrev pub Fills : ℕ → (ℕ → Client) → Option ClientView → Option ℕ → Type 0
 Fills session clients None None = Unit {0}
 Fills session clients None (Some id) = ⊥
@@ -50,7 +50,7 @@ pub record Stands (v : WorldView) (w : World) : Type 0 where
   pub starts : StartsStand w.server.session v.slots v.used w.clients w.slots
   pub sent : v.sent ≡ map datagram_text w.sent
 
--- a world of the code stands for events with their replies: some world that they reach is what it is
+-- a world of the code models events with their replies: it models some world that they reach
 pub record StandsFor (v : WorldView) (session : ℕ) (size : SessionSize) (es : List Event) (rs : List Reply) : Type 0 where
   pub world : World
   pub reached : Reaches session size es rs world
@@ -70,8 +70,8 @@ IsWant (Failed OutOfMemory) = Unit {0}
 IsWant (Stopped OutOfMemory taken) = Unit {0}
 IsWant _ = ⊥
 
--- Memory may be wanting for an event: an act that a start would take; a tick, whose room is made first; a datagram that was sent; a start
--- of an id that wasn't used, of a version that can do what it is to do. Bytes from a pane's program, or to it, take none.
+-- Memory may be refused for an event: an act that a start would take; a tick, whose room is made first; a datagram that was sent; a start
+-- of an id that wasn't used, of a fitting version. Bytes from a pane's program, or to it, take none.
 abbrev pub MayWant : World → Event → Type 0
 MayWant w (PaneBytes pane bytes) = ⊥
 MayWant w (Typed slot act) =
@@ -85,15 +85,15 @@ MayWant w (ToClient slot k now) =
 MayWant w (Start slot id version watches) = ((w.clients id).made ≡ false) × (is_unfit version watches ≡ false)
 MayWant w (Drain pane n) = ⊥
 
--- an event with its reply makes of a world another one, for which this stands; memory is wanting only where it may be
+-- an event with its reply makes of a world another one, which this value models; memory is refused only if that is possible
 pub record Steps (w : World) (e : Event) (r : Reply) (new : WorldView) : Type 0 where
   pub left : World
   pub step : wstep w e r left
   pub stands : Stands new left
   pub memory : IsWant r → MayWant w e
 
--- Each start in a slot shows a number that was made, or 0, and exactly the screen of that number; and the acts of each start that were
--- taken are the first of those typed there, each once and in order.
+-- Each start in a slot shows a number that was made, or 0, and exactly the screen of that number. The acts of each start that were taken
+-- are the first of those typed there, each once and in order.
 pub record ShowsSession (v : WorldView) (w : World) : Type 0 where
   pub made : (slot : ℕ) (c : ClientView) → start_in v.slots slot ≡ Some c → c.kept.receiver.newest.number ≤ length w.server.cuts
   pub same : (slot : ℕ) (c : ClientView) → start_in v.slots slot ≡ Some c

@@ -1,4 +1,4 @@
-//! What happens in a world, and how it is answered.
+//! The events of a world, and their replies.
 ghost use Rattle.roam_model.specs.Laws.{IsEvent};
 ghost use Rattle.roam_simulation.specs.Events.{IsHandedIn, event_of};
 
@@ -36,7 +36,7 @@ pub enum Event {
 }
 
 impl Event {
-    // What the types of its parts tell: a character that is typed is a Unicode scalar value, and an id has 64 bits.
+    // Facts from the types of its parts: a character that is typed is a Unicode scalar value, and an id has 64 bits.
     pub(crate) fn facts(&self)
         requires handed_in { IsHandedIn self.now }
         ensures event { IsEvent (event_of self.now) }
@@ -58,13 +58,13 @@ impl Event {
 pub enum Reply {
     Done,
 
-    /// The number of the first datagram that was sent, or of the next one where none was; and how many were sent.
+    /// The number of the first datagram that was sent, or of the next one if none was; and how many were sent.
     Sent(u64, u64),
 
     /// So many acts were taken.
     Taken(usize),
 
-    /// What a datagram was to a client start.
+    /// The kind of a datagram to a client start.
     Heard(Heard),
 
     /// There is no such start, datagram or output, the id was used, or a start would watch in version 1: nothing is done.

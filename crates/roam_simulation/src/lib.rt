@@ -1,4 +1,4 @@
-//! The world of both cores: what may happen between one server and its client starts, and how it is answered.
+//! The world of both cores: the events between one server and its client starts, and their replies.
 #![tactic(auto)]
 
 pub mod events;

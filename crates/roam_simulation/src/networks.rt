@@ -61,7 +61,7 @@ impl Model for Network {
 }
 
 impl Network {
-    /// A network where nothing was sent. It takes no memory.
+    /// Returns a network before anything was sent. It takes no memory.
     pub fn new(alloc: Global) -> Network
         ensures texts { result.texts ≡ [] }
     {
@@ -78,7 +78,7 @@ impl Network {
         ensures few { OnOk result (length self.new.texts < 2 ^ 62) }
         ensures fault { IsOkUnless result Fault.OutOfMemory }
     {
-        // More datagrams than any memory holds: where there were as many, no number would be left for one more.
+        // More datagrams than any memory has room for: with as many, no number would be left for one more.
         if self.count >= NUMBER_LIMIT {
             return Err(Fault::OutOfMemory);
         }
@@ -86,8 +86,8 @@ impl Network {
         Ok(())
     }
 
-    /// Adds the datagrams of one tick, for which there is room, and answers the number of the first, or of the next one where there are
-    /// none, and how many there are. It takes no memory.
+    /// Adds the datagrams of one tick, for which there is room. Returns the number of the first, or of the next one if there are none, and
+    /// how many there are. It takes no memory.
     pub fn add(&mut self, batch: Batch) -> (u64, u64)
         requires room { 0 < self.old.room }
         requires few { length self.old.texts < 2 ^ 62 }

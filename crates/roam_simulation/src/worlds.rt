@@ -71,7 +71,7 @@ fn no_clients(alloc: Global) -> Result<Vec<Option<Client>>, Fault>
     Ok(slots)
 }
 
-// Whether a start would only watch in version 1, which none can.
+// Returns true if a start would be read-only in version 1, which none can be.
 fn is_unfit(version: Version, watches: bool) -> bool
     ensures unfit { result ≡ is_unfit_for version watches }
 {
@@ -127,7 +127,7 @@ impl World {
         &self.server
     }
 
-    /// The client start in a slot, `None` where the slot is empty or there is no such slot. It takes no memory.
+    /// Returns the client start in a slot, `None` if the slot is empty or there is no such slot. It takes no memory.
     pub fn client(&self, slot: usize) -> Option<&Client>
         ensures client { option_copied result ≡ start_in self.now.slots slot }
     {
@@ -286,10 +286,10 @@ impl World {
         }
     }
 
-    /// Lets one event happen, and answers how. The caller's condition: the numbers of an act are in their ranges, and a client starts in a
-    /// slot of 0 to 7. `Refused` and `Fault` leave all as it was; `Stopped` at a full queue or at want of memory keeps the acts that were
-    /// taken before, and that the start was heard. From each world that it stood for, the event with its reply leads to one that it stands
-    /// for after. No datagram that comes to a start leaves a gap or has a bad change.
+    /// Does one event, and returns its reply. The caller's conditions: the numbers of an act are in their ranges, and a client starts in a
+    /// slot of 0 to 7. `Refused` and `Fault` leave everything as it was. `Stopped` at a full queue or at want of memory keeps the acts that
+    /// were taken before, and the moment of the start's datagram. From each world that it modelled, the event with its reply leads to one
+    /// that it models afterwards. No datagram that comes to a start leaves a gap or has a bad change.
     pub fn step(&mut self, alloc: Global, event: &Event) -> Reply
         requires handed_in { IsHandedIn event.now }
         ensures stands { (session : ℕ) (size : SessionSize) (es : List EventOf) (rs : List ReplyOf)
@@ -310,8 +310,8 @@ impl World {
         }
     }
 
-    /// The world of a new server, after these events. `BadSize` outside 4 to 200 rows or 8 to 500 columns, and `OutOfMemory` where there
-    /// is none for the world before the first event; want of memory at an event is how that one is answered.
+    /// Returns the world of a new server, after these events. `BadSize` outside 4 to 200 rows or 8 to 500 columns, `OutOfMemory` if there
+    /// is no memory for the world before the first event. Want of memory at an event is a reply to that event.
     pub fn run(
         alloc: Global,
         session: u64,
@@ -332,8 +332,8 @@ impl World {
         Ok(world)
     }
 
-    /// The headline, of this world: each client start in a slot shows exactly the screen of its number, and the acts taken from each
-    /// start are the first of those typed there.
+    /// The headline, of this world: each client start in a slot shows exactly the screen of its number, and the acts taken from each start
+    /// are the first of those typed there.
     pub fn shows_the_session(&self)
         ensures shown { (session : ℕ) (size : SessionSize) (es : List EventOf) (rs : List ReplyOf)
             → (stands : StandsFor self.now session size es rs) → ShowsSession self.now stands.world }
@@ -341,9 +341,9 @@ impl World {
         laws::clients_show_the_session();
     }
 
-    /// One round suffices, from this world on: where a server tick sends to a client start that is in a slot, and just those datagrams
-    /// come to that slot, each at least once, in any order, that start shows the newest number that its sender holds; and that is the
-    /// newest number wherever the tick could offer it.
+    /// One round suffices, from this world on. A server tick sends to a client start that is in a slot, and just those datagrams come to
+    /// that slot, each at least once, in any order. Then that start shows the newest number of its sender, which is the newest number
+    /// wherever the tick could offer it.
     pub fn one_round_suffices(&self)
         ensures round { (session : ℕ) (size : SessionSize) (es : List EventOf) (rs : List ReplyOf)
             → (stands : StandsFor self.now session size es rs) → OneRoundSuffices stands.world }
@@ -353,7 +353,7 @@ impl World {
         laws::one_round_suffices();
     }
 
-    /// No client start and no sender of a record of this world holds a ninth screen, and each datagram of a tick goes to the source of the
+    /// No client start and no sender of a record of this world has a ninth screen, and each datagram of a tick goes to the source of the
     /// greatest-numbered datagram that came from its client start.
     pub fn keeps_its_links(&self)
         ensures eight { (session : ℕ) (size : SessionSize) (es : List EventOf) (rs : List ReplyOf)

@@ -1,4 +1,4 @@
--- What a gatherer makes of fragments that were sent: it holds those of the highest id that arrived, and its answers follow.
+-- The effect of sent fragments on a gatherer: it has those of the highest id that arrived, and its results follow.
 use Rattle.std.proofs.Common.{◌≡◌, ℕ, zero, suc, ◌+◌, ◌<◌, ◌≤◌, max, Bool, true, false, ◌||◌, ◌&&◌, cond, eqb, leb, ltb, List, [], ◌∷◌, ◌++◌, length, get_or, set, replicate, Option, Some, None, refl, sym, ap, subst, ◌∙◌, arith, inl, inr, ◌⊎◌}
 use Rattle.std.specs.Prelude.{is_some, slice_get}
 use Rattle.std.proofs.lemmas.Bool.{cases_Bool, eq-eqb, ne_eqb, eqb-true}
@@ -104,7 +104,7 @@ step_lower cuts m f p of lt =
     let low : ltb p.id m ≡ true = grind (arith, nat_tests) in
     rw (low_index cuts p of, low) refl
 
--- what a new fragment makes
+-- the effect of a new fragment
 abbrev one_more : Cuts → FragmentValue → (ℕ → Bool) → Option (Answer × Gathering)
 one_more cuts p f = answered (cond (each_from 0 (length (cuts p.id)) f) (Whole (joined_fragments (cuts p.id))) Part) (holds cuts p.id f)
 
@@ -177,7 +177,7 @@ none_above id (p ∷ ps) index lt =
     let other : eqb p.id id ≡ false = let gone : p.id ≡ id → ⊥ = λ e. omega (arith, e, lt) in ne_eqb p.id id gone in
     rw (other, none_above id ps index (omega arith)) refl
 
--- what arrived of an id, with one more fragment
+-- the fragments of an id that arrived, with one more
 arrived_other : (id : ℕ) (p : FragmentValue) (ps : List FragmentValue) (index : ℕ) → eqb p.id id ≡ false → has_arrived id (p ∷ ps) index ≡ has_arrived id ps index
 arrived_other id p ps index e = rw e refl
 
@@ -192,7 +192,7 @@ arrived_again p ps index there =
       | inr e ↦ rw e refl
     ]
 
--- what is held and answered after one more fragment
+-- the state and the result after one more fragment
 abbrev next : Cuts → List FragmentValue → FragmentValue → Option (Answer × Gathering)
 next cuts ps p = answered (answer_to cuts ps p) (holds cuts (highest (p ∷ ps)) (has_arrived (highest (p ∷ ps)) (p ∷ ps)))
 
@@ -219,7 +219,7 @@ next_old cuts ps p of here there =
     ∙ ap (answered Old) (same_holds cuts p.id (max p.id (highest ps)) (has_arrived p.id ps) (has_arrived (max p.id (highest ps)) (p ∷ ps)) top same)
     ∙ rw (low, there) refl
 
--- what a new fragment makes is what follows
+-- the effect of a new fragment is the following state
 made : (cuts : Cuts) (ps : List FragmentValue) (p : FragmentValue) (g : ℕ → Bool) → highest ps ≤ p.id → has_arrived p.id ps p.index ≡ false → ((j : ℕ) → g j ≡ has_arrived p.id (p ∷ ps) j) → one_more cuts p g ≡ next cuts ps p
 made cuts ps p g le gone same =
     let top : p.id ≡ max p.id (highest ps) = omega arith in
@@ -256,7 +256,7 @@ next_is cuts ps p of =
     cases : (a b : ℕ) → (a < b) ⊎ ((b ≡ a) ⊎ (b < a))
     cases a b = grind arith
 
--- what a new gatherer holds after fragments that were cut
+-- the state of a new gatherer after fragments that were cut
 pub held : (cuts : Cuts) → cuts 0 ≡ [] → (ps : List FragmentValue) → AreFragmentsOf cuts ps → gathered_of ps ≡ holds cuts (highest ps) (has_arrived (highest ps) ps)
 held cuts none [] all = ap (λ (ts : List (List ℕ)). record { id = 0; fragments = came_from 0 (has_arrived 0 []) ts }) (sym none)
 held cuts none (p ∷ ps) all =
@@ -269,7 +269,7 @@ answers cuts none p ps all =
     ∙ next_is cuts ps p all.0
     ∙ ap (answered (answer_to cuts ps p)) (sym (held cuts none (p ∷ ps) all))
 
--- ---- what is held by place
+-- ---- the fragments by place
 
 came_there : (k : ℕ) (f : ℕ → Bool) (ts : List (List ℕ)) (i : ℕ) (x : List ℕ) → slice_get (came_from k f ts) i ≡ Some (Some x) → slice_get ts i ≡ Some x
 came_there k f [] i x e = absurd cc

@@ -34,7 +34,7 @@ pub fragments_of-empty : fragments_of [] ≡ []
 unfolding fragments_of
 fragments_of-empty = refl
 
--- ---- what the fragments are
+-- ---- the fragments
 
 joined-cut : (size n : ℕ) (text : List ℕ) → 0 < size → length text ≤ n → joined_fragments (cut_within size n text) ≡ text
 joined-cut size zero [] some le = refl

@@ -1,4 +1,4 @@
--- Datagrams: what is read has this text, what has this text is read, and two datagrams with one text are one.
+-- Datagrams: bytes that are read have this text, bytes with this text are read, and two datagrams with one text are equal.
 use Rattle.std.proofs.Common.{◌≡◌, ℕ, ◌+◌, ◌^◌, ◌<◌, ◌≤◌, Bool, true, false, not, ◌||◌, cond, eqb, ltb, List, ◌∷◌, ◌++◌, length, get_or, drop, Option, Some, None, Result, Ok, Err, refl, sym, ap, subst, ◌∙◌, arith, lit<}
 use Rattle.std.specs.Prelude.{is_ok, IsOk}
 use Rattle.std.proofs.lemmas.Bool.{le-ltb, or_parts, not-false, eqb-true, eqb-false, ltb-false}
@@ -35,7 +35,7 @@ header_takes bytes long fits =
     ∙ ap (λ (t : List ℕ). big_bytes 2 (big_number 2 (drop 36 bytes)) ++ t) (number 2 38 bytes back_2 (omega arith) fits
     ∙ ap (λ (t : List ℕ). big_bytes 2 (big_number 2 (drop 38 bytes)) ++ t) (number 2 40 bytes back_2 (omega arith) fits)))))))))
 
--- what has a header's text
+-- a header that has a text
 record FitsHeader (h : Header) : Type 0 where
   magic : h.magic < 2 ^ 16
   session : h.session < 2 ^ 64
@@ -62,7 +62,7 @@ header_again h rest fits =
 
 -- ---- the tests on a header
 
--- what is true of a header without a fault
+-- the facts about a header without a fault
 record Passes (h : Header) (rest : ℕ) (v : Version) (kind : Kind) : Type 0 where
   magic : h.magic ≡ 0x524D
   version : number_of_version v ≡ h.version
@@ -90,7 +90,7 @@ some_or : (b : Bool) (r : Reason) (x : Option Reason) → cond b (Some r) x ≡ 
 some_or true r x e = absurd cc
 some_or false r x e = (refl, e)
 
--- what is true of a version and a direction that were read
+-- the facts about a version and a direction that were read
 record Reads (h : Header) (rest : ℕ) (v : Version) (kind : Kind) : Type 0 where
   version : version_numbered h.version ≡ Some v
   fault : fragment_fault v h rest ≡ None
@@ -181,7 +181,7 @@ pass_again h rest v kind p =
 
 -- ---- the grammar
 
--- what is read has this text
+-- the bytes read are this text
 pub found : (bytes : List ℕ) (v : Version) (kind : Kind) → 42 ≤ length bytes → IsBytes bytes → checked_header (header_at bytes) (length (drop 42 bytes)) ≡ Ok (v, kind)
     → IsDatagram (datagram_with (header_at bytes) (drop 42 bytes) v kind) × (bytes ≡ datagram_text (datagram_with (header_at bytes) (drop 42 bytes) v kind))
 found bytes v kind long fits e =
@@ -206,7 +206,7 @@ found bytes v kind long fits e =
 abbrev pub a_datagram : DatagramValue → Result DatagramValue Reason
 a_datagram d = Ok d
 
--- what has this text is read
+-- this text is read
 pub again : (d : DatagramValue) → IsDatagram d → datagram_at (datagram_text d) ≡ a_datagram d
 again d is =
     let h = header_of d in
@@ -251,7 +251,7 @@ one_datagram d e is_d is_e same =
     let both : a_datagram d ≡ a_datagram e = sym (again d is_d) ∙ ap datagram_at same ∙ again e is_e in
     cc
 
--- ---- what a call has found
+-- ---- the findings of a call
 
 long_at : (bytes : List ℕ) (r : Result Ends Reason) → 42 ≤ length bytes → checked_header (header_at bytes) (length (drop 42 bytes)) ≡ r
     → datagram_at bytes ≡ datagram_if (header_at bytes) (drop 42 bytes) r

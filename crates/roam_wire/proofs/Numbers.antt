@@ -1,4 +1,4 @@
--- Big-endian numbers and their bytes, in both directions: what all three formats are read by.
+-- Big-endian numbers and their bytes, in both directions, for all three formats.
 use Rattle.std.proofs.Common.{◌≡◌, ℕ, suc, ◌+◌, ◌<◌, ◌≤◌, List, ◌∷◌, ◌++◌, length, get_or, take, drop, sym, arith, lit<}
 use Rattle.std.proofs.Math.Seq.{drop-cons}
 use Rattle.std.proofs.lemmas.List.{drop-drop, take-append-drop, get_or-take, length-take, length-drop}

@@ -19,7 +19,7 @@ pub length-seen : (ps : List (Option (Vec ℕ Global))) → length (seen ps) ≡
 length-seen [] = refl
 length-seen (p ∷ ps) = ap (λ n. suc n) (length-seen ps)
 
--- a place is seen as what it has
+-- the value of a place is its content
 pub get_seen : (ps : List (Option (Vec ℕ Global))) (i : ℕ) (d : Option (Vec ℕ Global)) → i < length ps → get_or (seen ps) i None ≡ seen_fragment (get_or ps i d)
 get_seen [] i d h = absurd (omega arith)
 get_seen (p ∷ ps) zero d h = refl

@@ -51,7 +51,7 @@ cut_off = refl
 other_version : datagram_at (head 3 ++ body) ≡ Err Version
 other_version = refl
 
--- the letters are told before the version
+-- bad letters are reported before the version
 other_letters : datagram_at (0x53 ∷ drop 1 (head 3) ++ body) ≡ Err Magic
 other_letters = refl
 
@@ -90,7 +90,7 @@ then_whole = refl
 again : gather half (fragment 1 1 2 (3 ∷ [])) ≡ Some (Old, half)
 again = refl
 
--- an old id is told before a bad index
+-- an old id is reported before a bad index
 old_first : gather half (fragment 0 7 2 (3 ∷ [])) ≡ Some (Old, half)
 old_first = refl
 
@@ -103,7 +103,7 @@ other_count = refl
 anew : gather half (fragment 2 0 1 (9 ∷ [])) ≡ Some (Whole (9 ∷ []), record { id = 2; fragments = Some (9 ∷ []) ∷ [] })
 anew = refl
 
--- what a new gatherer answers after others arrived, the latest first
+-- the result of a new gatherer after others arrived, the latest first
 abbrev cuts : ℕ → List (List ℕ)
 cuts zero = []
 cuts (suc zero) = (1 ∷ 2 ∷ []) ∷ (3 ∷ []) ∷ []

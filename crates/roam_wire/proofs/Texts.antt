@@ -1,4 +1,4 @@
--- Instructions: bytes are the text of the numbers that stand in them.
+-- Instructions: bytes are the text of the numbers in them.
 use Rattle.std.proofs.Common.{◌≡◌, ℕ, ◌≤◌, List, [], ◌∷◌, ◌++◌, length, drop, refl, sym, ap, ◌∙◌, arith}
 use Rattle.std.proofs.lemmas.List.Elements.{recursion_from_All}
 use Rattle.byteorder.specs.Endian.{big_bytes, big_number}

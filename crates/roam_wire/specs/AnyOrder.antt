@@ -1,4 +1,4 @@
--- Arrivals: what a gatherer makes of fragments that were sent, whichever of them arrive, how often and in which order.
+-- Arrivals: the effect of sent fragments on a gatherer, whichever of them arrive, how often and in which order.
 use Rattle.std.specs.Prelude.{◌≡◌, ℕ, zero, suc, ◌+◌, max, Bool, true, false, ◌||◌, ◌&&◌, List, [], ◌∷◌, length, slice_get, Option, Some, None, nat_lt, ◌==◌, if◌then◌else◌}
 use Rattle.roam_wire.specs.Cutting.{joined_fragments}
 use Rattle.roam_wire.specs.Gatherers.{FragmentValue, Gathering, nothing, Answer, Part, Old, Whole, gather}
@@ -13,12 +13,12 @@ abbrev pub AreFragmentsOf : (ℕ → List (List ℕ)) → List FragmentValue →
 AreFragmentsOf cuts [] = Unit {0}
 AreFragmentsOf cuts (p ∷ ps) = IsFragmentOf cuts p × AreFragmentsOf cuts ps
 
--- what is gathered after an answer; a refusal changes nothing
+-- the gathered fragments after a result; a refusal changes nothing
 abbrev pub after : Gathering → Option (Answer × Gathering) → Gathering
 after g None = g
 after g (Some answered) = answered.1
 
--- what a new gatherer holds after these fragments arrived, the latest first
+-- the state of a new gatherer after these fragments arrived, the latest first
 abbrev pub gathered_of : List FragmentValue → Gathering
 gathered_of [] = nothing
 gathered_of (p ∷ ps) = after (gathered_of ps) (gather (gathered_of ps) p)
@@ -42,26 +42,27 @@ each_from start (suc n) passes = passes start && each_from (start + 1) n passes
 abbrev pub have_all_arrived : (ℕ → List (List ℕ)) → ℕ → List FragmentValue → Bool
 have_all_arrived cuts id ps = each_from 0 (length (cuts id)) (has_arrived id ps)
 
--- what is said to a fragment after others, the latest first: old where a higher id came before or the fragment itself, whole where each
--- fragment of its id has come now, with what was cut under the id
+-- The result for a fragment after others, the latest first: old if a higher id or the fragment itself came before. Whole if each fragment
+-- of its id has come now, with the text that was cut under the id.
 abbrev pub answer_to : (ℕ → List (List ℕ)) → List FragmentValue → FragmentValue → Answer
 answer_to cuts ps p =
     if nat_lt p.id (highest ps) || has_arrived p.id ps p.index then Old
     else if have_all_arrived cuts p.id (p ∷ ps) then Whole (joined_fragments (cuts p.id))
     else Part
 
--- what is gathered was cut under the current id
+-- the gathered fragments were cut under the current id
 pub record GathersOf (cuts : ℕ → List (List ℕ)) (g : Gathering) : Type 0 where
   pub count : length g.fragments ≡ length (cuts g.id)
   pub there : (i : ℕ) (fragment : List ℕ) → slice_get g.fragments i ≡ Some (Some fragment) → slice_get (cuts g.id) i ≡ Some fragment
 
--- a text that is whole is what was cut under the id
+-- a whole text is the one that was cut under the id
 abbrev pub IsCutText : List (List ℕ) → Answer → Type 0
 IsCutText fragments Part = Unit {0}
 IsCutText fragments Old = Unit {0}
 IsCutText fragments (Whole text) = text ≡ joined_fragments fragments
 
--- a fragment is taken: what is gathered then was cut under the higher of both ids, and a text that is whole was cut under the fragment's
+-- A fragment is taken: the gathered fragments are then those cut under the higher of both ids, and a whole text was cut under the
+-- fragment's.
 abbrev pub GathersWell : (ℕ → List (List ℕ)) → Gathering → FragmentValue → Option (Answer × Gathering) → Type 0
 GathersWell cuts g p None = ⊥
 GathersWell cuts g p (Some answered) = GathersOf cuts answered.1 × (answered.1.id ≡ max g.id p.id) × IsCutText (cuts p.id) answered.0

@@ -4,7 +4,7 @@ use Rattle.std.specs.declared.alloc.Global.{Global}
 use Rattle.roam_wire.specs.declared.versions.Version.{Version}
 use Rattle.roam_wire.specs.Versions.{most_fragments}
 
--- the fragments of a text, as long as told, and the rest; the second number is at least the text's length
+-- the fragments of a text, of the given length, and the rest; the second number is at least the text's length
 abbrev pub cut_within : ℕ → ℕ → List ℕ → List (List ℕ)
 cut_within size zero text = []
 cut_within size (suc n) [] = []
@@ -30,6 +30,6 @@ pub record AreSendable (v : Version) (fragments : List (List ℕ)) : Type 0 wher
   pub few : length fragments ≤ most_fragments v
   pub lengths : (i : ℕ) → i < length fragments → HasLength i (length fragments) (length (get_or fragments i []))
 
--- what lists of bytes in memory hold
+-- the contents of lists of bytes in memory
 abbrev pub texts_of : List (Vec ℕ Global) → List (List ℕ)
 texts_of vs = map (λ v. v.items) vs

@@ -10,7 +10,7 @@ use Rattle.roam_wire.specs.declared.versions.Version.{Version}
 use Rattle.roam_wire.specs.declared.versions.Version.TheVariants.{Two}
 use Rattle.roam_wire.specs.Versions.{most_fragments, number_of_version}
 
--- what a datagram says, wherever its payload lies in memory
+-- the contents of a datagram, wherever its payload is in memory
 pub record DatagramValue : Type 0 where
   pub version : Version
   pub kind : Kind
@@ -36,7 +36,7 @@ datagram_value d =
       payload = d.payload.items;
     }
 
--- the byte that stands for a direction
+-- the byte of a direction
 abbrev pub tag_of : Kind → ℕ
 tag_of ToClient = 1
 tag_of ToServer = 2
@@ -68,8 +68,8 @@ header_text h =
 abbrev pub datagram_text : DatagramValue → List ℕ
 datagram_text d = header_text (header_of d) ++ d.payload
 
--- what has a text: a watcher's in version 2 alone, numbers from 1 and below 2^62, no more fragments than its version allows, each of 1,200
--- bytes but for the last, none of them empty
+-- A datagram that has a text: a read-only start's in version 2 only, numbers from 1 and below 2^62, no more fragments than its version
+-- allows, each of 1,200 bytes except for the last, none of them empty.
 pub record IsDatagram (d : DatagramValue) : Type 0 where
   pub kind : d.kind ≡ FromWatcher → d.version ≡ Two
   pub session : d.session < 2 ^ 64

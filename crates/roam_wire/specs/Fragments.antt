@@ -2,7 +2,7 @@
 use Rattle.std.specs.Prelude.{ℕ, ◌+◌, Bool, true, false, List, [], ◌∷◌, ◌++◌, Vec, Option, Some, None}
 use Rattle.std.specs.declared.alloc.Global.{Global}
 
--- what lies at a place
+-- the content of a place
 abbrev pub seen_fragment : Option (Vec ℕ Global) → Option (List ℕ)
 seen_fragment None = None
 seen_fragment (Some v) = Some v.items

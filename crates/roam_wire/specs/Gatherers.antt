@@ -1,4 +1,4 @@
--- Gathering: what a gatherer holds, and how a fragment changes it (this project's profile).
+-- Gathering: the state of a gatherer, and the effect of a fragment (this project's profile).
 use Rattle.std.specs.Prelude.{◌≡◌, ℕ, Bool, true, false, not, ◌||◌, ◌&&◌, List, [], length, replicate, is_some, slice_set, get_or, unwrap_or, Option, Some, None, nat_lt, nat_le, ◌==◌, if◌then◌else◌}
 use Rattle.roam_wire.specs.Datagrams.{DatagramValue}
 use Rattle.roam_wire.specs.Fragments.{all_there, text_of}
@@ -27,12 +27,12 @@ pub record Gathering : Type 0 where
 abbrev pub nothing : Gathering
 nothing = record { id = 0; fragments = [] }
 
--- what is gathered, and what was before the last fragment, where that can be had back
+-- the gathered fragments, and those before the last fragment, if they are available
 pub record GathererValue : Type 0 where
   pub current : Gathering
   pub before : Option Gathering
 
--- what a gatherer says to a fragment
+-- the result of a gatherer for a fragment
 pub data Answer : Type 0 where
   Part : Answer
   Old : Answer
@@ -43,7 +43,7 @@ answer_of gathered.Part = Part
 answer_of gathered.Old = Old
 answer_of (gathered.Whole text) = Whole text.items
 
--- to a new fragment: whole, with the payloads joined in the order of their index, where none is missing now
+-- for a new fragment: whole, with the payloads joined in the order of their index, if none is missing now
 abbrev pub answer_in : List (Option (List ℕ)) → Answer
 answer_in ps = if all_there ps then Whole (text_of ps) else Part
 
@@ -53,9 +53,9 @@ with_fragment ps p =
     let fragments = slice_set ps p.index (Some p.payload) in
     (answer_in fragments, record { id = p.id; fragments = fragments })
 
--- what is said to a fragment, and what is gathered then; none where it is no fragment of what is gathered. In this order: an id below the
--- current one is old, and so is the current one where it is whole; an index that isn't below its count is none; a higher id begins anew;
--- another count under the current id is none; a fragment that is there is old.
+-- The result for a fragment, and the gathered fragments then; none if it does not belong to the gathered instruction. In this order: an id
+-- below the current one is old, and so is the current one if it is whole. An index that isn't below its count is none. A higher id begins
+-- anew. Another count under the current id is none. A fragment that is there is old.
 abbrev pub gather : Gathering → FragmentValue → Option (Answer × Gathering)
 gather g p =
     if nat_lt p.id g.id || (p.id == g.id && all_there g.fragments) then Some (Old, g)
@@ -74,11 +74,11 @@ is_missing g p =
     else if not (length g.fragments == p.count) then false
     else not (is_some (get_or g.fragments p.index None))
 
--- what is gathered once the last fragment is taken back
+-- the gathered fragments once the last one is taken back
 abbrev pub untaken : GathererValue → GathererValue
 untaken g = record { current = unwrap_or g.before g.current; before = None }
 
--- what was gathered before the last fragment, by what undoes it
+-- the fragments before the last one, by its undo
 abbrev pub before_of : Gathering → Undo → Option Gathering
 before_of g undo.Nothing = None
 before_of g undo.Same = Some g

@@ -1,4 +1,4 @@
--- What bytes say as a datagram, or their first fault (this project's profile).
+-- The contents of bytes as a datagram, or their first fault (this project's profile).
 use Rattle.std.specs.Prelude.{ℕ, ◌+◌, ◌^◌, Bool, not, ◌||◌, ◌&&◌, List, length, drop, slice_index, Option, Some, None, Result, Ok, Err, IsOk, nat_lt, nat_le, ◌==◌, if◌then◌else◌, ◌≡◌}
 use Rattle.byteorder.specs.Endian.{big_number}
 use Rattle.roam_acts.specs.Limits.{number_limit}
@@ -36,7 +36,7 @@ abbrev pub watcher_in : Version → Option Kind
 watcher_in One = None
 watcher_in Two = Some FromWatcher
 
--- the direction that a byte stands for in a version
+-- the direction of a byte in a version
 abbrev pub kind_tagged : Version → ℕ → Option Kind
 kind_tagged v tag = if tag == 1 then Some ToClient else if tag == 2 then Some ToServer else if tag == 3 then watcher_in v else None
 
@@ -68,7 +68,7 @@ abbrev pub version_unless : Header → ℕ → Option Version → Result (Versio
 version_unless h rest None = Err reason.Version
 version_unless h rest (Some v) = kind_unless v (fragment_fault v h rest) (kind_tagged v h.kind)
 
--- the version and the direction that a header tells before so many bytes, or the first fault
+-- the version and the direction of a header before so many bytes, or the first fault
 abbrev pub checked_header : Header → ℕ → Result (Version × Kind) Reason
 checked_header h rest =
     if not (h.magic == 0x524D) then Err Magic
@@ -89,24 +89,24 @@ datagram_with h payload version kind =
       payload = payload;
     }
 
--- what a checked header and a payload say
+-- the contents of a checked header and a payload
 abbrev pub datagram_if : Header → List ℕ → Result (Version × Kind) Reason → Result DatagramValue Reason
 datagram_if h payload (Ok p) = Ok (datagram_with h payload p.0 p.1)
 datagram_if h payload (Err fault) = Err fault
 
--- what bytes say, or the first fault: too few of them, then the letters, the version, the direction, the length, the fragment
+-- the contents of bytes, or the first fault: too few of them, then the letters, the version, the direction, the length, the fragment
 abbrev pub datagram_at : List ℕ → Result DatagramValue Reason
 datagram_at bytes =
     if nat_lt (length bytes) 42 then Err Short
     else datagram_if (header_at bytes) (drop 42 bytes) (checked_header (header_at bytes) (length (drop 42 bytes)))
 
--- a refusal is for want of memory, where a value was read, or tells that reason
+-- a refusal is for want of memory, if a value was read, or names that reason
 abbrev pub Refuses : {V : Type 0} → Result V Reason → Fault → Type 0
 Refuses read OutOfMemory = IsOk read
 Refuses read (BadDatagram r) = read ≡ Err r
 Refuses read _ = ⊥
 
--- what a call answered is what reading gives, unless memory ran out
+-- the result of a call is that of reading, unless memory ran out
 abbrev pub Gives : {X V : Type 0} → (X → V) → Result V Reason → Result X Fault → Type 0
 Gives value read (Ok x) = read ≡ Ok (value x)
 Gives value read (Err fault) = Refuses read fault

@@ -11,7 +11,7 @@ use Rattle.roam_cells.specs.declared.faults.Reason.TheVariants.{Short, Length}
 use Rattle.roam_wire.specs.declared.instructions.Down.{Down}
 use Rattle.roam_wire.specs.declared.instructions.Up.{Up}
 
--- what an instruction to a client says
+-- the contents of an instruction to a client
 pub record DownValue : Type 0 where
   pub old : ℕ
   pub new : ℕ
@@ -26,7 +26,7 @@ down_value d = record { old = d.old; new = d.new; floor = d.floor; acked = d.ack
 abbrev pub down_text : DownValue → List ℕ
 down_text d = big_bytes 8 d.old ++ (big_bytes 8 d.new ++ (big_bytes 8 d.floor ++ (big_bytes 8 d.acked ++ d.change)))
 
--- what has a text: a floor at most the old number, that at most the new one, each number below 2^62
+-- an instruction that has a text: a floor at most the old number, that at most the new one, each number below 2^62
 pub record IsDown (d : DownValue) : Type 0 where
   pub floor : d.floor ≤ d.old
   pub old : d.old ≤ d.new
@@ -37,7 +37,7 @@ pub record IsDown (d : DownValue) : Type 0 where
 abbrev pub IsDownText : List ℕ → Type 0
 IsDownText bytes = (d : DownValue) × IsDown d × (bytes ≡ down_text d)
 
--- what an instruction to the server says
+-- the contents of an instruction to the server
 pub record UpValue : Type 0 where
   pub acked : ℕ
   pub first : ℕ
@@ -50,14 +50,14 @@ up_value u = record { acked = u.acked; first = u.first; acts = u.acts.items }
 abbrev pub up_text : UpValue → List ℕ
 up_text u = big_bytes 8 u.acked ++ (big_bytes 8 u.first ++ (big_bytes 2 (length u.acts) ++ acts_text u.acts))
 
--- what has a text: both numbers below 2^62, acts numbered from 1, at most 64 of them, each in its ranges
+-- an instruction that has a text: both numbers below 2^62, acts numbered from 1, at most 64 of them, each in its ranges
 pub record IsUp (u : UpValue) : Type 0 where
   pub acked : u.acked < number_limit
   pub first : (1 ≤ u.first) × (u.first < number_limit)
   pub count : length u.acts ≤ most_acts
   pub acts : All IsAct u.acts
 
--- what has a text that comes from a start that only watches, which has no acts, or from another one
+-- an instruction that has a text, from a read-only start, which has no acts, or from another one
 pub record IsUpOf (watches : Bool) (u : UpValue) : Type 0 where
   pub is : IsUp u
   pub none : watches ≡ true → u.acts ≡ []

@@ -3,12 +3,12 @@ use Rattle.std.specs.Prelude.{ℕ, Option, Some, None, ◌==◌, if◌then◌els
 use Rattle.roam_wire.specs.declared.versions.Version.{Version}
 use Rattle.roam_wire.specs.declared.versions.Version.TheVariants.{One, Two}
 
--- the byte that stands for a version
+-- the byte of a version
 abbrev pub number_of_version : Version → ℕ
 number_of_version One = 1
 number_of_version Two = 2
 
--- the version that a byte stands for
+-- the version of a byte
 abbrev pub version_numbered : ℕ → Option Version
 version_numbered n = if n == 1 then Some One else if n == 2 then Some Two else None
 

@@ -24,8 +24,8 @@ fn fragments_of(alloc: Global, text: &[u8]) -> Result<Vec<Vec<u8>>, AllocError>
     Ok(fragments)
 }
 
-/// The fragments in which a text is sent: 1,200 bytes each, and the rest; an empty text has none. `TooLong` exactly where there would be
-/// more than the version allows, 1,024 or 4,096, `OutOfMemory`.
+/// Returns the fragments in which a text is sent: 1,200 bytes each, and the rest; an empty text has none. `TooLong` exactly if there would
+/// be more than the version allows, 1,024 or 4,096, `OutOfMemory`.
 pub fn cut(alloc: Global, text: &[u8], version: Version) -> Result<Vec<Vec<u8>>, Fault>
     ensures fragments { IfOk result (λ fragments. texts_of fragments.items ≡ fragments_of text.now) }
     ensures joined { IfOk result (λ fragments. joined_fragments (texts_of fragments.items) ≡ text.now) }

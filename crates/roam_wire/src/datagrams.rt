@@ -23,7 +23,7 @@ pub enum Kind {
 }
 
 impl Kind {
-    // The byte that stands for this direction.
+    // Returns the byte of this direction.
     fn tag(self) -> u8
         ensures tag { result ≡ tag_of self }
     {
@@ -34,7 +34,7 @@ impl Kind {
         }
     }
 
-    // The direction that a byte stands for in a version.
+    // Returns the direction of a byte in a version.
     pub(crate) fn tagged(version: Version, tag: u8) -> Option<Kind>
         ensures kind { result ≡ kind_tagged version tag }
     {
@@ -81,9 +81,9 @@ pub struct Datagram {
 /// The datagram that the bytes spell. `BadDatagram` with the first reason of these: `Short` (fewer than 42 bytes), `Magic`, `Version`,
 /// `Kind`, `Length`, `Fragment`; `OutOfMemory`.
 pub fn read_datagram(alloc: Global, bytes: &[u8]) -> Result<Datagram, Fault>
-    // What is read has this text.
+    // The bytes read are this text.
     ensures found { IfOk result (λ d. IsDatagram (datagram_value d) × (bytes.now ≡ datagram_text (datagram_value d))) }
-    // What has this text is read.
+    // This text is read.
     ensures only { (d : DatagramValue) → IsDatagram d → bytes.now ≡ datagram_text d
         → MatchResult result (λ read. datagram_value read ≡ d) (λ e. e ≡ Fault.OutOfMemory) }
     // Which reason it is.

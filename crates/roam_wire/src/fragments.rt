@@ -34,7 +34,7 @@ fn empty_places(alloc: Global, count: usize) -> Result<Vec<Option<Vec<u8>>>, All
     Ok(places)
 }
 
-// What is there, one fragment after the other.
+// Returns the fragments that are there, joined in order.
 fn join(alloc: Global, places: &[Option<Vec<u8>>]) -> Result<Vec<u8>, AllocError>
     ensures text { IfOk result (λ text. text.items ≡ text_of (seen places.now)) }
 {
@@ -78,7 +78,7 @@ impl Fragments {
         self.places.as_slice().len()
     }
 
-    // Whether the fragment of this index is there.
+    // Returns true if the fragment of this index is there.
     pub(crate) fn has(&self, index: usize) -> bool
         requires place { index < length self.now }
         ensures there { result ≡ is_some (get_or self.now index None) }
@@ -86,14 +86,14 @@ impl Fragments {
         self.places[index].is_some()
     }
 
-    // Whether no fragment is missing.
+    // Returns true if no fragment is missing.
     pub(crate) fn is_whole(&self) -> bool
         ensures whole { result ≡ all_there self.now }
     {
         self.missing == 0
     }
 
-    // What is there, one fragment after the other.
+    // Returns the fragments that are there, joined in order.
     pub(crate) fn text(&self, alloc: Global) -> Result<Vec<u8>, AllocError>
         ensures text { IfOk result (λ text. text.items ≡ text_of self.now) }
     {

@@ -9,7 +9,7 @@ use std::alloc::{AllocError, Global};
 use std::marker::Model;
 use std::mem;
 
-/// What a fragment made of the instruction that is gathered.
+/// The effect of a fragment on the gathered instruction.
 #[derive(Debug, Drop)]
 pub enum Gathered {
     /// It is there now, and others are missing.
@@ -22,7 +22,7 @@ pub enum Gathered {
     Whole(Vec<u8>),
 }
 
-// What undoes the last fragment: a fragment is taken out again, or another instruction comes back.
+// The undo of the last fragment: a fragment is taken out again, or another instruction comes back.
 #[derive(Drop)]
 pub(crate) enum Undo {
     Nothing,
@@ -50,7 +50,7 @@ impl Model for Gatherer {
     ghost invariant = { λ g. IsSound g.fragments g.undo };
 }
 
-// What these fragments make.
+// Returns the result of these fragments.
 fn answer(alloc: Global, fragments: &Fragments) -> Result<Gathered, AllocError>
     ensures answer { IfOk result (λ a. answer_of a ≡ answer_in fragments.now) }
 {
@@ -61,7 +61,7 @@ fn answer(alloc: Global, fragments: &Fragments) -> Result<Gathered, AllocError>
     }
 }
 
-// Adds a fragment that is missing, and answers what the fragments make then; where memory runs out, they are as before.
+// Adds a missing fragment, and returns the result of the fragments then; if memory runs out, they are as before.
 fn added(
     alloc: Global,
     fragments: &mut Fragments,
@@ -85,7 +85,7 @@ fn added(
     }
 }
 
-// The fragments of a new instruction, of which one is there, and what they make.
+// Returns the fragments of a new instruction, one of which is there, and their result.
 fn begun(
     alloc: Global,
     count: usize,
@@ -118,14 +118,13 @@ impl Gatherer {
         }
     }
 
-    /// Takes the fragment that a datagram carries. In this order: `Old` for an id below the current one, and for a current one that is
-    /// whole; `BadDatagram(Fragment)` for an index that isn't below its count; a higher id begins anew; `BadDatagram(Fragment)` for
-    /// another count under the current id; `Old` for a fragment that is there. `OutOfMemory` comes after these. A refusal leaves the
-    /// gatherer as it was.
+    /// Takes the fragment of a datagram. In this order: `Old` for an id below the current one, and for a current one that is whole.
+    /// `BadDatagram(Fragment)` for an index that isn't below its count. A higher id begins anew. `BadDatagram(Fragment)` for another count
+    /// under the current id. `Old` for a fragment that is there. `OutOfMemory` comes after these. An error leaves the gatherer as it was.
     pub fn take(&mut self, alloc: Global, datagram: &Datagram) -> Result<Gathered, Fault>
         ensures answer { IfOk result (λ a. gather self.old.current (fragment_of (datagram_value datagram.now))
             ≡ Some (answer_of a, self.new.current)) }
-        // What `untake` gives back.
+        // The state that `untake` restores.
         ensures before { OnOk result (self.new.before ≡ Some self.old.current) }
         ensures bad { IsErrOf result (Fault.BadDatagram Fragment)
             ↔ (gather self.old.current (fragment_of (datagram_value datagram.now)) ≡ None) }

@@ -9,7 +9,7 @@ use byteorder::{BigEndian, ByteOrder};
 use roam_acts::limits::NUMBER_LIMIT;
 use roam_cells::Reason;
 
-// The two letters that stand first, RM.
+// The two letters at the front, RM.
 pub(crate) const MAGIC: u16 = 0x524D;
 
 // How many bytes a header has.
@@ -85,7 +85,7 @@ impl Header {
         }
     }
 
-    // The version and the direction that the header tells before this many bytes, or the first fault.
+    // Returns the version and the direction of the header before this many bytes, or the first fault.
     pub(crate) fn check(&self, rest: usize) -> Result<(Version, Kind), Reason>
         ensures checked { result ≡ checked_header self.now rest }
     {

@@ -10,10 +10,10 @@ use roam_acts::{Act, read_acts, write_acts};
 use roam_cells::{Fault, Reason};
 use std::alloc::Global;
 
-// How many bytes stand before a change.
+// The number of bytes before a change.
 const DOWN: usize = 32;
 
-// How many bytes stand before the acts.
+// The number of bytes before the acts.
 const UP: usize = 18;
 
 /// An instruction to a client: how its screen changes, and which of its acts were taken. Each number is below 2^62.
@@ -35,10 +35,10 @@ pub struct Down {
     pub change: Vec<u8>,
 }
 
-/// An instruction to the server: which screen the client holds, and what was typed.
+/// An instruction to the server: the screen that the client has, and the acts that were typed.
 #[derive(Debug, Drop)]
 pub struct Up {
-    /// The number of the newest screen that the client holds, below 2^62.
+    /// The number of the newest screen that the client has, below 2^62.
     pub acked: u64,
 
     /// The number of the first act, from 1 and below 2^62.
@@ -51,9 +51,9 @@ pub struct Up {
 /// The instruction to a client that the bytes spell. `BadDatagram(Short)` for fewer than 32 bytes, `BadDatagram(Length)` for others
 /// that spell none; `OutOfMemory` only for bytes that spell one.
 pub fn read_down(alloc: Global, bytes: &[u8]) -> Result<Down, Fault>
-    // What is read has this text.
+    // The bytes read are this text.
     ensures found { IfOk result (λ d. IsDown (down_value d) × (bytes.now ≡ down_text (down_value d))) }
-    // What has this text is read.
+    // This text is read.
     ensures only { (d : DownValue) → IsDown d → bytes.now ≡ down_text d
         → MatchResult result (λ read. down_value read ≡ d) (λ e. e ≡ Fault.OutOfMemory) }
     ensures fault { IfErr result (λ e. (e ≡ Fault.OutOfMemory) ⊎ (e ≡ Fault.BadDatagram (reason_for 32 bytes.now))) }
@@ -95,13 +95,13 @@ pub fn write_down(alloc: Global, down: &Down) -> Result<Vec<u8>, Fault>
     Ok(text)
 }
 
-/// The instruction to the server that the bytes spell. `BadDatagram(Short)` for fewer than 18 bytes, `BadDatagram(Length)` for others
-/// that spell none, and for acts of a start that only watches; `OutOfMemory` only where acts are to be read.
+/// Returns the instruction to the server that the bytes spell. `BadDatagram(Short)` for fewer than 18 bytes, `BadDatagram(Length)` for
+/// others that spell none, and for acts of a read-only start; `OutOfMemory` only if there are acts to read.
 pub fn read_up(alloc: Global, bytes: &[u8], watches: bool) -> Result<Up, Fault>
-    // What is read has this text.
+    // The bytes read are this text.
     ensures found { IfOk result (λ u. IsUpOf watches (up_value u) × (bytes.now ≡ up_text (up_value u))) }
     ensures in_range { IfOk result (λ u. All IsInRange u.acts.items) }
-    // What has this text is read.
+    // This text is read.
     ensures only { (u : UpValue) → IsUpOf watches u → bytes.now ≡ up_text u
         → MatchResult result (λ read. up_value read ≡ u) (λ e. e ≡ Fault.OutOfMemory) }
     ensures fault { IfErr result (λ e. (e ≡ Fault.OutOfMemory) ⊎ (e ≡ Fault.BadDatagram (reason_for 18 bytes.now))) }

@@ -1,4 +1,4 @@
-//! What holds of the grammars and of gathering alone, whatever calls were made.
+//! Laws of the grammars and of gathering alone, whatever calls were made.
 ghost use Rattle.std.specs.Prelude.{◌≡◌, ℕ, List, [], ◌∷◌, Some};
 ghost use Rattle.roam_wire.specs.AnyOrder.{answer_to, AreFragmentsOf, gathered_of, GathersOf, GathersWell, IsFragmentOf};
 ghost use Rattle.roam_wire.specs.Cutting.{joined_fragments, fragments_of};
@@ -26,17 +26,18 @@ pub fn fragments_join()
     ensures joined { (text : List ℕ) → joined_fragments (fragments_of text) ≡ text }
 {}
 
-/// What a gatherer holds was cut under one id, whichever fragments arrive, how often and in which order; no fragment that was cut is
-/// refused, and what comes whole under an id is what was cut under it. `cuts` gives the fragments of each id; ids begin at 1.
+/// The fragments of a gatherer were cut under one id, whichever arrive, how often and in which order. No fragment that was cut is refused,
+/// and a whole text under an id is the one that was cut under it. `cuts` gives the fragments of each id; ids begin at 1.
 pub fn whole_is_what_was_cut()
     ensures nothing { (cuts : ℕ → List (List ℕ)) → cuts 0 ≡ [] → GathersOf cuts nothing }
     ensures whole { (cuts : ℕ → List (List ℕ)) (g : Gathering) (p : FragmentValue) → GathersOf cuts g → IsFragmentOf cuts p
         → GathersWell cuts g p (gather g p) }
 {}
 
-/// What a new gatherer answers to any fragments that were cut, in any order with repeats: `Whole` exactly when the last missing fragment of
-/// an id comes and no higher id came before, with what was cut under it; `Old` to what changes nothing; else `Part`. `ps` are the
-/// fragments before `p`, the latest first. Fragments of other ids never enter. `cuts` gives the fragments of each id; ids begin at 1.
+/// The results of a new gatherer for any fragments that were cut, in any order with repeats. `Whole` exactly when the last missing fragment
+/// of an id comes and no higher id came before, with the text that was cut under it. `Old` for a fragment that changes nothing; else
+/// `Part`. `ps` are the fragments before `p`, the latest first. Fragments of other ids never enter. `cuts` gives the fragments of each id;
+/// ids begin at 1.
 pub fn any_order_gathers()
     ensures answers { (cuts : ℕ → List (List ℕ)) → cuts 0 ≡ [] → (p : FragmentValue) (ps : List FragmentValue)
         → AreFragmentsOf cuts (p ∷ ps) → gather (gathered_of ps) p ≡ Some (answer_to cuts ps p, gathered_of (p ∷ ps)) }

@@ -15,7 +15,7 @@ pub enum Version {
 }
 
 impl Version {
-    // The byte that stands for this version.
+    // Returns the byte of this version.
     pub(crate) fn number(self) -> u8
         ensures number { result ≡ number_of_version self }
     {
@@ -25,7 +25,7 @@ impl Version {
         }
     }
 
-    // The version that a byte stands for.
+    // Returns the version of a byte.
     pub(crate) fn numbered(number: u8) -> Option<Version>
         ensures version { result ≡ version_numbered number }
     {

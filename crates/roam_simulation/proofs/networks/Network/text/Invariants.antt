@@ -6,7 +6,7 @@ use Rattle.roam_simulation.proofs.networks.Network.text.Given as goal
 abbrev pub decreases-loop-at : goal.decreases-loop-at
 decreases-loop-at l = l.at
 
--- the number stands among the batches before this place
+-- the number is among the batches before this place
 abbrev pub invariant-loop-at : goal.invariant-loop-at
 invariant-loop-at l =
     record {
