@@ -1,4 +1,4 @@
--- How long what is typed takes to be shown, and what that means for predictions (this project's profile, after Mosh's adaptive display).
+-- The time until typed keys are shown, and its effect on predictions (this project's profile, after Mosh's adaptive display).
 use Rattle.std.specs.Prelude.{◌≡◌, ℕ, zero, suc, ◌+◌, ◌-◌, ◌≤◌, Bool, false, not, ◌&&◌, ◌||◌, nat_lt, nat_le, max, List, [], ◌∷◌, ◌++◌, length, drop, Option, None, Some, Vec, if◌then◌else◌}
 use Rattle.std.specs.Vec.{vec_capacity}
 use Rattle.std.specs.declared.alloc.Global.{Global}
@@ -18,7 +18,7 @@ pub record DelaysOf : Type 0 where
 abbrev pub no_delay : DelaysOf
 no_delay = record { last = []; slow = false }
 
--- what is true of the delays that are kept
+-- the facts about the kept delays
 pub record AreKept (last : Vec ℕ Global) : Type 0 where
   pub few : length last.items ≤ most_kept
   pub room : most_kept ≤ vec_capacity last
@@ -36,7 +36,7 @@ are_most_above last limit = nat_le 6 (count_above last limit)
 abbrev pub are_most_within : List ℕ → ℕ → Bool
 are_most_within last limit = nat_le 6 (length last - count_above last limit)
 
--- predictions are shown where the median is above 10 ms, and on until it is below 5 ms
+-- predictions are shown if the median is above 10 ms, and until it is below 5 ms
 abbrev pub is_slow : List ℕ → Bool → Bool
 is_slow last was = are_most_above last 10 || (was && not (are_most_within last 4))
 
@@ -45,7 +45,7 @@ abbrev pub waits_long : Option ℕ → Bool
 waits_long None = false
 waits_long (Some waited) = nat_le 250 waited
 
--- predicted cells are underlined where the median is above 80 ms, or one has waited for 250 ms
+-- predicted cells are underlined if the median is above 80 ms, or one has waited for 250 ms
 abbrev pub is_long : List ℕ → List Prediction → ℕ → Bool
 is_long last predictions now = are_most_above last 80 || waits_long (waited_in now predictions 0)
 

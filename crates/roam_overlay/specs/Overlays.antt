@@ -1,4 +1,4 @@
--- What is predicted of an outer terminal: the fold of what is typed and of the screens that are noted of it, one after the other.
+-- The predictions of an outer terminal: the fold of the keys typed and of the screens noted of it, one after the other.
 use Rattle.std.specs.Prelude.{◌≡◌, ℕ, ◌+◌, ◌-◌, ◌^◌, ◌==◌, ◌||◌, ◌&&◌, not, min, nat_lt, Bool, true, false, List, [], ◌∷◌, length, Option, Some, None, if◌then◌else◌}
 use Rattle.std.specs.List.{fold}
 use Rattle.roam_acts.specs.declared.acts.Act.{Act}
@@ -16,19 +16,19 @@ pub record JudgedOf : Type 0 where
   pub number : ℕ
   pub screen : Screenshot
 
--- the predictions, whether they are shown where what is typed takes long alone, how long it takes, and the screen of the last judgement
+-- the predictions, whether they are shown on slow links only, the delays, and the screen of the last judgement
 pub record OverlayOf : Type 0 where
   pub predictions : PredictionsOf
   pub adaptive : Bool
   pub delays : DelaysOf
   pub seen : Option JudgedOf
 
--- the screen of the last judgement, or another where there was none
+-- the screen of the last judgement, or another if there was none
 abbrev pub screen_or : Option JudgedOf → Screenshot → Screenshot
 screen_or None s = s
 screen_or (Some judged) s = judged.screen
 
--- ---- what is typed
+-- ---- typed acts
 
 -- a line of more acts isn't predicted
 abbrev pub most_predicted : ℕ
@@ -46,12 +46,12 @@ typed_steps first (act ∷ acts) s = Typed first act s ∷ typed_steps (next_num
 abbrev pub last_number : ℕ → ℕ → ℕ
 last_number first count = min (first + count) (2 ^ 64 - 1) - 1
 
--- the acts of a line are typed: what was pasted, and a line of more than eight acts, isn't predicted, and ends the epoch
+-- the acts of a line are typed: a paste, and a line of more than eight acts, isn't predicted, and ends the epoch
 abbrev pub line_steps : Bool → ℕ → List Act → Screenshot → List Step
 line_steps pasted first acts s =
     if pasted || nat_lt most_predicted (length acts) then Passed (last_number first (length acts)) ∷ [] else typed_steps first acts s
 
--- ---- what is seen
+-- ---- seen screens
 
 -- a screen is judged by after another one: it follows that one, or it doesn't
 pub data Sees (before s : Screenshot) (moment : Moment) (predictions : PredictionsOf) (step : Step) : Type 0 where
@@ -63,8 +63,8 @@ abbrev pub is_number : ℕ → Option JudgedOf → Bool
 is_number number None = false
 is_number number (Some judged) = judged.number == number
 
--- A screen of a number is seen after that of the last judgement, and is that of the last from then on, if it isn't already. Where there is
--- no memory to keep it nothing is judged by it, and all predictions end.
+-- A screen of a number is seen after that of the last judgement, and is that of the last from then on, if it isn't already. If there is no
+-- memory to keep it nothing is judged by it, and all predictions end.
 pub data Keeps (number : ℕ) (s : Screenshot) (moment : Moment) (predictions : PredictionsOf) (step : Step) (old new : Option JudgedOf)
     : Type 0 where
   already : is_number number old ≡ true → Sees (screen_or old s) s moment predictions step → new ≡ old
@@ -83,13 +83,13 @@ pub record Judges (number : ℕ) (s : Screenshot) (acknowledged now : ℕ) (old 
       old.seen new.seen
   pub predictions : new.predictions ≡ after old.predictions step
 
--- ---- what is shown
+-- ---- shown predictions
 
--- whether what is predicted is shown
+-- true if predictions are shown
 abbrev pub is_shown : OverlayOf → Bool
 is_shown o = are_shown o.predictions && (not o.adaptive || o.delays.slow)
 
--- a screen with what is predicted over it at a moment, underlined where it comes late
+-- a screen with the predictions over it at a moment, underlined on a slow link
 abbrev pub laid_over : OverlayOf → Screenshot → ℕ → Screenshot
 laid_over o s now =
     if is_long o.delays.last o.predictions.list now then overlay (underlined o.predictions) s else overlay o.predictions s

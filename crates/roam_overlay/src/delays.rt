@@ -1,4 +1,4 @@
-//! How long what is typed takes to be shown, by the last ten predictions that were right.
+//! The time until typed keys are shown, by the last ten predictions that were right.
 ghost use Rattle.std.specs.Prelude.{◌≡◌, ◌+◌, ◌^◌, ◌<◌, ◌≤◌, ◌++◌, ◌∷◌, [], IfOk, IsOkUnless, length};
 ghost use Rattle.std.specs.Vec.{vec_capacity};
 ghost use Rattle.roam_overlay.specs.Delays.{AreKept, after_right, are_most_above, are_most_within, count_above, is_long, is_slow, longest, no_delay, waits_long, with_delay, with_right, with_waited};
@@ -23,7 +23,7 @@ const FAST: u64 = 4;
 /// Where most are above so many, predicted cells are underlined.
 const LONG: u64 = 80;
 
-/// So they are where one waits so many milliseconds to be shown.
+/// They are underlined if one waits so many milliseconds to be shown.
 const LONGEST: u64 = 250;
 
 /// How long the last predictions that were right had waited, and whether that is slow.
@@ -55,28 +55,28 @@ fn count_above(delays: &[u64], limit: u64) -> usize
     if delays[0] > limit { 1 + more } else { more }
 }
 
-// Whether most of the last delays are above a limit.
+// Returns true if most of the last delays are above a limit.
 fn are_most_above(last: &[u64], limit: u64) -> bool
     ensures above { result ≡ are_most_above last.now limit }
 {
     count_above(last, limit) >= MOST
 }
 
-// Whether most of the last delays are within a limit.
+// Returns true if most of the last delays are within a limit.
 fn are_most_within(last: &[u64], limit: u64) -> bool
     ensures within { result ≡ are_most_within last.now limit }
 {
     last.len() - count_above(last, limit) >= MOST
 }
 
-// Whether it is slow after these delays, where it was or wasn't before.
+// Returns true if the link is slow after these delays, by whether it was before.
 fn is_slow(last: &[u64], was_slow: bool) -> bool
     ensures slow { result ≡ is_slow last.now was_slow }
 {
     are_most_above(last, SLOW) || (was_slow && !are_most_within(last, FAST))
 }
 
-// Whether a prediction that has waited so long, where there is one, waits long.
+// Returns true if a prediction, if there is one, has waited for long.
 fn waits_long(waited: Option<u64>) -> bool
     ensures long { result ≡ waits_long waited }
 {
@@ -109,7 +109,7 @@ fn push_delay(last: &mut Vec<u64>, delay: u64)
     let _ = last.extend_from_slice(&[delay]);
 }
 
-// Adds how long a prediction had waited, where there is one.
+// Adds the time that a prediction had waited, if there is one.
 fn push_waited(last: &mut Vec<u64>, waited: Option<u64>)
     requires kept { AreKept last.old }
     ensures pushed { last.new.items ≡ with_waited waited last.old.items }
@@ -161,14 +161,14 @@ impl Delays {
         longest(&self.last)
     }
 
-    /// Whether what is typed takes long enough to be shown that predictions are.
+    /// Returns true if keys take long enough to be shown that predictions are.
     pub(crate) fn is_slow(&self) -> bool
         ensures slow { result ≡ self.now.slow }
     {
         self.slow
     }
 
-    /// Whether it takes so long at a moment that predicted cells are underlined.
+    /// Returns true if they take so long at a moment that predicted cells are underlined.
     pub(crate) fn is_long(&self, predictions: &Predictions, now: u64) -> bool
         ensures long { result ≡ is_long self.now.last predictions.now.list now }
     {

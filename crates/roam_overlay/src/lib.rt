@@ -1,4 +1,4 @@
-//! What the keys of an outer terminal are predicted to show, over the screens that are noted of it, and when that is shown.
+//! The predictions of the keys of an outer terminal, over the screens noted of it, and the decision when to show them.
 #![tactic(auto)]
 
 mod delays;

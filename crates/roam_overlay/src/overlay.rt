@@ -1,4 +1,4 @@
-//! What the keys of an outer terminal are predicted to show, over the screen that is noted of it.
+//! The predictions of the keys of an outer terminal, over the screen noted of it.
 ghost use Rattle.std.specs.Prelude.{◌≡◌, IfOk, IfSome, IsOkUnless, length, true, false, None};
 ghost use Rattle.std.specs.List.{fold};
 ghost use Rattle.roam_prediction.specs.Predictions.{none};
@@ -50,7 +50,7 @@ impl Model for Overlay {
     ghost view = { λ o. record { predictions = o.predictions; adaptive = o.adaptive; delays = o.delays; seen = o.seen } };
 }
 
-// Hands acts to predictions, from a number on, where a screen is shown.
+// Passes acts to predictions, from a number on, over the shown screen.
 fn type_each<S: Seen>(predictions: &mut Predictions, first: u64, acts: &[Act], shown: &S)
     ensures typed { predictions.new ≡ fold after predictions.old (typed_steps first acts.now (S.screen shown.now)) }
 {
@@ -68,7 +68,7 @@ fn last_number(first: u64, count: usize) -> u64
     first.saturating_add(count as u64).saturating_sub(1)
 }
 
-// Hands the acts of a line to predictions where a screen is shown; what was pasted, and more than eight acts, isn't predicted.
+// Passes the acts of a line to predictions over the shown screen; a paste, and more than eight acts, isn't predicted.
 fn type_line<S: Seen>(
     predictions: &mut Predictions,
     is_pasted: bool,
@@ -85,7 +85,7 @@ fn type_line<S: Seen>(
     }
 }
 
-// The same where predictions were judged by a screen, or over the one that is shown.
+// Does the same over the screen of the last judgement, or over the one that is shown.
 fn type_over<S: Seen>(
     predictions: &mut Predictions,
     seen: &Option<Judged>,
@@ -114,7 +114,7 @@ fn judge(predictions: &mut Predictions, seen: &Option<Judged>, screen: &Shown<'_
     }
 }
 
-// Whether the screen of the last judgement has a number.
+// Returns true if the screen of the last judgement has a number.
 fn is_number(seen: &Option<Judged>, number: u64) -> bool
     ensures number { result ≡ is_number number seen.now }
 {
@@ -134,7 +134,7 @@ fn copy_of(alloc: Global, screen: &Shown<'_>) -> Result<RowShot, Fault>
     }
 }
 
-// Judges predictions by a screen, and keeps it as that of the last judgement; where there is no memory for that all predictions end.
+// Judges predictions by a screen, and keeps it as that of the last judgement; if there is no memory for that all predictions end.
 fn see(
     alloc: Global,
     predictions: &mut Predictions,
@@ -162,7 +162,7 @@ fn see(
 }
 
 impl Overlay {
-    /// No prediction; they are shown always, or where what is typed takes long to be shown. Refuses want of memory.
+    /// Returns an overlay without predictions; they are shown always, or on slow links only. `OutOfMemory`.
     pub fn new(alloc: Global, adaptive: bool) -> Result<Overlay, Fault>
         ensures none { IfOk result (λ o. o ≡ record { predictions = none; adaptive = adaptive; delays = no_delay; seen = None }) }
         ensures fault { IsOkUnless result Fault.OutOfMemory }
@@ -182,9 +182,8 @@ impl Overlay {
         self.predictions.len()
     }
 
-    /// The acts of a line were typed, the first under a number: what they show is predicted over the screen by which predictions were
-    /// judged last, or over the one that is shown where none was. What was pasted, and a line of more than eight acts, isn't predicted, and
-    /// the epoch ends with it. It takes no memory.
+    /// Predicts the acts of a line, the first under a number, over the screen of the last judgement, or over the one that is shown if there
+    /// was none. A paste, and a line of more than eight acts, isn't predicted, and ends the epoch. It takes no memory.
     pub fn typed<S: Seen>(&mut self, is_pasted: bool, first: u64, acts: &[Act], shown: &S)
         ensures typed { self.new ≡ record self.old {
           predictions =
@@ -201,8 +200,8 @@ impl Overlay {
         );
     }
 
-    /// A screen of a number is noted at a moment in milliseconds, and so many acts are acknowledged: the predictions are judged by it.
-    /// Where there is no memory to keep it, all predictions end, since no later screen could be told to follow it.
+    /// Judges the predictions by a screen of a number that is noted at a moment in milliseconds, with so many acts acknowledged. If there
+    /// is no memory to keep it, all predictions end, since no later screen would be known to follow it.
     pub fn judge(
         &mut self,
         alloc: Global,
@@ -230,14 +229,14 @@ impl Overlay {
         );
     }
 
-    // Whether what is predicted is shown.
+    // Returns true if predictions are shown.
     fn is_shown(&self) -> bool
         ensures shown { result ≡ is_shown self.now }
     {
         self.predictions.are_shown() && (!self.adaptive || self.delays.is_slow())
     }
 
-    /// A screen with what is predicted over it at a moment; none where nothing is shown, or no memory is there.
+    /// Returns a screen with the predictions over it at a moment; `None` if nothing is shown, or there is no memory.
     pub fn over(&self, alloc: Global, screen: &Shown<'_>, now: u64) -> Option<RowShot>
         ensures over { IfSome result (λ over. over ≡ laid_over self.now (shown_by screen.now) now) }
         ensures shown { IfSome result (λ _. is_shown self.now ≡ true) }

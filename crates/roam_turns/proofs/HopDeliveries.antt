@@ -41,7 +41,7 @@ use Rattle.roam_turns.proofs.HopTick.{told, IsOf}
 
 -- ---- whatever was gathered before was cut somehow
 
--- a fragment for each place, an empty one where none came
+-- a fragment for each place, an empty one if none came
 abbrev pub filled : List (Option (List ℕ)) → List (List ℕ)
 filled [] = []
 filled (None ∷ ps) = [] ∷ filled ps
@@ -82,7 +82,7 @@ finish cuts n g (p ∷ ps) all of lt some each = all_gathered_anew cuts n g p ps
 
 module _ (session id n : ℕ) (c : Client) (r : Record) (shot : Screenshot) (ready : IsReady n r c) (is_seen : IsSeenBy r.version shot)
     (down : IsDown (told r n shot)) where
-  -- the start, with what is kept of it
+  -- the start with its kept part
   abbrev start_with : Kept → ClientView
   start_with x = record { session = session; id = id; kept = x }
 
@@ -121,7 +121,7 @@ module _ (session id n : ℕ) (c : Client) (r : Record) (shot : Screenshot) (rea
       let at : cuts d.id ≡ fragments = ap cuts o.number_is ∙ cuts_here in
       record { count = o.count_is ∙ ap length (sym at); there = ap (λ (xs : List (List ℕ)). slice_get xs d.index) at ∙ o.there }
 
-  -- ---- what a start is before and after it is whole
+  -- ---- a start before and after its instruction is whole
 
   abbrev is_whole : Gathering → Bool
   is_whole g = nat_eq g.id (length r.instructions + 1) && all_there g.fragments
@@ -139,7 +139,7 @@ module _ (session id n : ℕ) (c : Client) (r : Record) (shot : Screenshot) (rea
     of : GathersOf cuts x.gathering
     shows : Early x ⊎ Late x
 
-  -- what a fragment leaves: the gatherer h, and where it came whole the instruction's text
+  -- the effect of a fragment: the gatherer h, and if it came whole the instruction's text
   abbrev Leaves : Gathering → Gathering → Arrival Hearing → Type 0
   Leaves old h (turned_away f) = ⊥
   Leaves old h (noted how g) = (g ≡ h) × (is_whole old ≡ false → is_whole g ≡ false)

@@ -1,4 +1,4 @@
--- What a tick that offers its number to a start sends to it.
+-- The datagrams of a tick that offers its number to a start.
 use Rattle.std.proofs.Common.{◌≡◌, ℕ, zero, suc, ◌+◌, ◌-◌, ◌<◌, ◌≤◌, ◌^◌, Bool, true, false, ◌&&◌, ◌||◌, not, cond, List, [], ◌∷◌, ◌++◌, length, map, get_or, take, Option, Some, None, Vec, refl, sym, ap, ◌∙◌, subst, inl, inr, arith}
 use Rattle.std.specs.Prelude.{nat_eq, nat_lt, nat_le, slice_get, Result, Ok, Err}
 use Rattle.std.specs.List.{list_any, enumerate_from}
@@ -95,7 +95,7 @@ told_well parcels = Ok parcels
 ok_is : (a b : List Parcel) → told_well a ≡ told_well b → a ≡ b
 ok_is a b e = cc
 
--- the parcels are the texts of what is sent
+-- the parcels are the texts of the datagrams
 pub texts_sent : (s : Server) (now : ℕ) (result : Result (Vec (Addr × Vec ℕ Global) Global) Fault) (new : ServerView)
     (parcels : List Parcel) → parcels_of result ≡ Ok parcels → Ticks s now result new
     → (is_number_spent s (moment s now) ≡ false)
@@ -142,13 +142,13 @@ smallest_is id lt =
       whole = λ more. absurd (omega (arith, more));
     }
 
--- whatever else a datagram says, its id stands at the same place
+-- whatever else a datagram contains, its id is at the same place
 tells_client : (d : DatagramValue) → d.client < 2 ^ 64 → (header_at (datagram_text d)).client ≡ d.client
 tells_client d lt =
     let text = datagram_text (smallest d.client) in
     client_of text (0 ∷ []) (checked_header (header_at text) 1) (smallest d.client) (again (smallest d.client) (smallest_is d.client lt))
 
--- of what a tick sends, a text that tells a start's id is that of a datagram to the start
+-- of a tick's datagrams, a text with a start's id is that of a datagram to the start
 pub of_start : (s : Server) (m id : ℕ) (bytes : List ℕ) → ((j : ℕ) → IsIn j s.arrival → j < 2 ^ 64)
     → IsIn bytes (map (λ (p : WorldParcel). datagram_text p.datagram) (sent_by s m)) → (header_at bytes).client ≡ id
     → (d : DatagramValue) × IsIn d (datagrams_to s.session id (s.records id) (number_after s m) (screen_to s m id) m)
@@ -182,7 +182,7 @@ is_to d id client lt = tells_client d (subst (λ (k : ℕ). k < 2 ^ 64) (sym cli
 
 -- ---- a record to which a number is offered
 
--- what it is told: the change from its base to the number's screen
+-- its instruction: the change from its base to the number's screen
 abbrev pub told : Record → ℕ → Screenshot → DownValue
 told r n shot =
     record {
@@ -229,7 +229,7 @@ module _ (r : Record) (n : ℕ) (shot : Screenshot) (now : ℕ) (e : is_offered 
         change = difference_by r.version r.sender.base.state h.state;
       }) newest_then
 
-  -- its datagrams are those of what it is told
+  -- its datagrams are those of its instruction
   pub datagrams_then : (session id : ℕ) → datagrams_to session id r n shot now
       ≡ datagrams_of r.version ToClient session id r.datagrams (length r.instructions + 1) (fragments_of (down_text (told r n shot)))
   datagrams_then session id =
@@ -267,7 +267,7 @@ is_of version session id before number fragments d i =
       there = ap (slice_get fragments) at ∙ n.2;
     })
 
--- each has a text, where the numbers are within their limits
+-- each has a text, if the numbers are within their limits
 pub are_datagrams : (v : Version) (session id before number : ℕ) (text : List ℕ) (d : DatagramValue) → session < 2 ^ 64 → id < 2 ^ 64
     → 1 ≤ number → number < 2 ^ 62 → before + length (fragments_of text) < 2 ^ 62 → length text ≤ most_bytes v
     → IsIn d (datagrams_of v ToClient session id before number (fragments_of text)) → IsDatagram d
@@ -331,7 +331,7 @@ module _ (s : Server) (m id : ℕ) (makes_it : makes s m ≡ true) (unspent : is
       (tells_then (s.records id) (number_after s m) (screen_to s m id) m e)
       (not_past _ (or_right (is_spent (length (s.records id).instructions + 1)) _ record_unspent))
 
-  -- what the start is told has a text
+  -- the instruction to the start has a text
   pub told_down : (s.records id).sender.base.number ≤ number_after s m
       → IsDown (told (s.records id) (number_after s m) (screen_to s m id))
   told_down low = record { floor = omega arith; old = low; new = number_low; acked = acked_low }

@@ -1,4 +1,4 @@
--- What a turn shows leads the outer terminal from what was noted to what is noted then.
+-- The text that a turn shows leads the outer terminal from the noted screen to the one that is noted then.
 use Rattle.std.proofs.Common.{◌≡◌, ℕ, zero, suc, List, [], ◌∷◌, ◌++◌, map, append-nil, append_assoc, Bool, Option, Some, None, refl, sym, ap, ◌∙◌, subst, inl, inr, arith}
 use Rattle.std.proofs.KnownBytes.{Appends-nil, Appends-kept}
 use Rattle.std.proofs.lemmas.List.{map-append}
@@ -18,7 +18,7 @@ use Rattle.roam_turns.specs.Parts.Call.{Port, Core}
 use Rattle.roam_turns.specs.Turns.{Sends, Types, IsToClient, Paints, ClientTicks, AttachTurn, shown_in}
 use Rattle.roam_turns.specs.Turns.Paints.{already, no_memory, shown, failed}
 
--- ---- what is shown in a turn
+-- ---- the text shown in a turn
 
 pub shown_both : {C : Type 0} (xs ys : List (Call C)) → shown_in (xs ++ ys) ≡ shown_in xs ++ shown_in ys
 shown_both [] ys = refl
@@ -55,9 +55,9 @@ sends_quiet (parcel ∷ parcels) sent h =
 ticks_quiet : (now : ℕ) (to : Addr) (xs : List (Call ClientCall)) → ClientTicks now to xs → shown_in xs ≡ []
 ticks_quiet now to xs h = ap shown_in h.2 ∙ sends_quiet _ h.1 h.3
 
--- ---- what it makes of a terminal
+-- ---- its effect on a terminal
 
--- what is noted under the start's number is the start's screen
+-- the screen noted under the start's number is the start's screen
 pub shows_noted : (outer outer' : Option Noted) (bytes : List ℕ) (n : ℕ) (s : Screenshot) → Leads outer bytes outer' → IsBehind outer' n s
     → IsNoted n outer' → Shows outer bytes s
 shows_noted outer None bytes n s leads behind is = absurd is
@@ -124,7 +124,7 @@ module _ (painted_leads : PaintedLeadsOver) (opened_begins : OpenedBeginsBlank) 
       ∙ (ap (λ l. shown_in painting.before ++ l) d ∙ append-nil (shown_in painting.before)))))))))) in
       subst (λ l. Leads outer l outer') (sym all) (paints_leads n s outer outer' painting.before is painting.first)
 
--- ---- what is written before and after it
+-- ---- the text written before and after it
 
 keeps_before : (a b c : Option (List ℕ)) (bs : List ℕ) → Keeps a b → Appends b c bs → Appends a c bs
 keeps_before None b c bs h k = tt
@@ -132,7 +132,7 @@ keeps_before (Some x) None c bs h k = absurd h
 keeps_before (Some x) (Some y) None bs h k = absurd k
 keeps_before (Some x) (Some y) (Some z) bs h k = k ∙ ap (λ l. l ++ bs) h
 
--- what is written neither before nor after leaves it
+-- text written neither before nor after leaves it
 pub led_within : (outer outer' : Option Noted) (a b c d : Option (List ℕ)) → Keeps a b → Led outer b outer' c → Keeps c d
     → Led outer a outer' d
 led_within outer None a b c d before led later = tt

@@ -1,4 +1,4 @@
--- What can't be written down for want of memory.
+-- Calls that can't be recorded for want of memory.
 use Rattle.std.proofs.Common.{◌≡◌, true, List, Result, Ok, Err}
 use Rattle.std.specs.Prelude.{OnErr, is_err, is_ok, if◌then◌else◌}
 

@@ -6,7 +6,7 @@ use Rattle.roam_turns.specs.Calls.PortCall.{NothingReceived}
 use Rattle.roam_turns.specs.Parts.{Call, port_calls, core_calls, Then, Each, Receives, ReceivesUpTo, Makes}
 use Rattle.roam_turns.specs.Parts.Call.{Port, Core}
 
--- ---- what is told
+-- ---- the recorded calls
 
 pub tells_none : {C : Type 0} (a : Option (List C)) → Tells a a []
 tells_none None = tt

@@ -20,7 +20,7 @@ moving_shows noted s text leads rows cols lines log ready fits =
     let led = leads rows cols lines log ready fits.rows_fit fits.cols_fit in
     record { displays = led.displays; size = led.size }
 
--- where nothing is noted the terminal is opened first
+-- if nothing is noted the terminal is opened first
 pub opened_shows : OpenedBeginsBlank → (s : Screenshot) (text : List ℕ) → LeadsTo (blank_screenshot s.rows s.cols) s text
     → ShowsSized None (blanking_text ++ text) s
 opened_shows opened_begins s text leads rows cols lines log ready fits =
@@ -45,7 +45,7 @@ text_shows opened_begins paint_leads outer s (Ok made) is none text =
     subst (λ l. ShowsSized outer l s) (sym text)
     (subst (λ o. ShowsSized o (text_for o s) s) (sym none) shows)
 
--- it leads to what is noted then
+-- it leads to the screen that is noted then
 pub shown_leads : (outer outer' : Option Noted) (n : ℕ) (s : Screenshot) (text : List ℕ) → ShowsSized outer text s
     → outer' ≡ Some (record { number = n; screen = s }) → LeadsSized outer text outer'
 shown_leads outer outer' n s text shows now = subst (LeadsSized outer text) (sym now) shows

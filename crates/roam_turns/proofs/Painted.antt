@@ -1,4 +1,4 @@
--- What was painted, and what the outer terminal shows then.
+-- The paintings, and the screen of the outer terminal then.
 use Rattle.std.proofs.Common.{◌≡◌, ℕ, List, [], ◌∷◌, Bool, true, false, Option, Some, None, sym, ap, ◌∙◌, subst}
 use Rattle.roam_screens.specs.Screenshot.{Screenshot}
 use Rattle.roam_turns.specs.declared.outer.Noted.{Noted}
@@ -30,7 +30,7 @@ module _ (n n' : ℕ) (s s' : Screenshot) (outer outer' : Option Noted) (text by
   pub paints_failed : outer' ≡ None → (xs : List (Call ClientCall)) → xs ≡ Port (Showed bytes false) ∷ [] → Paints n s outer outer' xs
   paints_failed now xs e = failed paint_not (paint_call false xs e) now
 
--- ---- where what the start shows rises
+-- ---- the case that the number shown by the start rises
 
 pub paints_at : (n n' : ℕ) (s s' : Screenshot) (outer outer' : Option Noted) → n ≡ n' → s ≡ s' → (xs : List (Call ClientCall))
     → Paints n s outer outer' xs → Paints n' s' outer outer' xs

@@ -14,7 +14,7 @@ sends_more (l ∷ parcels) calls parcel went h = (
   sends_more parcels h.1 parcel went h.3,
 )
 
--- where none are left, all were sent
+-- if none are left, all were sent
 pub all_sent : {X : Type 0} → (sent rest all : List X) → length rest ≡ 0 → sent ++ rest ≡ all → sent ≡ all
 all_sent sent [] all none e = sym (append-nil sent) ∙ e
 all_sent sent (_ ∷ _) all none e = absurd (cc)

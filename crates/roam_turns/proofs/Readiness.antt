@@ -77,7 +77,7 @@ module _ (w : World) (h : Holds w) (id now : ℕ) (e : IsOffered w.server id now
       theirs in
       at.1 ∙ ap (λ (s : Screenshot). Some s) same
 
-  -- what the start holds from the base on the sender holds too
+  -- the sender has all that the start has from the base on
   few_from : length (from_floor r.sender.base.number (pairs x.kept.receiver)) ≤ 7
   few_from =
       let base = r.sender.base.number in

@@ -1,4 +1,4 @@
--- What a client start of the code shows, before and after its calls.
+-- The screen of a client start of the code, before and after its calls.
 use Rattle.std.proofs.Common.{◌≡◌, ℕ, ◌<◌, leb, inl, inr, List, refl, sym, ap, ◌∙◌, subst, arith}
 use Rattle.std.specs.Prelude.{Result, Vec}
 use Rattle.std.specs.declared.alloc.Global.{Global}
@@ -21,7 +21,7 @@ use Rattle.roam_hub.specs.Clients.Hears.{no_datagram, refused, fragment, unread,
 use Rattle.roam_hub.specs.Clients.Sends.{quiet, spent, sent, no_memory}
 use Rattle.roam_turns.specs.Painting.{Follows}
 
--- ---- what is shown
+-- ---- the screen
 
 pub follows_none : (n : ℕ) (s : Screenshot) → Follows n s n s
 follows_none n s = record { rises = omega arith; same = λ e. refl }
@@ -32,14 +32,14 @@ follows_both n n' n'' s s' s'' h k =
     let b = k.rises in
     record { rises = omega arith; same = λ e. h.same (omega (arith, e, a, b)) ∙ k.same (omega (arith, e, a, b)) }
 
--- what a receiver has after what it had
+-- the states of a receiver after the earlier ones
 abbrev pub ReceiverFollows : Receiving Screenshot → Receiving Screenshot → Type 0
 ReceiverFollows r r' = Follows r.newest.number r.newest.state r'.newest.number r'.newest.state
 
 pub same_follows : (r r' : Receiving Screenshot) → r' ≡ r → ReceiverFollows r r'
 same_follows r r' e = subst (λ (x : Receiving Screenshot). ReceiverFollows r x) (sym e) (follows_none r.newest.number r.newest.state)
 
--- what is new is above the newest
+-- a new update is above the newest
 above : (r : Receiving Screenshot) (old new floor : ℕ) → step_for r old new floor ≡ step.New → r.newest.number < new
 above r old new floor is =
     elim (cases_Bool (leb new r.newest.number)) [

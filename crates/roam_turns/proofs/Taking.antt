@@ -14,7 +14,7 @@ pub less_within : (n m : ℕ) (waiting : Option (List ℕ)) → n ≤ m → IsWi
 less_within n m None less within = tt
 less_within n m (Some waiting) less within = omega (arith, less, within)
 
--- what was copied is the front of what waits
+-- the copied bytes are the front of the queued ones
 pub copies : (waiting : Option (List ℕ)) (n all k : ℕ) (old new : List ℕ) → IsCopied n old new waiting
     → Some all ≡ option_map (λ (xs : List ℕ). length xs) waiting → k ≡ min n all
     → Some (take k new) ≡ option_map (take (length old)) waiting

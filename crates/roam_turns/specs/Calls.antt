@@ -1,4 +1,4 @@
--- What ports and cores tell of their calls.
+-- The calls that ports and cores record.
 use Rattle.std.specs.Prelude.{◌≡◌, ℕ, List, [], ◌∷◌, ◌++◌, take, map, Bool, Option, Some, None, Result, Ok, Err, ⊤, Vec}
 use Rattle.std.specs.declared.alloc.Global.{Global}
 use Rattle.roam_cells.specs.declared.faults.Fault.{Fault}
@@ -8,7 +8,7 @@ use Rattle.roam_cells.specs.declared.addresses.Addr.{Addr}
 use Rattle.roam_hub.specs.declared.addresses.Stop.{Stop}
 use Rattle.roam_hub.specs.declared.clients.Heard.{Heard}
 
--- between two states these calls were made, where calls are told to the end
+-- these calls were made between two states, if calls are recorded to the end
 abbrev pub Tells : {C : Type 0} → Option (List C) → Option (List C) → List C → Type 0
 Tells None None calls = ⊤
 Tells None (Some ys) calls = ⊥
@@ -17,7 +17,7 @@ Tells (Some xs) (Some ys) calls = ys ≡ xs ++ calls
 
 -- ---- ports
 
--- What a door was asked, where ports are one: whether an outer terminal comes there; whether the server is known to have ended; to rest, so
+-- A question to a door, if ports are one: whether an outer terminal comes there; whether the server is known to have ended; to rest, so
 -- many milliseconds at most and no longer than until a moment; to sleep until a terminal comes, so many milliseconds at most.
 pub data DoorCall : Type 0 where
   Came : Bool → DoorCall
@@ -25,10 +25,16 @@ pub data DoorCall : Type 0 where
   Rested : ℕ → Option ℕ → DoorCall
   Slept : ℕ → DoorCall
 
--- A call of a port: the moment; a datagram that came, into room for so many bytes, and from where; none came; a datagram that was to go
--- somewhere, and whether it went; which making of a pane is there, if any; what the program of a pane wrote, into room for so many bytes;
--- it wrote nothing; what was handed to it, and how much of that it took; what was to be shown, and whether it was; what a door was asked,
--- which no turn asks.
+-- A call of a port:
+--
+-- - the moment;
+-- - a datagram that came, into room for so many bytes, and its source; or none came;
+-- - a datagram to be sent to an address, and whether it went;
+-- - the generation of a pane that is there, if any;
+-- - the output of a pane's program, into room for so many bytes; or none;
+-- - bytes passed to a program, and how many of them it took;
+-- - a text to be shown, and whether it was;
+-- - a question to a door, which no turn asks.
 pub data PortCall : Type 0 where
   Now : ℕ → PortCall
   Received : ℕ → Addr → List ℕ → PortCall
@@ -41,25 +47,24 @@ pub data PortCall : Type 0 where
   Showed : List ℕ → Bool → PortCall
   Asked : DoorCall → PortCall
 
--- what a receive into room for so many bytes brought
+-- the result of a receive into room for so many bytes
 abbrev pub received_call : ℕ → Option (Addr × ℕ) → List ℕ → PortCall
 received_call room None buf = NothingReceived room
 received_call room (Some r) buf = Received room r.0 (take r.1 buf)
 
--- what a pane's program wrote into room for so many bytes
+-- the output of a pane's program into room for so many bytes
 abbrev pub pane_gave : ℕ → ℕ → Option ℕ → List ℕ → PortCall
 pane_gave pane room None buf = PaneGaveNothing pane room
 pane_gave pane room (Some n) buf = PaneGave pane room (take n buf)
 
 -- ---- cores
 
--- a datagram's text, and where it goes
+-- a datagram's text, and its address
 abbrev pub Parcel : Type 0
 Parcel = Addr × List ℕ
 
--- A call of the server with its answer: a datagram that came from somewhere at a moment; which making of a pane is there; how much room
--- there is for the output of a pane; bytes of a pane's program; the first bytes, so many at most, that wait for one; so many of them that
--- went; a tick at a moment.
+-- A call of the server with its result: a datagram that came from an address at a moment; the generation of a pane; the room for the output
+-- of a pane; bytes of a pane's program; the first queued bytes of a pane, so many at most; so many of them that went; a tick at a moment.
 pub data ServerCall : Type 0 where
   ToServer : Addr → List ℕ → ℕ → Result ℕ Stop → ServerCall
   Generation : ℕ → Option ℕ → ServerCall
@@ -69,13 +74,13 @@ pub data ServerCall : Type 0 where
   Drain : ℕ → ℕ → Result (Unit {0}) Fault → ServerCall
   ServerTick : ℕ → Result (List Parcel) Fault → ServerCall
 
--- a call of a client start with its answer: an act that was typed; a datagram that came at a moment; a tick at a moment
+-- a call of a client start with its result: an act that was typed; a datagram that came at a moment; a tick at a moment
 pub data ClientCall : Type 0 where
   Typed : Act → Result (Unit {0}) Fault → ClientCall
   ToClient : List ℕ → ℕ → Result Heard Fault → ClientCall
   ClientTick : ℕ → Result (List (List ℕ)) Fault → ClientCall
 
--- what waits for a pane's program, as it was copied
+-- the bytes queued for a pane's program, as copied
 abbrev pub copied_bytes : Option ℕ → List ℕ → Option (List ℕ)
 copied_bytes None out = None
 copied_bytes (Some n) out = Some (take n out)

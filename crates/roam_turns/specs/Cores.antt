@@ -1,4 +1,4 @@
--- What a call of a server or of a client start may answer and leave, as the crate of both says it.
+-- The possible results and effects of a call of a server or of a client start, as in the crate of both.
 use Rattle.std.specs.Prelude.{◌≡◌, ℕ, ◌-◌, List, length, take, Result, Vec}
 use Rattle.std.specs.Option.{option_map}
 use Rattle.std.specs.declared.alloc.Global.{Global}
@@ -14,7 +14,7 @@ use Rattle.roam_turns.specs.Calls.{ServerCall, ClientCall, parcels_of, texts_in}
 use Rattle.roam_turns.specs.Calls.ServerCall.{ToServer, Generation, Room, PaneBytes, Output, Drain, ServerTick}
 use Rattle.roam_turns.specs.Calls.ClientCall.{Typed, ToClient, ClientTick}
 
--- for every server that it stood for: what the call answers, and which server it stands for then
+-- for every server that it modelled: the result of the call, and the server that it models then
 abbrev pub server_step : ServerView → ServerCall → ServerView → Type 0
 server_step old (ToServer from bytes now answer) new = (s : ServerOf) → ServerStands old s
     → Comes s (address_of from) bytes now answer new
@@ -30,7 +30,7 @@ server_step old (Drain pane n answer) new = (s : ServerOf) → ServerStands old 
 server_step old (ServerTick now answer) new = (s : ServerOf) → ServerStands old s
     → (result : Result (Vec (Addr × Vec ℕ Global) Global) Fault) × (parcels_of result ≡ answer) × Ticks s now result new
 
--- what the call of a client start answers, and which start it is then
+-- the result of a call of a client start, and the start then
 abbrev pub client_step : ClientView → ClientCall → ClientView → Type 0
 client_step old (Typed act answer) new = Types old act answer new
 client_step old (ToClient bytes now answer) new = Hears old bytes now answer new

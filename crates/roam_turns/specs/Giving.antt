@@ -1,4 +1,4 @@
--- What ports over memory give, and what they hold then.
+-- The data that ports over memory give, and their state then.
 use Rattle.std.specs.Prelude.{◌≡◌, ℕ, ◌+◌, ◌-◌, ◌^◌, ◌&&◌, min, nat_eq, not, List, [], ◌∷◌, take, drop, Bool, true, false, Option, Some, None}
 use Rattle.roam_cells.specs.declared.addresses.Addr.{Addr}
 use Rattle.roam_turns.specs.declared.memory.MemoryPorts.{MemoryPorts}
@@ -14,9 +14,9 @@ next_call ports = min (ports.calls + 1) (2 ^ 64 - 1)
 abbrev pub goes_well : MemoryPorts → Bool
 goes_well ports = not (nat_eq (next_call ports) ports.fails_at)
 
--- ---- what is at the front
+-- ---- the data at the front
 
--- the first of these, where it is taken
+-- the first of these, if it is taken
 abbrev pub first_where : {A : Type 0} → Bool → List A → Option A
 first_where false all = None
 first_where true [] = None
@@ -50,7 +50,7 @@ piece_of pane room (Some p) = PaneGave pane room (take room p.1)
 
 -- ---- what calls leave
 
--- what a call gave was written down, or lost, and all else stays
+-- the result of a call was recorded, or lost, and all else stays
 abbrev pub Notes : MemoryPorts → MemoryPorts → Type 0
 Notes old new = new ≡ record old { told = new.told; is_lost = new.is_lost }
 

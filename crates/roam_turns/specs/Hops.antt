@@ -1,4 +1,4 @@
--- One hop: from what was put into a session to what the outer terminal of a client start shows.
+-- One hop: from the input of a session to the screen of the outer terminal of a client start.
 use Rattle.std.specs.Prelude.{◌≡◌, ℕ, ◌<◌, ◌≤◌, ◌^◌, List, length, ◌++◌, map, Some, Result, Ok, Err, true}
 use Rattle.roam_cells.specs.declared.faults.Fault.{Fault}
 use Rattle.roam_cells.specs.declared.faults.Fault.TheVariants.{OutOfMemory}
@@ -25,11 +25,15 @@ use Rattle.roam_turns.specs.Calls.ClientCall.{Typed, ToClient, ClientTick}
 use Rattle.roam_turns.specs.Cores.{server_step, client_step}
 use Rattle.roam_turns.specs.Painting.{Fits}
 
--- ---- what is true before
+-- ---- the facts before
 
--- A client start is ready for a number, by its record at the server: both are of one version; the start holds the pair of the sender's
--- base; it shows a number from that one on, below this one; it gathered no instruction as high as the next; and it holds at most seven
--- pairs from the base on.
+-- A client start is ready for a number, by its record at the server:
+--
+-- - both are of one version;
+-- - the start has the pair of the sender's base;
+-- - it shows a number from that one on, below this one;
+-- - it gathered no instruction as high as the next;
+-- - it has at most seven pairs from the base on.
 pub record IsReady (n : ℕ) (r : Record) (c : Client) : Type 0 where
   pub version : c.kept.version ≡ r.version
   pub base : state_at r.sender.base.number (pairs c.kept.receiver) ≡ Some r.sender.base.state
@@ -59,7 +63,7 @@ pub record IsReadyForTicks (w : World) : Type 0 where
 
 -- ---- the hop
 
--- bytes tell the id of a start
+-- bytes have the id of a start
 abbrev pub IsTo : ℕ → List ℕ → Type 0
 IsTo id bytes = (header_at bytes).client ≡ id
 
@@ -76,8 +80,8 @@ pub record HandsOver (parcels : List Parcel) (id : ℕ) (calls : List ClientCall
   pub all : (bytes : List ℕ) → IsIn bytes (map (λ (l : Parcel). l.1) parcels) → IsTo id bytes
       → (now : ℕ) × (answer : Result Heard Fault) × IsIn (ToClient bytes now answer) calls
 
--- A tick of a server makes a number and offers it to a start that is ready for it, and just the parcels to it come there. Of both ends it
--- is known what the contracts of their calls say, and nothing else.
+-- A tick of a server makes a number and offers it to a start that is ready for it, and just the parcels to it come there. The contracts of
+-- the calls are all that is known of both ends.
 pub record Hop (s : Server) (id now : ℕ) (c : Client) (after : ClientView) : Type 0 where
   pub ids : HasIds s
   pub made : makes s (moment s now) ≡ true
@@ -98,8 +102,8 @@ pub record Hop (s : Server) (id now : ℕ) (c : Client) (after : ClientView) : T
 abbrev pub seen_face : Server → Client → Screenshot
 seen_face s c = seen_by c.kept.version (face s.size s.log)
 
--- The start shows the face of all that was put into the session, as its version is shown it, under the number that was made; and whatever
--- terminal showed what the start showed before, of at least that screen's size, shows it once the text between the two is written.
+-- The start shows the face of the whole input of the session, as its version is shown it, under the number that was made. Any terminal that
+-- showed the start's earlier screen, of at least that screen's size, shows it once the text between the two is written.
 pub record Arrives (s : Server) (now : ℕ) (c : Client) (after : ClientView) : Type 0 where
   pub number : after.kept.receiver.newest.number ≡ number_by s now
   pub screen : after.kept.receiver.newest.state ≡ seen_face s c

@@ -1,4 +1,4 @@
--- The outer terminal: what is noted of it, and what is written to it.
+-- The outer terminal: the noted screen, and the text written to it.
 use Rattle.std.specs.Prelude.{◌≡◌, ℕ, ◌≤◌, List, ◌++◌, map, Option, Some, None}
 use Rattle.std.specs.Io.KnownBytes.{Appends}
 use Rattle.roam_screens.specs.Screenshot.{Screenshot, blank_screenshot}
@@ -14,26 +14,26 @@ abbrev pub IsNoted : ℕ → Option Noted → Type 0
 IsNoted n None = ⊥
 IsNoted n (Some noted) = noted.number ≡ n
 
--- what is written to show a screen: where none is noted the terminal is opened first, and then blank
+-- the text that shows a screen: if none is noted the terminal is opened first, and then blank
 abbrev pub text_for : Option Noted → Screenshot → List ℕ
 text_for None screen = blanking_text ++ text_between (blank_screenshot screen.rows screen.cols) screen
 text_for (Some noted) screen = text_between noted.screen screen
 
 -- ---- numbers that rise
 
--- what is shown after what was: no lower number, and of one number one screen
+-- the screen after an earlier one: no lower number, and of one number one screen
 pub record Follows (n : ℕ) (s : Screenshot) (n' : ℕ) (s' : Screenshot) : Type 0 where
   pub rises : n ≤ n'
   pub same : n ≡ n' → s ≡ s'
 
--- what is noted was shown before
+-- the noted screen was shown before
 abbrev pub IsBehind : Option Noted → ℕ → Screenshot → Type 0
 IsBehind None n s = Unit {0}
 IsBehind (Some noted) n s = Follows noted.number noted.screen n s
 
--- ---- what the terminal shows
+-- ---- the screen of the terminal
 
--- a terminal of a size, with so many lines of history, shows after a log what is noted; where nothing is, it is any terminal
+-- a terminal of a size, with so many lines of history, shows after a log the noted screen; if nothing is noted, it is any terminal
 abbrev pub DisplaysNoted : ℕ → ℕ → ℕ → List Item → Option Noted → Type 0
 DisplaysNoted rows cols lines log None =
     (1 ≤ (term rows cols lines log).live.screen.rows) × (1 ≤ (term rows cols lines log).live.screen.cols)
@@ -44,7 +44,7 @@ pub record Fits (rows cols lines : ℕ) (log : List Item) (s : Screenshot) : Typ
   pub rows_fit : s.rows ≤ (term rows cols lines log).live.screen.rows
   pub cols_fit : s.cols ≤ (term rows cols lines log).live.screen.cols
 
--- Once these bytes are written, whatever terminal showed what was noted, of at least the size of this screen, shows the screen: a ground
+-- Once these bytes are written, any terminal that showed the noted screen, of at least the size of this screen, shows the screen: a ground
 -- terminal between sequences.
 abbrev pub Shows : Option Noted → List ℕ → Screenshot → Type 0
 Shows outer bytes screen =
@@ -61,7 +61,7 @@ ShowsSized outer bytes screen =
     (rows cols lines : ℕ) (log : List Item) → DisplaysNoted rows cols lines log outer → Fits rows cols lines log screen
     → ShowsAt rows cols lines log bytes screen
 
--- once they are written it shows what is noted then
+-- once they are written it shows the screen that is noted then
 abbrev pub Leads : Option Noted → List ℕ → Option Noted → Type 0
 Leads outer bytes None = Unit {0}
 Leads outer bytes (Some noted) = Shows outer bytes noted.screen
@@ -70,7 +70,7 @@ abbrev pub LeadsSized : Option Noted → List ℕ → Option Noted → Type 0
 LeadsSized outer bytes None = Unit {0}
 LeadsSized outer bytes (Some noted) = ShowsSized outer bytes noted.screen
 
--- where it is known what was written to it before and what is then, the text between leads it to what is noted then
+-- if the text written to it before and then is known, the text between leads it to the screen that is noted then
 abbrev pub Led : Option Noted → Option (List ℕ) → Option Noted → Option (List ℕ) → Type 0
 Led outer before None after = Unit {0}
 Led outer before (Some noted) after = (text : List ℕ) × Appends before after text × Shows outer text noted.screen

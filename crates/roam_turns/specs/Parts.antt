@@ -48,7 +48,7 @@ ReceivesUpTo IsGiven room zero = λ calls. calls ≡ []
 ReceivesUpTo IsGiven room (suc n) = λ calls.
     (calls ≡ Port (NothingReceived room) ∷ []) ⊎ Then (Receives IsGiven room) (ReceivesUpTo IsGiven room n) calls
 
--- The calls of a part were made: the ports and the core were called with just these, as far as they tell, and the core's were its steps.
+-- The calls of a part were made: the ports and the core got just these, as far as they record, and the core's were its steps.
 pub record Makes {C S : Type 0} (step : S → C → S → Type 0) (Part : List (Call C) → Type 0) (told told' : Option (List PortCall))
     (made made' : Option (List C)) (old new : S) : Type 0 where
   pub calls : List (Call C)

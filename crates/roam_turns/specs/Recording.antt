@@ -1,4 +1,4 @@
--- What ports over memory tell.
+-- The calls that ports over memory record.
 use Rattle.std.specs.Prelude.{ℕ, List, map, Option, Some, None, if◌then◌else◌}
 use Rattle.roam_cells.specs.declared.addresses.Addr.{Addr}
 use Rattle.roam_turns.specs.declared.memory.RecordedCall.{RecordedCall}
@@ -23,7 +23,7 @@ call_of (wrote.Showed bytes went) = Showed bytes.items went
 abbrev pub told_of : MemoryPorts → Option (List PortCall)
 told_of ports = if ports.is_lost then None else Some (map call_of ports.told.items)
 
--- the datagrams that are to come, each with where it comes from
+-- the datagrams that will come, each with its source
 abbrev pub datagrams_of : MemoryPorts → List (Addr × List ℕ)
 datagrams_of ports = map (λ p. (p.0, p.1.items)) ports.datagrams.items
 

@@ -1,4 +1,4 @@
--- What a turn is: the calls that it makes, of its ports and of its core, in their order.
+-- A turn: the calls that it makes, of its ports and of its core, in their order.
 use Rattle.std.specs.Prelude.{◌≡◌, ℕ, ◌<◌, ◌≤◌, List, [], ◌∷◌, ◌++◌, map, Bool, Option, Some, None, Result, Ok, Err, is_ok, true, false}
 use Rattle.roam_term.specs.Limits.{longest_piece}
 use Rattle.roam_cells.specs.declared.faults.Fault.{Fault}
@@ -18,7 +18,7 @@ use Rattle.roam_turns.specs.Parts.Call.{Port, Core}
 
 -- ---- both turns
 
--- what a tick lets send: nothing where it is refused
+-- the datagrams of a tick: none if it is refused
 abbrev pub sent_in : {L : Type 0} → Result (List L) Fault → List L
 sent_in (Ok all) = all
 sent_in (Err fault) = []
@@ -35,7 +35,7 @@ Sends (parcel ∷ parcels) calls =
 abbrev pub IsToServer : ℕ → Addr → List ℕ → ServerCall → Type 0
 IsToServer now from bytes call = (answer : Result ℕ Stop) × (call ≡ ToServer from bytes now answer)
 
--- the ports are told which making of a pane is there, as the server answers it
+-- the ports get the generation of a pane, as the server returns it
 abbrev pub TellsGeneration : ℕ → List (Call ServerCall) → Type 0
 TellsGeneration pane calls = (generation : Option ℕ) × (calls ≡ Core (Generation pane generation) ∷ Port (PaneGenerations pane generation) ∷ [])
 
@@ -44,8 +44,8 @@ abbrev pub TakesPiece : Option ℕ → Type 0
 TakesPiece None = ⊥
 TakesPiece (Some room) = 12288 ≤ room
 
--- A pane's program is asked for up to 1,024 bytes, where the pane is there and would take them: the pane isn't there or hasn't the room;
--- nothing came; nothing but an empty piece; or a piece, which is handed to the server.
+-- A pane's program is asked for up to 1,024 bytes, if the pane is there and would take them: the pane isn't there or hasn't the room;
+-- nothing came; only an empty piece came; or a piece, which is passed to the server.
 pub data AsksPane (pane : ℕ) (calls : List (Call ServerCall)) : Type 0 where
   full : (room : Option ℕ) → (TakesPiece room → ⊥) → calls ≡ Core (Room pane room) ∷ [] → AsksPane pane calls
   nothing : (room : Option ℕ) → TakesPiece room → calls ≡ Core (Room pane room) ∷ Port (PaneGaveNothing pane longest_piece) ∷ []
@@ -56,7 +56,7 @@ pub data AsksPane (pane : ℕ) (calls : List (Call ServerCall)) : Type 0 where
       → calls ≡ Core (Room pane room) ∷ Port (PaneGave pane longest_piece bytes) ∷ Core (PaneBytes pane bytes answer) ∷ []
       → AsksPane pane calls
 
--- Up to 1,024 bytes that wait for a pane's program are handed to it: the pane isn't there; nothing waits; it takes none; or it takes some,
+-- Up to 1,024 bytes queued for a pane's program are passed to it: the pane isn't there; nothing is queued; it takes none; or it takes some,
 -- and just those go.
 pub data FillsPane (pane : ℕ) (calls : List (Call ServerCall)) : Type 0 where
   no_pane : calls ≡ Core (Output pane longest_piece None) ∷ [] → FillsPane pane calls
@@ -73,8 +73,8 @@ ServerTicks now calls =
     (answer : Result (List Parcel) Fault) × (sent : List PortCall)
     × (calls ≡ Core (ServerTick now answer) ∷ map Port sent) × Sends (sent_in answer) sent
 
--- the server's turn: the moment; at most 32 datagrams of up to 2,048 bytes; the generations of panes 1 to 9 are told, then these panes are
--- asked, then they are filled; a tick
+-- The server's turn: the moment; at most 32 datagrams of up to 2,048 bytes; the generations of panes 1 to 9; then these panes are asked,
+-- and then filled; a tick.
 pub record ServeTurn (calls : List (Call ServerCall)) : Type 0 where
   pub now : ℕ
   pub rest : List (Call ServerCall)
@@ -84,7 +84,7 @@ pub record ServeTurn (calls : List (Call ServerCall)) : Type 0 where
 
 -- ---- the turn of a client start
 
--- the next act is typed, where there is one; whether it was taken
+-- the next act is typed, if there is one; and whether it was taken
 abbrev pub Types : Option Act → Bool → List (Call ClientCall) → Type 0
 Types None taken calls = (taken ≡ false) × (calls ≡ [])
 Types (Some act) taken calls =
@@ -94,8 +94,8 @@ Types (Some act) taken calls =
 abbrev pub IsToClient : ℕ → Addr → List ℕ → ClientCall → Type 0
 IsToClient now from bytes call = (answer : Result Heard Fault) × (call ≡ ToClient bytes now answer)
 
--- The screen of a number is painted where another is noted or none: it is noted already; memory is wanting, and nothing is shown; it is
--- shown, and noted from now on; or that failed, and nothing is noted.
+-- The screen of a number is painted if another is noted or none. The cases: it is noted already; memory is refused, and nothing is shown;
+-- it is shown, and noted from now on; or that failed, and nothing is noted.
 pub data Paints (number : ℕ) (screen : Screenshot) (outer outer' : Option Noted) (calls : List (Call ClientCall)) : Type 0 where
   already : IsNoted number outer → calls ≡ [] → outer' ≡ outer → Paints number screen outer outer' calls
   no_memory : (IsNoted number outer → ⊥) → calls ≡ [] → outer' ≡ outer → Paints number screen outer outer' calls

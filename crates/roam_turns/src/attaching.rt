@@ -20,7 +20,7 @@ use roam_paint::laws::{opened_begins_blank, painted_leads_over};
 use roam_screens::Seen;
 use std::alloc::Global;
 
-// Types the next act, where there is one, and answers whether it was taken.
+// Types the next act, if there is one, and returns true if it was taken.
 fn type_next<C: ClientCore>(client: &mut C, next: Option<&Act>) -> bool
     requires in_range { IfSome next (λ act. IsInRange act.now) }
     ensures types { (told : Option (List PortCall)) → Makes C.step (Types (option_copied next.entry) result) told told
@@ -52,7 +52,7 @@ fn receive_all<C: ClientCore, P: Ports>(alloc: Global, client: &mut C, ports: &m
     }
 }
 
-// Paints the screen that the start shows, where it isn't noted.
+// Paints the start's screen, if it isn't noted.
 fn paint_screen<C: ClientCore, P: Ports>(
     alloc: Global,
     client: &C,
@@ -103,12 +103,12 @@ fn tick_and_send<C: ClientCore, P: Ports>(
     }
 }
 
-/// One turn of a client start that shows nothing: the moment; at most 32 datagrams of up to 2,048 bytes, until one receive brings nothing;
-/// and a tick, whose datagrams are sent to `to`. What the start refuses is dropped, and a datagram that isn't sent is lost.
+/// Takes one turn of a client start that shows nothing: the moment; at most 32 datagrams of up to 2,048 bytes, until one receive brings
+/// nothing; and a tick, whose datagrams are sent to `to`. Whatever the start refuses is dropped, and a datagram that isn't sent is lost.
 pub fn quiet_turn<C: ClientCore, P: Ports>(alloc: Global, client: &mut C, ports: &mut P, to: Addr)
     ensures turn { Makes C.step (QuietTurn to) (P.told ports.old) (P.told ports.new) (C.made client.old) (C.made client.new)
         client.old client.new }
-    // What the start shows never falls, and under one number it is one screen.
+    // The number that the start shows never falls, and one number shows one screen.
     ensures follows { Follows (C.number client.old) (C.screen client.old) (C.number client.new) (C.screen client.new) }
     ensures written { Keeps (P.written ports.old) (P.written ports.new) }
     ensures notice { P.notice ports.new ≡ P.notice ports.old }
@@ -118,11 +118,16 @@ pub fn quiet_turn<C: ClientCore, P: Ports>(alloc: Global, client: &mut C, ports:
     tick_and_send(alloc, client, ports, to, now);
 }
 
-/// One turn of a client start round its ports: the moment; the next act, where there is one; at most 32 datagrams of up to 2,048 bytes,
-/// until one receive brings nothing; the screen that the start shows then, where another number is noted of the outer terminal or none,
-/// painted over what is noted, or over a terminal that is opened; and a tick, whose datagrams are sent to `to`. Answers whether the act
-/// was taken. What the start refuses is dropped, and a datagram that isn't sent is lost. Where memory for painting is wanting, nothing is
-/// shown and what is noted stays; where showing fails, nothing is noted.
+/// Takes one turn of a client start with its ports, and returns true if the act was taken:
+///
+/// 1. the moment, and the next act, if there is one;
+/// 2. at most 32 datagrams of up to 2,048 bytes, until one receive brings nothing;
+/// 3. the start's screen, if another number is noted of the outer terminal or none, painted over the noted screen, or over a terminal that
+///    is opened;
+/// 4. a tick, whose datagrams are sent to `to`.
+///
+/// Whatever the start refuses is dropped, and a datagram that isn't sent is lost. If there is no memory for painting, nothing is shown and
+/// the noted screen stays. If showing fails, nothing is noted.
 pub fn attach_turn<C: ClientCore, P: Ports>(
     alloc: Global,
     client: &mut C,
@@ -143,7 +148,7 @@ pub fn attach_turn<C: ClientCore, P: Ports>(
         → AttachTurn (C.number client.new) (C.screen client.new) outer.old outer.new to (option_copied next.entry) result calls
         → IsNoted (C.number client.new) outer.new → Shows outer.old (shown_in calls) (C.screen client.new) }
     ensures behind { IsBehind outer.new (C.number client.new) (C.screen client.new) }
-    // What the start shows never falls, and under one number it is one screen.
+    // The number that the start shows never falls, and one number shows one screen.
     ensures follows { Follows (C.number client.old) (C.screen client.old) (C.number client.new) (C.screen client.new) }
     ensures led { Led outer.old (P.written ports.old) outer.new (P.written ports.new) }
     ensures notice { P.notice ports.new ≡ P.notice ports.old }

@@ -1,4 +1,4 @@
-//! What a turn asks of a core. A core may tell its calls: so a turn can't pass over what came by saying that the core refused it.
+//! The calls of a turn to a core. A core may record its calls: so a turn can't skip a datagram on the pretext that the core refused it.
 ghost use Rattle.std.specs.Prelude.{◌≡◌, ◌≤◌, ℕ, length, List, [], ◌∷◌, Option, None, IfSome};
 ghost use Rattle.roam_acts.specs.Acts.{IsInRange};
 ghost use Rattle.roam_screens.specs.Screenshot.{Screenshot};
@@ -19,10 +19,10 @@ use std::alloc::Global;
 
 /// The server, as a turn calls it.
 pub trait ServerCore {
-    // The calls made so far, where they are told.
+    // The calls made so far, if they are recorded.
     ghost made: { Self → Option (List ServerCall) } = { λ _. None };
 
-    // What a call may answer and leave.
+    // The possible results and effects of a call.
     ghost step: { Self → ServerCall → Self → Type 0 };
 
     // The bytes that wait for the program of a pane that is there.
@@ -48,7 +48,7 @@ pub trait ServerCore {
         ensures tells { Tells (made self.old) (made self.new) (PaneBytes pane piece.now result ∷ []) }
         ensures step { step self.old (PaneBytes pane piece.now result) self.new };
 
-    /// Copies the first bytes that wait for the program of a pane that is there, as many as fit, and tells how many.
+    /// Copies the first bytes queued for the program of a pane that is there, as many as fit, and returns their number.
     fn output(&mut self, pane: u8, out: &mut [u8]) -> Option<usize>
         ensures within { IfSome result (λ n. n ≤ length out.new) }
         ensures waits { IfSome result (λ n. IsWithin n (waiting self.new pane)) }
@@ -61,7 +61,7 @@ pub trait ServerCore {
         ensures tells { Tells (made self.old) (made self.new) (Drain pane n result ∷ []) }
         ensures step { step self.old (Drain pane n result) self.new };
 
-    /// The datagrams to send at a moment, each with where it goes.
+    /// Returns the datagrams to send at a moment, each with its address.
     fn tick(&mut self, alloc: Global, now: u64) -> Result<Vec<(Addr, Vec<u8>)>, Fault>
         ensures tells { Tells (made self.old) (made self.new) (ServerTick now (parcels_of result) ∷ []) }
         ensures step { step self.old (ServerTick now (parcels_of result)) self.new };
@@ -69,10 +69,10 @@ pub trait ServerCore {
 
 /// A client start, as a turn calls it.
 pub trait ClientCore {
-    // The calls made so far, where they are told.
+    // The calls made so far, if they are recorded.
     ghost made: { Self → Option (List ClientCall) } = { λ _. None };
 
-    // What a call may answer and leave.
+    // The possible results and effects of a call.
     ghost step: { Self → ClientCall → Self → Type 0 };
 
     // The number and the screen that it shows.

@@ -1,4 +1,4 @@
-//! One turn of a program round a core: what comes through its ports goes to the core, and what the core answers goes out.
+//! One turn of a program with a core: input from its ports goes to the core, and the core's output goes to the ports.
 #![tactic(auto)]
 
 mod attaching;

@@ -1,4 +1,4 @@
-//! Ports over memory, which tell their calls.
+//! Ports over memory, which record their calls.
 ghost use Rattle.std.specs.Prelude.{◌≡◌, ◌≤◌, ◌⊎◌, ◌∷◌, ◌++◌, [], is_ok, if◌then◌else◌, not, length, min, take, vec_capacity, vec_len, OnErr, IfOk, IfSome, Some, None};
 ghost use Rattle.roam_turns.specs.Calls.{Tells, received_call, pane_gave};
 ghost use Rattle.roam_turns.specs.Calls.PortCall.{Now, Sent, PaneGenerations, PaneTook, Showed};
@@ -10,7 +10,7 @@ use roam_hub::Addr;
 use std::alloc::{AllocError, Global};
 use std::collections::VecDeque;
 
-/// A call of a port, and what it gave.
+/// A call of a port, and its result.
 #[derive(Debug, Drop)]
 pub enum RecordedCall {
     /// The moment.
@@ -28,20 +28,20 @@ pub enum RecordedCall {
     /// Which making of a pane is there, if any.
     PaneGenerations(u8, Option<u64>),
 
-    /// What the program of a pane wrote, into room for so many bytes.
+    /// The output of a pane's program, into room for so many bytes.
     PaneGave(u8, usize, Vec<u8>),
 
     /// It wrote nothing.
     PaneGaveNothing(u8, usize),
 
-    /// What was handed to the program of a pane, and how many bytes of it were taken.
+    /// Bytes passed to the program of a pane, and how many of them it took.
     PaneTook(u8, Vec<u8>, usize),
 
-    /// What was to be shown, and whether it was.
+    /// A text to be shown, and whether it was.
     Showed(Vec<u8>, bool),
 }
 
-/// Ports over memory: what is to come is queued, and each call is written down with what it gave.
+/// Ports over memory: the input is queued, and each call is recorded with its result.
 #[derive(Drop)]
 pub struct MemoryPorts {
     alloc: Global,
@@ -55,7 +55,7 @@ pub struct MemoryPorts {
     fails_at: u64,
 }
 
-// What is at the front of a queue leaves it, where it is taken.
+// Takes the front of a queue, if it is taken.
 fn pop_where<T>(is_taken: bool, queue: &mut VecDeque<T>) -> Option<T>
     ensures first { result ≡ first_where is_taken queue.old.items }
     ensures rest { queue.new.items ≡ rest_where is_taken queue.old.items }
@@ -63,7 +63,7 @@ fn pop_where<T>(is_taken: bool, queue: &mut VecDeque<T>) -> Option<T>
     if is_taken { queue.pop_front() } else { None }
 }
 
-// Copies bytes to the front of a buffer, as many as fit, and tells how many.
+// Copies bytes to the front of a buffer, as many as fit, and returns their number.
 fn copy_front(bytes: &[u8], buf: &mut [u8]) -> usize
     ensures within { result ≤ length buf.new }
     ensures copied { take result buf.new ≡ take (length buf.old) bytes.now }
@@ -74,7 +74,7 @@ fn copy_front(bytes: &[u8], buf: &mut [u8]) -> usize
 }
 
 impl MemoryPorts {
-    /// Ports at the moment 0: nothing is to come, what is handed out goes, and no call fails.
+    /// Returns ports at the moment 0: no input, all output goes, and no call fails.
     pub fn new(alloc: Global) -> MemoryPorts
         ensures told { told_of result ≡ Some [] }
         ensures moment { result.moment ≡ 0 }
@@ -131,8 +131,8 @@ impl MemoryPorts {
         self.appetite = bytes;
     }
 
-    /// The call of this number fails, counted from 1 and from now on; none does at 0. A moment is told whatever fails, and the generations
-    /// of panes aren't counted.
+    /// Makes the call of this number fail, counted from 1 and from now on; none at 0. A moment is returned whatever fails, and the
+    /// generations of panes aren't counted.
     pub fn fail_at(&mut self, call: u64)
         ensures fails { self.new ≡ record self.old { calls = 0; fails_at = call } }
     {
@@ -147,7 +147,7 @@ impl MemoryPorts {
         &self.told
     }
 
-    // Whether the piece that is to come first is of this pane's program.
+    // Returns true if the first piece of input is of this pane's program.
     fn is_next(&self, pane: u8) -> bool
         ensures first { result ≡ is_first pane (pieces_of self.now) }
     {
@@ -157,7 +157,7 @@ impl MemoryPorts {
         }
     }
 
-    // Counts a call, and tells whether it fails.
+    // Counts a call, and returns true if it fails.
     fn is_failing(&mut self) -> bool
         ensures fails { result ≡ not (goes_well self.old) }
         ensures counts { self.new ≡ record self.old { calls = next_call self.old } }
@@ -166,14 +166,14 @@ impl MemoryPorts {
         self.calls == self.fails_at
     }
 
-    // Writes a call down. From one that can't be, the ports tell nothing.
+    // Records a call. After one that can't be recorded, the ports record nothing.
     fn record(&mut self, call: Result<RecordedCall, AllocError>)
         ensures told { IfOk call (λ it. Tells (told_of self.old) (told_of self.new) (call_of it ∷ [])) }
         ensures lost { OnErr call (told_of self.new ≡ None) }
         ensures notes { Notes self.old self.new }
-        // What is lost leaves the calls before it as they were.
+        // A lost call leaves the calls before it.
         ensures kept { OnErr call (self.new.told.items ≡ self.old.told.items) }
-        // One is lost only where there is no room for it.
+        // A call is lost only if there is no room for it.
         ensures room { IfOk call (λ it. (self.new.told.items ≡ self.old.told.items ++ it ∷ [])
             ⊎ ((self.new.told.items ≡ self.old.told.items) × (vec_capacity self.old.told ≤ vec_len self.old.told))) }
     {

@@ -1,4 +1,4 @@
-//! What is known of the outer terminal.
+//! The known state of the outer terminal.
 ghost use Rattle.std.specs.Prelude.{◌≡◌, ◌↔◌, None, Some, true, false, IsTrue, IfOk, IfSome};
 ghost use Rattle.roam_screens.specs.Shown.{shown_by};
 ghost use Rattle.roam_turns.specs.Painting.{IsNoted, LeadsSized, ShowsSized, text_for};
@@ -35,7 +35,7 @@ impl Model for Outer {
     ghost view = { λ o. o.noted };
 }
 
-// What shows a screen, and what is to be noted then.
+// A text that shows a screen, and the note of that screen.
 #[derive(Drop)]
 pub(crate) struct Painting {
     pub(crate) text: Vec<u8>,
@@ -70,7 +70,7 @@ fn text_over(alloc: Global, noted: &Noted, screen: &Shown<'_>) -> Result<Vec<u8>
     Ok(text)
 }
 
-// The same, also where nothing is noted: the terminal is opened then, and nothing is there that could move.
+// Returns the same, even if nothing is noted: then the terminal is opened, and no rows can move.
 fn moving_text(alloc: Global, noted: &Option<Noted>, screen: &Shown<'_>) -> Result<Vec<u8>, Fault>
     ensures leads { IfOk result (λ text. ShowsSized noted.now text.items (shown_by screen.now)) }
 {
@@ -102,7 +102,7 @@ impl Outer {
         }
     }
 
-    // Whether a screen of this number is noted.
+    // Returns true if a screen of this number is noted.
     pub(crate) fn is_noted(&self, number: u64) -> bool
         ensures noted { IsTrue result ↔ IsNoted number self.now }
     {
@@ -143,9 +143,9 @@ impl Outer {
         })
     }
 
-    /// A text that leads the terminal from what is noted to a screen, which is noted under a number from then on: rows that are there
-    /// already may be moved. Where nothing is noted it opens the terminal first, and each place that isn't blank is written. None where
-    /// that number is noted already or memory is wanting: then what is noted stays.
+    /// Returns a text that leads the terminal from the noted screen to another one, which is noted under a number from then on; rows that
+    /// are there already may be moved. If nothing is noted it opens the terminal first, and writes each place that isn't blank. `None` if
+    /// that number is noted already or there is no memory: then the note stays.
     pub fn paint(&mut self, alloc: Global, number: u64, screen: &Shown<'_>) -> Option<Vec<u8>>
         // The terminal has its size then.
         ensures leads { IfSome result (λ text. LeadsSized self.old text.items self.new) }
@@ -161,8 +161,8 @@ impl Outer {
         Some(painting.text)
     }
 
-    /// Notes a screen under a number, as one that was told in another way than by a text for this terminal; tells whether it is noted.
-    /// Where that number is noted already nothing changes, and where memory is wanting.
+    /// Notes a screen under a number, as one that was sent in another form than a text for this terminal; returns true if it is noted. If
+    /// that number is noted already nothing changes, nor if there is no memory.
     pub fn see(&mut self, alloc: Global, number: u64, screen: &Shown<'_>) -> bool
         ensures noted { result ≡ true → self.new ≡ Some (record { number = number; screen = shown_by screen.now }) }
         ensures stays { result ≡ false → self.new ≡ self.old }
@@ -177,7 +177,7 @@ impl Outer {
         true
     }
 
-    // Notes what was shown, or nothing.
+    // Notes the screen that was shown, or nothing.
     pub(crate) fn note(&mut self, noted: Option<Noted>)
         ensures noted { self.new ≡ noted }
     {

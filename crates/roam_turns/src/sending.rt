@@ -8,7 +8,7 @@ ghost use Rattle.roam_turns.specs.Turns.{Sends, parcel_to};
 use crate::ports::Ports;
 use roam_hub::Addr;
 
-// Sends each datagram to where it goes. Each is dropped once it is sent, so what the ports keep of them takes their place.
+// Sends each datagram to its address. Each is dropped once it is sent, so the ports' copies take their place.
 pub(crate) fn send_parcels<P: Ports>(ports: &mut P, parcels: Vec<(Addr, Vec<u8>)>)
     ensures sends { (calls : List PortCall) × Tells (P.told ports.old) (P.told ports.new) calls × Sends (parcels_in parcels.items) calls }
     ensures written { Keeps (P.written ports.old) (P.written ports.new) }

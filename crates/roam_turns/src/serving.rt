@@ -62,7 +62,7 @@ fn takes_piece(room: Option<usize>) -> bool
     }
 }
 
-// Asks a pane's program for bytes, where the pane is there and would take them.
+// Asks a pane's program for bytes, if the pane is there and would take them.
 fn ask_pane<C: ServerCore, P: Ports>(server: &mut C, ports: &mut P, pane: u8)
     ensures asks { Makes C.step (AsksPane pane) (P.told ports.old) (P.told ports.new)
         (C.made server.old) (C.made server.new) server.old server.new }
@@ -89,7 +89,7 @@ fn ask_panes<C: ServerCore, P: Ports>(server: &mut C, ports: &mut P)
     }
 }
 
-// Hands a pane's program what waits for it; what it took goes.
+// Passes a pane's program its queued bytes; those that it took go.
 fn fill_pane<C: ServerCore, P: Ports>(server: &mut C, ports: &mut P, pane: u8)
     ensures fills { Makes C.step (FillsPane pane) (P.told ports.old) (P.told ports.new)
         (C.made server.old) (C.made server.new) server.old server.new }
@@ -127,10 +127,16 @@ fn tick_and_send<C: ServerCore, P: Ports>(alloc: Global, server: &mut C, ports: 
     }
 }
 
-/// One turn of a server round its ports: the moment; at most 32 datagrams of up to 2,048 bytes, until one receive brings nothing; of each
-/// pane, 1 to 9, which making of it is there, before any of their programs is asked; up to 1,024 bytes of the program of each pane that
-/// would take a full piece; up to 1,024 bytes for the program of each pane, of which what it took goes; and a tick, whose datagrams are
-/// sent. What the server refuses is dropped, and a datagram that isn't sent is lost. It never waits (docs/DECISIONS.md, 58).
+/// Takes one turn of a server with its ports:
+///
+/// 1. the moment, and at most 32 datagrams of up to 2,048 bytes, until one receive brings nothing;
+/// 2. the generation of each pane, 1 to 9, before any of their programs is asked;
+/// 3. up to 1,024 bytes of the program of each pane that would take a full piece;
+/// 4. up to 1,024 bytes for the program of each pane, of which those that it took go;
+/// 5. a tick, whose datagrams are sent.
+///
+/// Whatever the server refuses is dropped, and a datagram that isn't sent is lost. It never waits, so that a slow program or network delays
+/// nobody.
 pub fn serve_turn<C: ServerCore, P: Ports>(alloc: Global, server: &mut C, ports: &mut P)
     ensures turn { Makes C.step ServeTurn (P.told ports.old) (P.told ports.new)
         (C.made server.old) (C.made server.new) server.old server.new }

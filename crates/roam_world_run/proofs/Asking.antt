@@ -1,4 +1,4 @@
--- What is asked of a world, told by what its parts stand for.
+-- The questions to a world, in terms of the models of its parts.
 use Rattle.std.proofs.Common.{◌≡◌, ℕ, List, length, codes, Option, Some, None, refl, sym, subst, ap, ◌++◌, ◌∙◌, append_assoc}
 use Rattle.std.specs.Option.{option_map}
 use Rattle.std.specs.Prelude.{Ok, Err, OnOk, Result, unwrap_or}

@@ -1,4 +1,4 @@
--- What a line does to a script that is being played.
+-- The effect of a line on a script that is being played.
 use Rattle.std.proofs.Common.{◌≡◌, ◌≢◌, ℕ, ◌+◌, List, [], ◌∷◌, ◌++◌, length, Option, Some, None, true, false, ◌⊎◌, inl, inr, refl, sym, ap, subst, ◌∙◌, arith, append_assoc, append-nil, length-append, add-zero, add-one, take, drop, get_or, ◌<◌}
 use Rattle.std.proofs.KnownBytes.{Appends-nil, Appends-trans, Appends-kept, Consumes-trans, Keeps-refl}
 use Rattle.std.proofs.lemmas.List.Concat.{flat_map-append}
@@ -348,7 +348,7 @@ no_bytes k d lt = absurd (omega (arith, lt))
 pub has_end : (begun more : List ℕ) → BeginsWith begun (begun ++ 10 ∷ more)
 has_end begun more = script.whole more (sym (append_assoc begun (10 ∷ []) more))
 
--- ---- at the end of what is read
+-- ---- at the end of the bytes read
 
 module _ (log begun : List ℕ) (before between : Option (List ℕ)) (world : Option WorldView) (counted : ℕ) (f : Fed Before [] log begun
     before between world 0 counted) where

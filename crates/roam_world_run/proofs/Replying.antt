@@ -1,4 +1,4 @@
--- The line of what was sent.
+-- The line of sent datagrams.
 use Rattle.std.proofs.Common.{◌≡◌, ℕ, zero, suc, ◌+◌, ◌-◌, List, [], ◌∷◌, ◌++◌, ◌∙◌, codes, ap, sym, append_assoc, arith, refl}
 use Rattle.std.specs.Fmt.{decimal}
 use Rattle.roam_world_run.specs.Replies.{sent_line}

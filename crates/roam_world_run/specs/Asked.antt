@@ -1,4 +1,4 @@
--- What a script asks of a world, as text (this project's profile).
+-- The questions of a script to a world, as text (this project's profile).
 use Rattle.std.specs.Prelude.{ℕ, List, [], ◌∷◌, ◌++◌, codes, decimal, Option, Some, None, Bool, true, false}
 use Rattle.hex.specs.Hex.{encode_lower}
 use Rattle.roam_cells.specs.declared.faults.Fault.TheVariants.{NoPane}
@@ -14,7 +14,7 @@ use Rattle.roam_show.specs.ShowText.{screen_text}
 abbrev pub shown_text : Client → List ℕ
 shown_text c = codes "state " ++ decimal (shown_number c) ++ codes "\n" ++ screen_text (shown_screen c)
 
--- what the start in a slot shows, where there is one
+-- the screen of the start in a slot, if there is one
 abbrev pub slot_text : (ℕ → Client) → Option ℕ → List ℕ
 slot_text clients None = codes "refused\n"
 slot_text clients (Some id) = shown_text (clients id)
@@ -28,12 +28,12 @@ abbrev pub bytes_line : List ℕ → List ℕ
 bytes_line [] = codes "-\n"
 bytes_line (b ∷ bs) = encode_lower (b ∷ bs) ++ 10 ∷ []
 
--- the bytes that wait for a pane's program; where there is no such pane, that refusal
+-- the bytes queued for a pane's program; if there is no such pane, that refusal
 abbrev pub waiting_text : Option (List ℕ) → List ℕ
 waiting_text None = fault_line NoPane
 waiting_text (Some waiting) = bytes_line waiting
 
--- the text of what a line asks for
+-- the text of a line's question
 abbrev pub asked_in : World → LineValue → Option (List ℕ)
 asked_in w (Show slot) = Some (slot_text w.clients (w.slots slot))
 asked_in w Face = Some (face_text w)

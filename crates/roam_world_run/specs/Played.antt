@@ -1,4 +1,4 @@
--- What the code that plays a script holds at a stage of it, and what its calls do. No public clause speaks of it.
+-- The state of the code that plays a script at a stage of it, and the effects of its calls. No public clause cites it.
 use Rattle.std.specs.Prelude.{◌≡◌, ℕ, ◌+◌, List, ◌++◌, length, Option, Some, None}
 use Rattle.std.specs.Io.KnownBytes.{Appends, Keeps}
 use Rattle.roam_cells.specs.declared.faults.Fault.TheVariants.{OutOfMemory}
@@ -16,7 +16,7 @@ IsAt None (Within session size es rs) = ⊥
 IsAt (Some v) Before = ⊥
 IsAt (Some v) (Within session size es rs) = StandsFor v session size es rs
 
--- what a line says was answered, and the world is at the stage after it
+-- a line was answered, and the world is at the stage after it
 pub record HasAnswer (stage : Stage) (l : LineValue) (answer : List ℕ) (new : Option WorldView) : Type 0 where
   pub left : Stage
   pub answers : Answers stage l answer left

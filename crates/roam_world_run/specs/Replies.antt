@@ -25,7 +25,7 @@ number_of Spent = 15
 number_of BadAct = 16
 number_of Watching = 17
 
--- what a datagram was to a client start
+-- the kind of a datagram to a client start
 abbrev pub heard_line : Hearing → List ℕ
 heard_line IsPart = codes "part\n"
 heard_line IsOld = codes "old\n"
@@ -45,7 +45,7 @@ fault_line fault = codes "E" ++ decimal (number_of fault) ++ codes "\n"
 abbrev pub counted_line : Fault → ℕ → List ℕ
 counted_line fault taken = codes "E" ++ decimal (number_of fault) ++ codes " " ++ decimal taken ++ codes "\n"
 
--- why a datagram to the server was refused: where it may have stopped at an act, with how many were taken before
+-- the reason for which a datagram to the server was refused; if it may have stopped at an act, with how many were taken before
 abbrev pub stop_line : Fault → ℕ → List ℕ
 stop_line OutOfMemory taken = counted_line OutOfMemory taken
 stop_line Busy taken = counted_line Busy taken

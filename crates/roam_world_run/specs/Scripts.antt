@@ -1,4 +1,4 @@
--- What a script of `roam world` prints: the answer to each of its lines (this project's profile).
+-- The output of a script of `roam world`: the answer to each of its lines (this project's profile).
 use Rattle.std.specs.Prelude.{◌≡◌, ◌≢◌, ℕ, ◌+◌, List, [], ◌∷◌, ◌++◌, codes, length, Option, Some, None, Bool, true, false}
 use Rattle.std.specs.List.{All, flat_map}
 use Rattle.std.specs.Io.KnownBytes.{Appends}
@@ -33,7 +33,7 @@ pub record IsEvent (line : List ℕ) (l : LineValue) : Type 0 where
 abbrev pub at_home : ℕ → Address
 at_home port = record { host = 0x7F000001; port = port }
 
--- what a line lets happen; nothing where it begins a session or asks for something
+-- the event of a line; none if it begins a session or asks a question
 abbrev pub event_in : LineValue → Option Event
 event_in (Session id rows cols) = None
 event_in (Start slot id version) = Some (event.Start slot id version false)
@@ -57,8 +57,8 @@ pub data Stage : Type 0 where
 abbrev pub size_of : ℕ → ℕ → SessionSize
 size_of rows cols = record { rows = rows; cols = cols }
 
--- What a line says has this answer, and leaves the script there: a session begins; an event happens, with a reply with which the events
--- reach a world; or what such a world has there is asked.
+-- The answer to a line, and the script then: a session begins; an event happens, with a reply with which the events reach a world; or a
+-- question about such a world.
 pub data Answers (stage : Stage) (l : LineValue) (answer : List ℕ) (left : Stage) : Type 0 where
   begins : (id rows cols : ℕ) → l ≡ Session id rows cols → stage ≡ Before → IsSessionSize rows cols
       → answer ≡ codes "ok\n" → left ≡ Within id (size_of rows cols) [] [] → Answers stage l answer left
@@ -105,14 +105,14 @@ IsBadSession Before (Session id rows cols) = IsSessionSize rows cols → ⊥
 IsBadSession Before l = ⊥
 IsBadSession (Within session size es rs) l = ⊥
 
--- why the line of a number ends a script: it says nothing, or what it says is out of place; or the session is refused
+-- the reasons for which the line of a number ends a script: it has no meaning, or is out of place; or the session is refused
 pub data Ends (stage : Stage) (number : ℕ) (line : List ℕ) (fault : RunFault) : Type 0 where
   unsaid : is_skipped line ≡ false → ((l : LineValue) → IsLine l → Says line l → ⊥) → fault ≡ run.Event number
       → Ends stage number line fault
   misplaced : (l : LineValue) → IsEvent line l → is_in_place stage l ≡ false → fault ≡ run.Event number → Ends stage number line fault
   refused : (l : LineValue) → IsEvent line l → IsBadSession stage l → fault ≡ run.Core BadSize → Ends stage number line fault
 
--- what is left of the bytes read begins with this line: with its end, or without one where nothing follows
+-- the rest of the bytes read begins with this line: with its end, or without one if nothing follows
 pub data BeginsWith (line rest : List ℕ) : Type 0 where
   whole : (more : List ℕ) → rest ≡ ended_line line ++ more → BeginsWith line rest
   last : rest ≡ line → BeginsWith line rest
@@ -123,8 +123,8 @@ pub data IsReason (stage : Stage) (number : ℕ) (rest : List ℕ) (fault : RunF
   no_memory : fault ≡ run.Core OutOfMemory → IsReason stage number rest fault
   ends : (line : List ℕ) → IsOneLine line → BeginsWith line rest → Ends stage number line fault → IsReason stage number rest fault
 
--- a script stopped, where so many lines came before: of the bytes read some lines have their answers, which were written, and the run
--- ended before the answer to the next
+-- A script stopped after so many lines: some lines of the bytes read have their answers, which were written, and the run ended before the
+-- answer to the next.
 pub record Stopped (stage : Stage) (log : List ℕ) (before after : Option (List ℕ)) (number : ℕ) (fault : RunFault) : Type 0 where
   pub lines : List (List ℕ)
   pub rest : List ℕ

@@ -1,4 +1,4 @@
-//! What a script asks of a world: what a client start shows, the session's face, the bytes that wait for a pane's program.
+//! The questions of a script to a world: the screen of a client start, the session's face, the bytes queued for a pane's program.
 
 ghost use Rattle.std.specs.Prelude.{◌≡◌, ◌++◌, Some, true, IfOk, IfSome, IfNone, OnOk, IsOkUnless, string_bytes};
 ghost use Rattle.roam_session.specs.Refusals.{output_at};
@@ -38,7 +38,7 @@ fn push_face(alloc: Global, text: &mut String, world: &World) -> Result<(), Faul
     push_screen(alloc, text, &face)
 }
 
-// Adds bytes in hexadecimal, or a dash where there are none.
+// Appends bytes in hexadecimal, or a dash if there are none.
 fn push_bytes(alloc: Global, text: &mut String, bytes: &[u8]) -> Result<(), AllocError>
     ensures text { OnOk result (string_bytes text.new ≡ string_bytes text.old ++ bytes_line bytes.now) }
 {
@@ -71,7 +71,7 @@ fn push_waiting(alloc: Global, text: &mut String, world: &World, pane: u8) -> Re
     }
 }
 
-/// The text of what a line asks of a world; none where it asks for nothing.
+/// Returns the text of a line's question to a world; `None` if it asks none.
 pub(crate) fn asked(alloc: Global, world: &World, line: &Line) -> Result<Option<String>, Fault>
     ensures asked { IfOk result (λ o. IfSome o (λ text. (w : WorldOf) → Stands world.now w
         → asked_in w (value_of line.now) ≡ Some (string_bytes text))) }

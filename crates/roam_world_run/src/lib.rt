@@ -1,6 +1,6 @@
-//! What `roam world` prints: the answers to the lines of a script.
+//! The output of `roam world`: the answers to the lines of a script.
 //!
-//! It stands below the program, so that its clauses and edits don't pay for reading the command line's library.
+//! It is below the program, so that its clauses and edits don't pay for reading the command line's library.
 #![tactic(auto)]
 
 mod asked;

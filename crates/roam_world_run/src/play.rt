@@ -31,7 +31,7 @@ const PIECE: usize = 1024;
 /// The host of every address in a script.
 const HOST: [u8; 4] = [127, 0, 0, 1];
 
-// What a line lets happen; nothing where it begins a session or asks for something.
+// Returns the event of a line; `None` if it begins a session or asks a question.
 fn event_of(line: Line) -> Option<Event>
     requires line { IsLine (value_of line) }
     ensures event { option_map event_of result ≡ event_in (value_of line) }
@@ -74,7 +74,7 @@ fn happen(alloc: Global, world: &mut World, event: &Event) -> Result<String, Fau
     Ok(text)
 }
 
-// The answer to a line in a world, or none where it is out of place.
+// Returns the answer to a line in a world, or `None` if it is out of place.
 fn answer_in(alloc: Global, world: &mut World, line: Line) -> Result<Option<String>, Fault>
     requires line { IsLine (value_of line) }
     ensures answered { IfOk result (λ o. IfSome o (λ text. (session : ℕ) (size : SessionSize) (es : List EventOf) (rs : List ReplyOf)
@@ -93,7 +93,7 @@ fn answer_in(alloc: Global, world: &mut World, line: Line) -> Result<Option<Stri
     }
 }
 
-// The answer to the line that begins a session, or none where it is another.
+// Returns the answer to the line that begins a session, or `None` if it is another.
 fn begin(alloc: Global, world: &mut Option<World>, line: &Line) -> Result<Option<String>, Fault>
     ensures answered { IfOk result (λ o. IfSome o (λ text. HasAnswer Before (value_of line.now) (string_bytes text) world.new)) }
     ensures misplaced { IfOk result (λ o. IfNone o (is_in_place Before (value_of line.now) ≡ false)) }
@@ -107,7 +107,7 @@ fn begin(alloc: Global, world: &mut Option<World>, line: &Line) -> Result<Option
     Ok(Some(String::from_str(alloc, "ok\n")?))
 }
 
-// The answer to a line, or none where it is out of place.
+// Returns the answer to a line, or `None` if it is out of place.
 fn answer(alloc: Global, world: &mut Option<World>, line: Line) -> Result<Option<String>, Fault>
     requires line { IsLine (value_of line) }
     ensures answered { IfOk result (λ o. IfSome o (λ text. (stage : Stage) → IsAt world.old stage
@@ -158,7 +158,7 @@ impl Play {
         }
     }
 
-    // Plays the lines that end in a piece; what follows the last of them is begun.
+    // Plays the lines that end in a piece; the bytes behind the last of them begin a line.
     fn piece<W: Write>(
         &mut self,
         alloc: Global,
@@ -226,19 +226,19 @@ fn push(begun: &mut Vec<u8>, byte: u8) -> Result<(), Fault>
     Ok(())
 }
 
-/// Plays the script that the reader gives, and writes the answer to each line as soon as it came. A line that says no event, or one out
-/// of place, ends the run with `Event` and its number; a session that is refused ends it with its fault, want of memory with
-/// `OutOfMemory`; a reader that fails, or that hasn't ended after 16,777,216 reads, is `Read`; a writer that fails is `Write`.
+/// Plays the script of the reader, and writes the answer to each line at once. A line that is no event, or one out of place, ends the run
+/// with `Event` and its number. A session that is refused ends it with its fault, want of memory with `OutOfMemory`. `Read` if the reader
+/// fails or hasn't ended after 16,777,216 reads; `Write` if the writer fails.
 pub fn run_world<R: Read, W: Write>(
     alloc: Global,
     reader: &mut R,
     writer: &mut W,
 ) -> Result<(), RunFault>
-    // The reader came to its end, and what was written is the answers to the lines of all bytes read.
+    // The reader came to its end, and the output is the answers to the lines of all bytes read.
     ensures played { OnOk result ((log : List ℕ) × Consumes (R.remaining reader.old) (R.remaining reader.new) log
         × IsAtEnd (R.remaining reader.new)
         × Prints (W.contents writer.old) (W.contents writer.new) log) }
-    // Else what was written is the answers to the lines before the one that ended the run, and why it did.
+    // Else the output is the answers to the lines before the one that ended the run, and its reason.
     ensures stopped { IfErr result (λ fault. (fault ≡ RunFault.Write)
         ⊎ ((log : List ℕ) × Consumes (R.remaining reader.old) (R.remaining reader.new) log
         × Stopped Before log (W.contents writer.old) (W.contents writer.new) 0 fault)) }

@@ -35,7 +35,7 @@ pub(crate) fn number_of(fault: Fault) -> u8
     }
 }
 
-// What a datagram was to a client start, as a line.
+// Returns the kind of a datagram to a client start, as a line.
 fn heard_line(heard: Heard) -> &'static str
     ensures line { result.now ≡ heard_line (hearing_in heard) }
 {
@@ -68,7 +68,7 @@ fn push_counted(text: &mut String, number: u8, taken: usize) -> Result<(), Alloc
     push_numbered(text, " ", taken)
 }
 
-// Adds why a datagram to the server was refused; where it stopped at an act, how many were taken before.
+// Appends the reason for which a datagram to the server was refused; if it stopped at an act, how many were taken before.
 fn push_stop(text: &mut String, stop: Stop) -> Result<(), AllocError>
     ensures text { OnOk result (string_bytes text.new ≡ string_bytes text.old ++ stop_line stop.fault stop.taken) }
 {
