@@ -1,4 +1,4 @@
--- Who reads what is new beside a pane's terminal knows what is so, and each line says what wasn't known before it.
+-- A reader of the metadata lines of a pane knows its metadata, and each line is news.
 use Rattle.std.proofs.Common.{◌≡◌, ℕ, Bool, true, false, cond, eqb, List, [], ◌∷◌, ◌++◌, Option, Some, None, refl, sym, ap, ◌∙◌, subst}
 use Rattle.std.specs.Prelude.{◌≢◌}
 use Rattle.std.specs.List.{fold}
@@ -43,7 +43,7 @@ module _ (p generation : ℕ) (change : MetadataPane → MetadataPane) (keeps : 
         others = λ q apart. ap (λ c. cond c (Some at) (known q)) (ne_eqb q p apart);
       }
 
-  -- a line that is told where this part isn't the same already
+  -- a line that is sent unless this part is the same already
   step : (same : Bool) (b : MetadataPane) (line : MetadataLine) (known : KnownMetadata) → in_generation generation (known p) ≡ b
       → after_metadata known line ≡ learned p generation change known → (same ≡ true → change b ≡ b)
       → Knows p generation (change b) known (fold after_metadata known (cond same [] (line ∷ [])))
@@ -111,7 +111,7 @@ module _ (p : ℕ) (now told : MetadataPane) (known : KnownMetadata) (is : in_ge
   abbrev generation : ℕ
   generation = now.generation
 
-  -- what is known after each of them
+  -- the knowledge after each of them
   abbrev first : KnownMetadata
   first = fold after_metadata known (modes_news p told now)
 

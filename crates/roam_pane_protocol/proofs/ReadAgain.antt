@@ -14,14 +14,14 @@ use Rattle.roam_tokens.specs.Words.{first_word}
 use Rattle.roam_pane_protocol.specs.Reading.{above_zero, close_at, close_in, close_of, generation_alone, generation_and_focus_at, generation_and_focus_in, generation_in, generation_with, pane_in}
 use Rattle.roam_tokens.proofs.Wording.{IsWord, digits_are_word, word_again, word_alone, word_found}
 
--- what stands behind the head of a close
+-- the words behind the head of a close
 abbrev pub words : Close → List ℕ
 words close = decimal close.pane ++ 0x20 ∷ (decimal close.generation ++ focus_text close.focus)
 
 decimal_word : (n : ℕ) → n < 2 ^ 64 → IsWord (decimal n)
 decimal_word n small = digits_are_word 10 (decimal n) (lit≤ tt) (decimal_is_IsNumeral n small).0.1
 
--- ---- what has the text is read
+-- ---- a close with the text is read
 
 not_zero : (n : ℕ) → 1 ≤ n → above_zero (Some n) ≡ Some n
 not_zero n h = let apart : eqb n 0 ≡ false = grind (arith, nat_tests, h) in ap (λ (b : Bool). cond b None (Some n)) apart
@@ -50,7 +50,7 @@ close_again close h =
     ap close_at (word_again (decimal close.pane) (decimal close.generation ++ focus_text close.focus) (pane_word close.pane h.pane))
     ∙ (λ i. close_of (pane_again close.pane h.pane i) (rest_again close.generation close.focus h.generation h.focus i))
 
--- ---- what is read has the text
+-- ---- the close read has the text
 
 above : (o : Option ℕ) (p : ℕ) → above_zero o ≡ Some p → (o ≡ Some p) × (1 ≤ p)
 above None p e = absurd cc
@@ -150,7 +150,7 @@ close_found text close e = by (first_word text) refl e
           text_is = word_found text cut is ∙ (λ i. pane.text_is i ++ 32 ∷ rest.text_is i);
         }
 
--- ---- a line, and what stands behind its head
+-- ---- a line, and the words behind its head
 
 pub line_found : (line behind : List ℕ) (r : Option Close) → line ≡ close_head ++ behind → r ≡ close_in behind
     → IfSome r (λ close. IsClose close × (line ≡ close_text close))
@@ -166,7 +166,7 @@ line_only line behind r e read close is text =
     let rest : behind ≡ words close = ap (drop 6) same in
     read ∙ ap close_in rest ∙ close_again close is
 
--- what is left behind the head
+-- the rest behind the head
 pub behind_head : (line head : List ℕ) (rest : Bor (List ℕ)) → head ≡ close_head
     → (pointwise eqb (take (length head) line) head ≡ true) × (rest.now ≡ drop (length head) line) × (length rest.now
     + length head ≡ length line) → line ≡ close_head ++ rest.now

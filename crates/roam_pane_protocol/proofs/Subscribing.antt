@@ -1,4 +1,4 @@
--- Who reads the lines knows what is so, and each says what wasn't known before it.
+-- A reader of the lines knows the list, and each line is news.
 use Rattle.std.proofs.Common.{◌≡◌, ℕ, zero, suc, ◌-◌, ◌<◌, ◌≤◌, inl, inr, Bool, true, false, ◌&&◌, cond, eqb, List, [], ◌∷◌, ◌++◌, Option, Some, None, refl, sym, ap, ◌∙◌, subst, arith}
 use Rattle.std.specs.Prelude.{◌≢◌, IsSome, IfSome}
 use Rattle.std.specs.List.{fold}
@@ -101,7 +101,7 @@ same_self x =
 differs : (x y : ListedPane) (o : Option ListedPane) → o ≡ Some x → is_same x y ≡ false → o ≢ Some y
 differs x y o e apart h = false≢true (sym apart ∙ ap (same_as x) (sym h ∙ e) ∙ same_self x)
 
--- one where none is known is new
+-- a pane is new if none is known
 unknown : (y : ListedPane) (o : Option ListedPane) → o ≡ None → o ≢ Some y
 unknown y o e h = false≢true (ap (same_as y) (sym e ∙ h) ∙ same_self y)
 
@@ -179,7 +179,7 @@ focus_news false k x y e apart = ((λ h. false≢true (sym apart ∙ eq-eqb x y 
 
 -- ---- how many client starts there are
 
--- who knew this number, and is told another where there is one, knows it where it is known
+-- a reader that knew this number, and reads another one if there is one, knows it
 count_known : (b : Bool) (told now : ℕ) → eqb told now ≡ b → (known : Option ℕ) → known ≡ Some told
     → (then : Option ℕ → Option ℕ) → ((n : ℕ) → then (Some n) ≡ Some n) → then None ≡ known → then (cond b None (Some now)) ≡ Some now
 count_known true told now same known e then some none = none ∙ e ∙ ap (λ (n : ℕ). Some n) (eqb-true told now same)
@@ -191,7 +191,7 @@ count_arrives told None known e then some none = tt
 count_arrives None (Some now) known e then some none = some now
 count_arrives (Some told) (Some now) known e then some none = count_known (eqb told now) told now refl known e then some none
 
--- a number that is told wasn't known
+-- a number that is sent was unknown
 count_news_by : (b : Bool) (told now : ℕ) → eqb told now ≡ b → (known : Option ℕ) → known ≡ Some told
     → IfSome (cond b None (Some now)) (λ n. known ≢ Some n)
 count_news_by true told now same known e = tt
@@ -210,7 +210,7 @@ watchers_told : (o : Option ℕ) (k : Known) → IfSome o (λ n. k.watchers ≢ 
 watchers_told None k h = tt
 watchers_told (Some n) k h = (h, tt)
 
--- a subscriber who is told a number of starts knows of all else what he knew
+-- a number of starts leaves all other knowledge of a subscriber
 record Counts (k m : Known) : Type 0 where
   focus : m.focus ≡ k.focus
   pane : (q : ℕ) → m.pane q ≡ k.pane q
@@ -260,7 +260,7 @@ counts_news told now k e f =
 
 -- ---- all
 
--- what a subscriber knows who read of the panes, and then of the focus
+-- the knowledge of a subscriber that read of the panes, and then of the focus
 abbrev after_panes : PaneList → PaneList → Known
 after_panes told now = fold after (knows told) (lines_to 9 (pane_at told) (pane_at now))
 
@@ -274,7 +274,7 @@ focus_arrives : (told now : PaneList) → Focuses now.focus (after_panes told no
 focus_arrives told now =
     focus_known (eqb told.focus now.focus) (after_panes told now) told.focus now.focus (panes_arrive told now).rest.focus refl
 
--- where the panes, the focus and the numbers of starts are read one after the other
+-- the panes, the focus and the numbers of starts are read one after the other
 read_on : (k : Known) (xs ys zs : List Line) → fold after k ((xs ++ ys) ++ zs) ≡ fold after (fold after (fold after k xs) ys) zs
 read_on k xs ys zs = fold-append after k (xs ++ ys) zs ∙ ap (λ (m : Known). fold after m zs) (fold-append after k xs ys)
 

@@ -1,4 +1,4 @@
--- A title in UTF-8, a character more after another; and what is new of a pane, one part after the other.
+-- A title in UTF-8, one character after another; and the news of a pane, one part after the other.
 use Rattle.std.proofs.Common.{◌≡◌, ℕ, List, [], ◌∷◌, ◌++◌, sym, ap, ◌∙◌, append_assoc, append-nil}
 use Rattle.std.specs.Prelude.{encode_utf8, encode_utf8_all, Option, Some}
 use Rattle.std.proofs.lemmas.Str.{encodes-append}

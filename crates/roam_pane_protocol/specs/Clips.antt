@@ -1,4 +1,4 @@
--- The texts for the clipboard that the programs of a session's panes say, and the lines that tell the new ones (this project's profile).
+-- The clipboard texts of the programs of a session's panes, and the lines that report new ones (this project's profile).
 use Rattle.std.specs.Prelude.{◌≡◌, ◌≢◌, ℕ, ◌==◌, ◌++◌, List, [], ◌∷◌, slice_index_or, Option, Some, None, IfSome, if◌then◌else◌, codes}
 use Rattle.std.specs.List.{flat_map, fold}
 use Rattle.roam_pane_protocol.specs.MetadataLines.{head_text}
@@ -9,7 +9,7 @@ use Rattle.roam_pane_protocol.specs.declared.clip_list.ClipPane.{ClipPane}
 abbrev pub no_clips : ClipList
 no_clips = record { all = None ∷ None ∷ None ∷ None ∷ None ∷ None ∷ None ∷ None ∷ None ∷ None ∷ [] }
 
--- how many texts the program of a pane has said, where the pane is there
+-- the number of clipboard texts of a pane's program, if the pane is there
 abbrev pub clips_at : ClipList → ℕ → Option ClipPane
 clips_at known p = slice_index_or known.all p None
 
@@ -26,31 +26,31 @@ pub record ClipLine : Type 0 where
   pub generation : ℕ
   pub count : ℕ
 
--- a line as it is written, ended by LF, where this is the last text, in base64
+-- the text of a line, ended by LF, with this last clipboard text in base64
 abbrev pub clip_text : List ℕ → ClipLine → List ℕ
 clip_text clip line = head_text (codes "clip ") line.pane line.generation ++ (codes " " ++ (clip ++ codes "\n"))
 
 abbrev pub clip_texts : List ℕ → List ClipLine → List ℕ
 clip_texts clip lines = flat_map (clip_text clip) lines
 
--- ---- what is new
+-- ---- news
 
--- what is new of a generation of a pane, of which so many texts were known
+-- the news of a generation of a pane, of which so many texts were known
 abbrev pub count_news : ℕ → ℕ → ClipPane → List ClipLine
 count_news p known now = if known == now.clips then [] else record { pane = p; generation = now.generation; count = now.clips } ∷ []
 
--- what is new of a pane; of one that isn't there nothing is
+-- the news of a pane; there is none of a pane that isn't there
 abbrev pub clip_lines : ℕ → Option ClipPane → Option ClipPane → List ClipLine
 clip_lines p told None = []
 clip_lines p told (Some now) = count_news p (clips_in now.generation told) now
 
--- ---- who reads them
+-- ---- readers
 
--- what a subscriber knows of each pane
+-- the knowledge of a subscriber about each pane
 abbrev pub KnownClips : Type 0
 KnownClips = ℕ → Option ClipPane
 
--- what he knows after a line
+-- its knowledge after a line
 abbrev pub after_clip : KnownClips → ClipLine → KnownClips
 after_clip known line = λ q. if q == line.pane then Some (record { generation = line.generation; clips = line.count }) else known q
 
@@ -70,12 +70,12 @@ pub record LearnsClips (p : ℕ) (now : Option ClipPane) (old new : KnownClips) 
   pub this : IfSome now (λ c. clips_in c.generation (new p) ≡ c.clips)
   pub others : (q : ℕ) → q ≢ p → new q ≡ old q
 
--- who was told something of a pane, and reads what is new of it, knows then how many texts its program has said
+-- a subscriber that knew something of a pane, and reads the news of it, knows how many clipboard texts its program has set
 abbrev pub ClipsArrive : Type 0
 ClipsArrive =
     (p : ℕ) (known : KnownClips) (now : Option ClipPane)
     → LearnsClips p now known (fold after_clip known (clip_lines p (known p) now))
 
--- each line tells him what he didn't know
+-- each line is news to it
 abbrev pub ClipsAreNews : Type 0
 ClipsAreNews = (p : ℕ) (known : KnownClips) (now : Option ClipPane) → AreClipNews known (clip_lines p (known p) now)

@@ -1,4 +1,4 @@
--- A subscriber's line that closes a pane, and what it comes to (this project's profile).
+-- A subscriber's line that closes a pane, and its effect (this project's profile).
 use Rattle.std.specs.Prelude.{◌≡◌, ◌≤◌, ◌<◌, ◌^◌, ℕ, Bool, true, false, not, ◌==◌, ◌&&◌, nat_le, List, [], ◌∷◌, ◌++◌, Option, Some, None, is_some, IfSome, if◌then◌else◌, codes, decimal}
 use Rattle.roam_pane_protocol.specs.Known.{pane_at}
 use Rattle.roam_pane_protocol.specs.declared.pane_list.ListedPane.{ListedPane}
@@ -17,13 +17,13 @@ close_head = codes "close "
 abbrev pub IsPane : ℕ → Type 0
 IsPane p = (1 ≤ p) × (p ≤ 9)
 
--- a pane, a generation of 64 bits, and a pane again where one is to have the focus
+-- a pane, a generation of 64 bits, and a pane to focus if one is named
 pub record IsClose (close : Close) : Type 0 where
   pub pane : IsPane close.pane
   pub generation : close.generation < 2 ^ 64
   pub focus : IfSome close.focus IsPane
 
--- the pane that is to have the focus, where one is named
+-- the pane to focus, if one is named
 abbrev pub focus_text : Option ℕ → List ℕ
 focus_text None = []
 focus_text (Some p) = 0x20 ∷ decimal p
@@ -32,7 +32,7 @@ focus_text (Some p) = 0x20 ∷ decimal p
 abbrev pub close_text : Close → List ℕ
 close_text close = close_head ++ (decimal close.pane ++ 0x20 ∷ (decimal close.generation ++ focus_text close.focus))
 
--- ---- what it comes to
+-- ---- its effect
 
 -- a pane of this number is there
 abbrev pub is_there : PaneList → ℕ → Bool
@@ -55,11 +55,11 @@ IsAlone known p = (q : ℕ) → is_there known q ≡ true → q ≡ p
 abbrev pub may_follow : PaneList → ℕ → ℕ → Bool
 may_follow known closed p = not (p == closed) && is_there known p
 
--- the pane that has the focus now, where it may have it then
+-- the pane that has the focus now, if it may keep it
 abbrev pub focus_kept : PaneList → ℕ → Option ℕ
 focus_kept known closed = if may_follow known closed known.focus then Some known.focus else None
 
--- the pane that gets the focus after a close: the one that is named, where it may have it; else the one that has it now, where it may
+-- the pane that gets the focus after a close: the named one, if it may have it; else the one that has it now, if it may
 abbrev pub focus_named : PaneList → ℕ → Option ℕ → Option ℕ
 focus_named known closed None = focus_kept known closed
 focus_named known closed (Some p) = if may_follow known closed p then Some p else focus_kept known closed
@@ -67,7 +67,7 @@ focus_named known closed (Some p) = if may_follow known closed p then Some p els
 abbrev pub focus_after : PaneList → Close → Option ℕ
 focus_after known close = focus_named known close.pane close.focus
 
--- where there are acts, this pane gets the focus after them
+-- if there are acts, this pane gets the focus after them
 abbrev pub Acts : Closing → Option ℕ → Type 0
 Acts closing.Gone pane = Unit {0}
 Acts closing.LastPane pane = Unit {0}

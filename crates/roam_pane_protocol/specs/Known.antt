@@ -1,4 +1,4 @@
--- What is known of a session: which panes are there, where and of what size, which is in focus, and how many client starts are kept.
+-- The list of a session: its panes with places and sizes, the focus, and how many client starts are known.
 use Rattle.std.specs.Prelude.{ℕ, Bool, ◌==◌, ◌&&◌, [], ◌∷◌, slice_index_or, Option, None}
 use Rattle.roam_pane_protocol.specs.declared.pane_list.ListedPane.{ListedPane}
 use Rattle.roam_pane_protocol.specs.declared.pane_list.PaneList.{PaneList}
@@ -13,7 +13,7 @@ nothing =
       watchers = None;
     }
 
--- what is known of a pane, where it is there
+-- the entry of a pane, if it is there
 abbrev pub pane_at : PaneList → ℕ → Option ListedPane
 pane_at known p = slice_index_or known.all p None
 

@@ -1,4 +1,4 @@
--- The lines that tell what is new of a session (this project's profile).
+-- The lines that report the news of a session (this project's profile).
 use Rattle.std.specs.Prelude.{◌≡◌, ◌≢◌, ℕ, zero, suc, ◌≤◌, ◌==◌, ◌++◌, List, [], ◌∷◌, Option, Some, None, IsSome, IfSome, if◌then◌else◌, codes, decimal}
 use Rattle.std.specs.List.{flat_map, fold}
 use Rattle.roam_pane_protocol.specs.Known.{pane_at, is_same, most_clients, most_watchers}
@@ -6,7 +6,7 @@ use Rattle.roam_pane_protocol.specs.declared.pane_list.ListedPane.{ListedPane}
 use Rattle.roam_pane_protocol.specs.declared.pane_list.PaneList.{PaneList}
 
 -- a line: a pane of this number is there, of a generation, at a place and of a size; none is there any more; this one is in focus; so many
--- client starts that edit are kept; so many that watch
+-- client starts that type are known; so many read-only ones
 pub data Line : Type 0 where
   Here : ℕ → ListedPane → Line
   Gone : ℕ → Line
@@ -27,7 +27,7 @@ line_text (Watchers n) = codes "watchers " ++ (decimal n ++ (codes " of " ++ (de
 abbrev pub lines_text : List Line → List ℕ
 lines_text lines = flat_map line_text lines
 
--- what is new of a pane: it was made, moved, sized or closed; one of another generation is another pane, and the old one is gone first
+-- the news of a pane: it was made, moved, resized or closed; one of another generation is another pane, and the old one is gone first
 abbrev pub lines_for : ℕ → Option ListedPane → Option ListedPane → List Line
 lines_for p None None = []
 lines_for p None (Some now) = Here p now ∷ []
@@ -37,39 +37,39 @@ lines_for p (Some told) (Some now) =
     else if told.generation == now.generation then Here p now ∷ []
     else Gone p ∷ Here p now ∷ []
 
--- what is new of the panes from 1 to n
+-- the news of the panes from 1 to n
 unfoldable pub lines_to : ℕ → (ℕ → Option ListedPane) → (ℕ → Option ListedPane) → List Line
 lines_to zero told now = []
 lines_to (suc n) told now = lines_to n told now ++ lines_for (suc n) (told (suc n)) (now (suc n))
 
--- where another pane is in focus
+-- the line of the focus, if it moved
 abbrev pub lines_of_focus : ℕ → ℕ → List Line
 lines_of_focus told now = if told == now then [] else Focus now ∷ []
 
--- the number that is to be told: one that is known, and wasn't told before
+-- the number to report: a known one that was not reported before
 abbrev pub count_to_tell : Option ℕ → Option ℕ → Option ℕ
 count_to_tell told None = None
 count_to_tell None (Some now) = Some now
 count_to_tell (Some told) (Some now) = if told == now then None else Some now
 
--- the line of a number that is to be told
+-- the line of a number to report
 abbrev pub line_of_count : (ℕ → Line) → Option ℕ → List Line
 line_of_count line None = []
 line_of_count line (Some count) = line count ∷ []
 
--- where another number of client starts is kept, of either kind
+-- the lines of the numbers of client starts that changed, of either kind
 abbrev pub lines_of_counts : PaneList → PaneList → List Line
 lines_of_counts told now =
     line_of_count Clients (count_to_tell told.clients now.clients) ++ line_of_count Watchers (count_to_tell told.watchers now.watchers)
 
--- what is new of all nine panes, then the focus, and then how many client starts are kept
+-- the news of all nine panes, then the focus, and then the numbers of client starts
 abbrev pub lines_between : PaneList → PaneList → List Line
 lines_between told now =
     (lines_to 9 (pane_at told) (pane_at now) ++ lines_of_focus told.focus now.focus) ++ lines_of_counts told now
 
--- ---- who reads them
+-- ---- readers
 
--- what a subscriber knows
+-- the knowledge of a subscriber
 pub record Known : Type 0 where
   pub pane : ℕ → Option ListedPane
   pub focus : ℕ
@@ -79,7 +79,7 @@ pub record Known : Type 0 where
 abbrev pub knows : PaneList → Known
 knows known = record { pane = pane_at known; focus = known.focus; clients = known.clients; watchers = known.watchers }
 
--- what he knows after a line
+-- its knowledge after a line
 abbrev pub after : Known → Line → Known
 after known (Here p pane) = record known { pane = (λ q. if q == p then Some pane else known.pane q) }
 after known (Gone p) = record known { pane = (λ q. if q == p then None else known.pane q) }
@@ -102,7 +102,7 @@ AreNews known (line ∷ lines) = IsNews known line × AreNews (after known line)
 
 -- ---- the laws
 
--- he knows of each pane and of the focus what is so, and how many client starts are kept where that is known
+-- it knows each pane and the focus, and how many client starts are known if the list has that
 pub record Agrees (known : Known) (now : PaneList) : Type 0 where
   pub panes : (p : ℕ) → 1 ≤ p → p ≤ 9 → known.pane p ≡ pane_at now p
   pub focus : known.focus ≡ now.focus

@@ -1,4 +1,4 @@
--- What is known of what stands beside the terminals of a session's panes.
+-- The metadata of a session's panes, as known.
 use Rattle.std.specs.Prelude.{ℕ, Bool, true, false, ◌==◌, ◌&&◌, [], ◌∷◌, slice_index_or, Option, None, Some, if◌then◌else◌}
 use Rattle.roam_pane_metadata.specs.Settings.{fresh_settings}
 use Rattle.roam_pane_metadata.specs.declared.settings.Settings.{Settings}
@@ -11,7 +11,7 @@ use Rattle.roam_pane_protocol.specs.declared.metadata_list.MetadataPane.{Metadat
 abbrev pub nothing_metadata : MetadataList
 nothing_metadata = record { all = None ∷ None ∷ None ∷ None ∷ None ∷ None ∷ None ∷ None ∷ None ∷ None ∷ [] }
 
--- what stands beside the terminal of a pane, where it is there
+-- the metadata of a pane, if it is there
 abbrev pub metadata_at : MetadataList → ℕ → Option MetadataPane
 metadata_at known p = slice_index_or known.all p None
 
@@ -19,7 +19,7 @@ metadata_at known p = slice_index_or known.all p None
 abbrev pub fresh_metadata : ℕ → MetadataPane
 fresh_metadata generation = record { generation = generation; settings = fresh_settings; titles = 0 }
 
--- what is known of a generation of a pane: of another generation nothing is, and its program has written nothing
+-- the known metadata of a generation of a pane: none is known of another generation, and its program has written nothing
 abbrev pub in_generation : ℕ → Option MetadataPane → MetadataPane
 in_generation generation None = fresh_metadata generation
 in_generation generation (Some b) = if b.generation == generation then b else fresh_metadata generation
@@ -64,7 +64,7 @@ with_bells n b = record b { settings = record b.settings { bells = n } }
 abbrev pub with_titles : ℕ → MetadataPane → MetadataPane
 with_titles n b = record b { titles = n }
 
--- what was told of it to a subscriber who comes now: no bell that rang before is told to him, and all else is
+-- the knowledge assumed of a subscriber that comes now: it gets no bell that rang before, and everything else
 abbrev pub before_told : MetadataPane → MetadataPane
 before_told b = with_bells b.settings.bells (fresh_metadata b.generation)
 

@@ -1,4 +1,4 @@
--- What the programs of a session's panes ask of their terminals, and the lines that tell the new questions (this project's profile).
+-- The questions of the programs of a session's panes, and the lines that report new ones (this project's profile).
 use Rattle.std.specs.Prelude.{◌≡◌, ◌≤◌, ℕ, true, false, ◌==◌, ◌-◌, ◌++◌, List, [], ◌∷◌, length, drop, slice_index_or, Option, Some, None, if◌then◌else◌, codes}
 use Rattle.roam_pane_metadata.specs.declared.queries.Query.{Query}
 use Rattle.roam_pane_metadata.specs.declared.queries.Query.TheVariants.{Foreground, Background, Frames, Pastes, Version}
@@ -11,7 +11,7 @@ use Rattle.roam_pane_protocol.specs.declared.query_list.QueryPane.{QueryPane}
 abbrev pub no_queries : QueryList
 no_queries = record { all = None ∷ None ∷ None ∷ None ∷ None ∷ None ∷ None ∷ None ∷ None ∷ None ∷ [] }
 
--- how many questions the program of a pane has asked, where the pane is there
+-- the number of questions of a pane's program, if the pane is there
 abbrev pub queries_at : QueryList → ℕ → Option QueryPane
 queries_at known p = slice_index_or known.all p None
 
@@ -22,8 +22,8 @@ asked_in generation (Some a) = if a.generation == generation then a.asked else 0
 
 -- ---- as they are written
 
--- what is asked: the colour of text and of what is behind it, with `bell` where BEL ended the question; whether a frame is open, and
--- whether pastes come between brackets, with `set` where it was so; the terminal's name
+-- The question: the colour of text and of the background, with `bell` if BEL ended the question; the state of an update, and of bracketed
+-- paste, with `set` if it was set; the terminal's name.
 abbrev pub query_words : Query → List ℕ
 query_words (Foreground false) = codes "foreground"
 query_words (Foreground true) = codes "foreground bell"
@@ -43,17 +43,17 @@ abbrev pub query_texts : ℕ → ℕ → List Query → List ℕ
 query_texts p generation [] = []
 query_texts p generation (query ∷ queries) = query_text p generation query ++ query_texts p generation queries
 
--- ---- what is new
+-- ---- news
 
--- the lines of what is new of a pane, whose last questions these are; of one that isn't there nothing is
+-- the lines of the news of a pane with these last questions; there are none of a pane that isn't there
 abbrev pub query_lines : ℕ → Option QueryPane → Option QueryPane → List Query → List ℕ
 query_lines p told None last = []
 query_lines p told (Some now) last = query_texts p now.generation (newest (now.asked - asked_in now.generation told) last)
 
 -- ---- the law
 
--- where so many questions were told of those that a program asked, and the last sixteen are kept: what is new are the last sixteen of those
--- that weren't told, each once and in its place
+-- If so many questions of a program were reported, and the last sixteen are kept: the news is the last sixteen of those that weren't
+-- reported, each once and in its place.
 abbrev pub QueriesAreTheNewest : Type 0
 QueriesAreTheNewest = (told : ℕ) (queries : List Query) → told ≤ length queries
     → newest (length queries - told) (newest most_kept queries) ≡ newest most_kept (drop told queries)

@@ -1,4 +1,4 @@
--- How the code reads a subscriber's line, step by step. No public clause speaks of it: what reading means is said by the text of Closes.
+-- The reading of a subscriber's line by the code, step by step. No public clause cites it: the text of Closes defines reading.
 use Rattle.std.specs.Prelude.{ℕ, ◌==◌, List, Option, Some, None, if◌then◌else◌}
 use Rattle.roam_tokens.specs.Numbers.{number_in}
 use Rattle.roam_tokens.specs.Words.{first_word}
@@ -32,7 +32,7 @@ generation_and_focus_at text (Some words) = generation_with (generation_in words
 abbrev pub generation_and_focus_in : List ℕ → Option (ℕ × Option ℕ)
 generation_and_focus_in text = generation_and_focus_at text (first_word text)
 
--- a pane, and what is read behind it
+-- a pane, and the words behind it
 abbrev pub close_of : Option ℕ → Option (ℕ × Option ℕ) → Option Close
 close_of None rest = None
 close_of (Some pane) None = None
@@ -42,6 +42,6 @@ abbrev pub close_at : Option (List ℕ × List ℕ) → Option Close
 close_at None = None
 close_at (Some words) = close_of (pane_in words.0) (generation_and_focus_in words.1)
 
--- the close that stands behind its first word
+-- the close behind its first word
 abbrev pub close_in : List ℕ → Option Close
 close_in text = close_at (first_word text)

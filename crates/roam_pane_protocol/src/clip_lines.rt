@@ -1,4 +1,4 @@
-//! The lines that tell the texts for the clipboard that are new.
+//! The lines that report new clipboard texts.
 ghost use Rattle.std.specs.Prelude.{◌≡◌, ◌++◌, OnOk, IsOkUnless};
 ghost use Rattle.roam_pane_protocol.specs.Clips.{clip_lines, clip_text, clip_texts, clips_in};
 
@@ -26,8 +26,8 @@ fn push_line(
     Ok(())
 }
 
-/// Adds the line `clip P GENERATION BASE64` where the program of a pane has said another text for the clipboard, of which this is the last,
-/// in base64, or nothing. A generation of which nothing was told is one whose program said none. Refuses want of memory.
+/// Appends the line `clip P GENERATION BASE64` if the program of a pane has set another clipboard text; this is the last, in base64, or
+/// nothing. A generation of which nothing was reported counts as one without any. `OutOfMemory`.
 pub fn push_clip(
     alloc: Global,
     text: &mut Vec<u8>,

@@ -11,7 +11,7 @@ pub struct ClipPane {
     pub clips: u64,
 }
 
-// How many are known of a generation of a pane: none, where something else is known.
+// Returns the known count of a generation of a pane: 0 if another one is known.
 pub(crate) fn clips_in(generation: u64, known: Option<ClipPane>) -> u64
     ensures known { result ≡ clips_in generation known }
 {
@@ -44,7 +44,7 @@ impl ClipList {
         self.all[usize::from(pane)] = known;
     }
 
-    /// How many texts the program of a pane has said, where the pane is there.
+    /// Returns the number of clipboard texts of a pane's program, if the pane is there.
     pub fn get(&self, pane: u8) -> Option<ClipPane>
         requires pane { pane < 10 }
         ensures pane { result ≡ clips_at self.now pane }

@@ -1,4 +1,4 @@
-//! A subscriber's line that closes a pane, and what it comes to.
+//! A subscriber's line that closes a pane, and its effect.
 ghost use Rattle.std.specs.Prelude.{◌≡◌, ◌↔◌, ◌==◌, false, true, None, Some, IfSome, MatchOption};
 ghost use Rattle.roam_pane_protocol.specs.declared.closes.Close.{Close as CloseOf};
 ghost use Rattle.roam_pane_protocol.specs.Closes.{Acts, IsAlone, IsClose, close_text, focus_after, is_there, is_making, may_follow};
@@ -8,18 +8,18 @@ use crate::pane_list::PaneList;
 use roam_acts::limits::PANES_END;
 use roam_tokens::{first_word, number};
 
-/// What a subscriber may ask for: a pane, and which making of its number it is, and which pane is to have the focus then.
+/// A subscriber's request: a pane, its generation, and the pane to focus then.
 #[derive(Clone, Copy, Debug, PartialEq, Eq)]
 pub struct Close {
-    /// The pane that is to be closed, 1 to 9.
+    /// The pane to close, 1 to 9.
     pub pane: u8,
     /// Which making of its number is meant.
     pub generation: u64,
-    /// The pane, 1 to 9, that is to have the focus then, where one is named.
+    /// The pane, 1 to 9, to focus then, if one is named.
     pub focus: Option<u8>,
 }
 
-/// What a close comes to.
+/// The effect of a close.
 #[derive(Clone, Copy, Debug, PartialEq, Eq)]
 pub enum Closing {
     /// The pane isn't there, or it is of another making.
@@ -30,7 +30,7 @@ pub enum Closing {
 
     /// It gets the focus and is closed.
     Acts {
-        /// The pane that gets the focus then; where there is none, the layout decides.
+        /// The pane that gets the focus then; if there is none, the layout decides.
         after: Option<u8>,
     },
 }
@@ -45,7 +45,7 @@ fn pane(text: &[u8]) -> Option<u8>
     }
 }
 
-// The generation that a text writes, and the pane that may stand behind it.
+// Returns the generation that a text spells, and the pane that may follow it.
 fn generation_and_focus(text: &[u8]) -> Option<(u64, Option<u8>)>
     ensures both { result ≡ generation_and_focus_in text.now }
 {
@@ -55,7 +55,7 @@ fn generation_and_focus(text: &[u8]) -> Option<(u64, Option<u8>)>
     }
 }
 
-// The close whose words stand behind the first of its line.
+// Returns the close whose words follow the first of its line.
 fn close_behind(text: &[u8]) -> Option<Close>
     ensures close { result ≡ close_in text.now }
 {
@@ -69,10 +69,10 @@ fn close_behind(text: &[u8]) -> Option<Close>
     })
 }
 
-/// What a subscriber's line asks for, without its LF: `close P GENERATION`, or `close P GENERATION F` with the pane that is to have the
-/// focus then; a line that is something else asks for nothing.
+/// Returns the request of a subscriber's line, without its LF: `close P GENERATION`, or `close P GENERATION F` with the pane to focus then.
+/// `None` for any other line.
 pub fn read_close(line: &[u8]) -> Option<Close>
-    // What is read is a close that has this text.
+    // The result is a close that has this text.
     ensures found { IfSome result (λ close. IsClose close × (line.now ≡ close_text close)) }
     // A close that has this text is read.
     ensures only { (close : CloseOf) → IsClose close → line.now ≡ close_text close → result ≡ Some close }
@@ -80,14 +80,14 @@ pub fn read_close(line: &[u8]) -> Option<Close>
     close_behind(line.strip_prefix(b"close ".as_slice())?)
 }
 
-// Whether a pane, 1 to 9, is there.
+// Returns true if a pane, 1 to 9, is there.
 fn is_there(list: &PaneList, pane: u8) -> bool
     ensures there { result ≡ is_there list.now pane }
 {
     pane >= 1 && pane <= 9 && list.get(pane).is_some()
 }
 
-// Whether a pane is there, of this making.
+// Returns true if a pane is there, of this generation.
 fn is_making(list: &PaneList, pane: u8, generation: u64) -> bool
     ensures making { result ≡ is_making list.now pane generation }
 {
@@ -100,7 +100,7 @@ fn is_making(list: &PaneList, pane: u8, generation: u64) -> bool
     }
 }
 
-// Whether no other pane is there.
+// Returns true if no other pane is there.
 fn is_alone(list: &PaneList, pane: u8) -> bool
     ensures alone { result ≡ true ↔ IsAlone list.now pane }
 {
@@ -112,7 +112,7 @@ fn is_alone(list: &PaneList, pane: u8) -> bool
     true
 }
 
-// Whether a pane may have the focus after another is closed.
+// Returns true if a pane may have the focus after another is closed.
 fn may_follow(list: &PaneList, closed: u8, pane: u8) -> bool
     ensures follow { result ≡ may_follow list.now closed pane }
 {
@@ -136,9 +136,9 @@ fn focus_after(list: &PaneList, close: &Close) -> Option<u8>
     }
 }
 
-/// What a close comes to where these panes are there: it is `Gone` where the pane isn't there or is of another making, `LastPane` where no
-/// other is there; else these acts: the pane gets the focus, it is closed, and then a pane gets the focus: the one that is named, where it
-/// is there and stays, else the one that had it before, where it stays, else the one that the layout decides.
+/// Returns the effect of a close with these panes. `Gone` if the pane isn't there or is of another generation, `LastPane` if no other is
+/// there. Else acts: the pane gets the focus, it is closed, and then a pane gets the focus. That is the named one, if it is there and
+/// stays, else the one that had it before, if it stays, else the layout's choice.
 pub fn acts_for(list: &PaneList, close: &Close) -> Closing
     ensures gone { result ≡ Closing.Gone ↔ (is_making list.now close.now.pane close.now.generation ≡ false) }
     ensures last { result ≡ Closing.LastPane

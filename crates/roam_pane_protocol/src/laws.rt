@@ -4,19 +4,18 @@ ghost use Rattle.roam_pane_protocol.specs.MetadataLines.{MetadataArrives, Metada
 ghost use Rattle.roam_pane_protocol.specs.Clips.{ClipsAreNews, ClipsArrive};
 ghost use Rattle.roam_pane_protocol.specs.Lines.{LinesArrive, LinesAreNews};
 
-/// Who reads the lines between what was told and what is so now knows then what is so now.
+/// A reader of the lines between the reported list and the present one knows the present one.
 pub fn lines_arrive()
     ensures arrive { LinesArrive }
 {}
 
-/// Each line says what wasn't known before it: a pane that isn't there is never gone, and neither a pane nor the focus is told twice the
-/// same.
+/// Each line is news: a pane that isn't there is never gone, and neither a pane nor the focus is reported twice.
 pub fn lines_are_news()
     ensures news { LinesAreNews }
 {}
 
-/// Who was told something of what stands beside a pane's terminal, and reads the lines of what is new, knows then what is so: which modes
-/// are set, the shape of the cursor, and how many titles and bells there were.
+/// A reader that knew something of a pane's metadata, and reads the lines of the news, knows the modes, the shape of the cursor, and how
+/// many titles and bells there were.
 pub fn metadata_arrives()
     ensures arrive { MetadataArrives }
 {}
@@ -26,8 +25,7 @@ pub fn metadata_is_news()
     ensures news { MetadataIsNews }
 {}
 
-/// Who was told something of the texts for the clipboard that a pane's program says, and reads the lines of what is new, knows then how
-/// many there are.
+/// A reader that knew something of the clipboard texts of a pane's program, and reads the lines of the news, knows how many there are.
 pub fn clips_arrive()
     ensures arrive { ClipsArrive }
 {}
@@ -37,7 +35,7 @@ pub fn clips_are_news()
     ensures news { ClipsAreNews }
 {}
 
-/// What is told of a program's questions are the last sixteen of those that weren't told, each once and in its place.
+/// The reported questions of a program are the last sixteen of those that weren't reported, each once and in its place.
 pub fn queries_are_the_newest()
     ensures newest { QueriesAreTheNewest }
 {}

@@ -1,4 +1,4 @@
-//! Which panes a session has, how large each is and which is in focus, told in lines to a program that follows it.
+//! The panes of a session, their sizes and the focus, reported in lines to a subscriber.
 #![tactic(auto)]
 
 mod clip_lines;

@@ -1,4 +1,4 @@
-//! The lines that tell what is new of a session.
+//! The lines that report the news of a session.
 ghost use Rattle.std.specs.Prelude.{◌≡◌, ◌++◌, ◌<◌, IfOk, OnOk, IsOkUnless, string_bytes};
 ghost use Rattle.roam_pane_protocol.specs.Known.{is_same};
 ghost use Rattle.roam_pane_protocol.specs.Lines.{Line, Here, Gone, Focus, Clients, Watchers, line_text, lines_text, lines_for, count_to_tell, lines_of_counts, lines_between};
@@ -14,7 +14,7 @@ const MOST_CLIENTS: u16 = 64;
 /// How many client starts that watch a server keeps at most.
 const MOST_WATCHERS: u16 = 16;
 
-// Whether two panes are one, at one place and of one size.
+// Returns true if two panes are equal, at one place and of one size.
 fn is_same(one: ListedPane, other: ListedPane) -> bool
     ensures same { result ≡ is_same one other }
 {
@@ -78,7 +78,7 @@ fn push_watchers(alloc: Global, text: &mut String, count: u16) -> Result<(), Fau
     Ok(())
 }
 
-// The number that is to be told: one that is known, and wasn't told before.
+// Returns the number to report: a known one that was not reported before.
 fn count_to_tell(told: Option<u16>, now: Option<u16>) -> Option<u16>
     ensures count { result ≡ count_to_tell told now }
 {
@@ -90,7 +90,7 @@ fn count_to_tell(told: Option<u16>, now: Option<u16>) -> Option<u16>
     }
 }
 
-// Adds what is new of the numbers of client starts.
+// Appends the news of the numbers of client starts.
 fn push_counts(
     alloc: Global,
     text: &mut String,
@@ -109,7 +109,7 @@ fn push_counts(
     Ok(())
 }
 
-// Adds what is new of a pane. A pane of another generation is another pane: the old one is gone first.
+// Appends the news of a pane. A pane of another generation is another pane: the old one is gone first.
 fn push_pane(
     alloc: Global,
     text: &mut String,
@@ -136,9 +136,9 @@ fn push_pane(
     }
 }
 
-/// The lines that tell a subscriber, who was told something before, what is so now: of each pane in the order of their numbers
-/// `P ROW COL ROWS COLS GENERATION` where it was made, moved or sized and `P gone` where it was closed, then `focus P` where another is in
-/// focus, then `clients N of 64` and `watchers N of 16` where another number of client starts is kept. Refuses want of memory.
+/// Returns the lines between the list that a subscriber knows and the present one. For each pane in the order of their numbers: `P ROW COL
+/// ROWS COLS GENERATION` if it was made, moved or resized, and `P gone` if it was closed. Then `focus P` if another is in focus, then
+/// `clients N of 64` and `watchers N of 16` if those numbers changed. `OutOfMemory`.
 pub fn lines_between(alloc: Global, told: &PaneList, now: &PaneList) -> Result<String, Fault>
     ensures lines { IfOk result (λ text. string_bytes text ≡ lines_text (lines_between told.now now.now)) }
     ensures fault { IsOkUnless result Fault.OutOfMemory }

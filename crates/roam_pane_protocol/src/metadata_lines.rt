@@ -1,4 +1,4 @@
-//! The lines that tell what is new beside the terminals of a session's panes.
+//! The lines that report the news of the metadata of a session's panes.
 ghost use Rattle.std.specs.Prelude.{◌≡◌, ◌++◌, ℕ, List, [], IfOk, OnOk, IsOkUnless, encode_utf8_all, string_bytes};
 ghost use Rattle.hex.specs.Hex.{encode_lower};
 ghost use Rattle.roam_pane_protocol.specs.MetadataLines.{Modes, Shape, Title, Bell, metadata_lines, bell_news, modes_news, shape_news, title_news, word_if, metadata_text, metadata_texts, head_text, keys_word, generation_news, mode_words, tracking_word};
@@ -28,7 +28,7 @@ fn same_flag(one: bool, other: bool) -> bool
     if one { other } else { !other }
 }
 
-// Whether the same modes are set.
+// Returns true if the same modes are set.
 fn same_modes(one: &Settings, other: &Settings) -> bool
     ensures same { result ≡ same_modes one.now other.now }
 {
@@ -52,7 +52,7 @@ fn tracking_word(tracking: Tracking) -> &'static str
     }
 }
 
-// A word where a mode is set.
+// Returns a word if a mode is set.
 fn word_if(is_set: bool, word: &'static str) -> &'static str
     ensures word { result.now ≡ word_if is_set word.now }
 {
@@ -166,7 +166,7 @@ fn push_title(
     Ok(())
 }
 
-// Adds what is new of what a program has set.
+// Appends the news of a program's settings.
 fn push_settings(
     alloc: Global,
     text: &mut String,
@@ -187,7 +187,7 @@ fn push_settings(
     Ok(())
 }
 
-// Adds what is new of what a program has said.
+// Appends the news of a program's titles and bells.
 fn push_said(
     alloc: Global,
     text: &mut String,
@@ -209,10 +209,10 @@ fn push_said(
     Ok(())
 }
 
-/// Adds the lines that tell a subscriber what is new beside the terminal of a pane, whose last title is this, or nothing: `modes P
-/// GENERATION WORDS` where other modes are set, `shape P GENERATION N` where the cursor has another shape, `title P GENERATION HEX` where
-/// another title was said, in UTF-8 and hexadecimal digits, or it was taken back, which is nothing, and `bell P GENERATION` where a bell
-/// rang. A generation of which nothing was told is one whose program wrote nothing. Refuses want of memory.
+/// Appends the lines that report the news of a pane's metadata, with this last title, or none. `modes P GENERATION WORDS` if other modes
+/// are set, and `shape P GENERATION N` if the cursor has another shape. `title P GENERATION HEX` for another title, in UTF-8 and
+/// hexadecimal digits, or a removed one, which is empty. `bell P GENERATION` if a bell rang. A generation of which nothing was reported
+/// counts as one whose program wrote nothing. `OutOfMemory`.
 pub fn push_metadata(
     alloc: Global,
     text: &mut String,

@@ -1,22 +1,22 @@
-//! What is known of what stands beside the terminals of a session's panes.
+//! The metadata of a session's panes, as known.
 ghost use Rattle.std.specs.Prelude.{◌≡◌, ◌<◌, slice_set};
 ghost use Rattle.roam_pane_protocol.specs.MetadataLists.{before_told, metadata_at, in_generation, nothing_metadata, without_new_bells};
 
 use roam_pane_metadata::{Settings, fresh_settings};
 
-/// What stands beside the terminal of a pane: what its program has set, how many bells it rang, and how many titles it said and took back.
+/// The metadata of a pane: the settings of its program, its count of bells, and its count of titles set and removed.
 #[derive(Clone, Copy)]
 pub struct MetadataPane {
     /// Which making of the pane's number it is, counted from 1.
     pub generation: u64,
-    /// What its program has set, and how many bells it rang.
+    /// The settings of its program, and its count of bells.
     pub settings: Settings,
     /// How many titles it said, and how many it took back.
     pub titles: u64,
 }
 
 impl MetadataPane {
-    /// The same, of which a subscriber who comes now is told no bell that rang before: nothing else is told to him yet.
+    /// Returns the metadata that a new subscriber is assumed to know: it gets no bell that rang before.
     pub fn before_it_was_told(&self) -> MetadataPane
         ensures before { result ≡ before_told self.now }
     {
@@ -43,7 +43,7 @@ impl MetadataPane {
     }
 }
 
-/// What is known of a generation of a pane: nothing is set and nothing was said, where something else is known.
+/// Returns the known metadata of a generation of a pane: that of a new program if another one is known.
 pub fn in_generation(generation: u64, known: Option<MetadataPane>) -> MetadataPane
     ensures known { result ≡ in_generation generation known }
 {
@@ -57,7 +57,7 @@ pub fn in_generation(generation: u64, known: Option<MetadataPane>) -> MetadataPa
     }
 }
 
-/// What stands beside the terminals of a session's panes, 1 to 9.
+/// The metadata of a session's panes, 1 to 9.
 #[derive(Clone, Copy)]
 pub struct MetadataList {
     // By the panes' numbers; none is 0.
@@ -72,7 +72,7 @@ impl MetadataList {
         MetadataList { all: [None; 10] }
     }
 
-    /// Puts what stands beside the terminal of a pane.
+    /// Sets the metadata of a pane.
     pub fn set(&mut self, pane: u8, known: Option<MetadataPane>)
         requires pane { pane < 10 }
         ensures set { self.new.all ≡ slice_set self.old.all pane known }
@@ -80,7 +80,7 @@ impl MetadataList {
         self.all[usize::from(pane)] = known;
     }
 
-    /// What stands beside the terminal of a pane, where it is there.
+    /// Returns the metadata of a pane, if it is there.
     pub fn get(&self, pane: u8) -> Option<MetadataPane>
         requires pane { pane < 10 }
         ensures pane { result ≡ metadata_at self.now pane }

@@ -1,4 +1,4 @@
-//! What is known of a session's panes.
+//! The list of a session's panes.
 ghost use Rattle.std.specs.Prelude.{◌≡◌, ◌<◌, Some, slice_set};
 ghost use Rattle.roam_pane_protocol.specs.Known.{nothing, pane_at};
 
@@ -17,14 +17,14 @@ pub struct ListedPane {
     pub cols: u16,
 }
 
-/// What is known of a session: which of its panes, 1 to 9, are there, which is in focus, and how many client starts are kept.
+/// The list of a session: its panes, 1 to 9, the focus, and how many client starts are known.
 #[derive(Clone, Copy)]
 pub struct PaneList {
     // By the panes' numbers; none is 0.
     all: [Option<ListedPane>; 10],
-    // 0 where it isn't known.
+    // 0 if it is unknown.
     focus: u8,
-    // None where it isn't known.
+    // `None` if it is unknown.
     clients: Option<u16>,
     watchers: Option<u16>,
 }
@@ -42,7 +42,7 @@ impl PaneList {
         }
     }
 
-    /// Puts what is known of a pane.
+    /// Sets the entry of a pane.
     pub fn set(&mut self, pane: u8, known: Option<ListedPane>)
         requires pane { pane < 10 }
         ensures set { self.new ≡ record self.old { all = slice_set self.old.all pane known } }
@@ -71,7 +71,7 @@ impl PaneList {
         self.watchers = Some(count);
     }
 
-    /// What is known of a pane, where it is there.
+    /// Returns the entry of a pane, if it is there.
     pub fn get(&self, pane: u8) -> Option<ListedPane>
         requires pane { pane < 10 }
         ensures pane { result ≡ pane_at self.now pane }
@@ -79,21 +79,21 @@ impl PaneList {
         self.all[usize::from(pane)]
     }
 
-    /// The pane that is in focus, 0 where that isn't known.
+    /// Returns the pane in focus, 0 if that is unknown.
     pub fn focus(&self) -> u8
         ensures focus { result ≡ self.now.focus }
     {
         self.focus
     }
 
-    /// How many client starts that edit are kept, where that is known.
+    /// Returns how many client starts that type are known, if the list has that.
     pub fn clients(&self) -> Option<u16>
         ensures starts { result ≡ self.now.clients }
     {
         self.clients
     }
 
-    /// How many client starts that watch are kept, where that is known.
+    /// Returns how many read-only client starts are known, if the list has that.
     pub fn watchers(&self) -> Option<u16>
         ensures watchers { result ≡ self.now.watchers }
     {

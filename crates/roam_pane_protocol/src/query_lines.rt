@@ -1,4 +1,4 @@
-//! The lines that tell the questions that are new.
+//! The lines that report new questions.
 ghost use Rattle.std.specs.Prelude.{◌≡◌, ◌++◌, OnOk, IsOkUnless};
 ghost use Rattle.roam_pane_metadata.specs.Asking.{newest};
 ghost use Rattle.roam_pane_protocol.specs.Queries.{query_lines, query_text, query_texts, asked_in, query_words};
@@ -68,9 +68,8 @@ fn push_lines(
     Ok(())
 }
 
-/// Adds a line `asks P GENERATION WHAT` for each question that the program of a pane has asked and that wasn't told, of the last ones that
-/// are kept, in the order in which they were asked. A generation of which nothing was told is one whose program asked none. Refuses want of
-/// memory.
+/// Appends a line `asks P GENERATION WHAT` for each question of a pane's program that wasn't reported, of the last ones that are kept, in
+/// their order. A generation of which nothing was reported counts as one without any. `OutOfMemory`.
 pub fn push_queries(
     alloc: Global,
     text: &mut Vec<u8>,

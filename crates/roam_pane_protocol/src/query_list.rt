@@ -11,7 +11,7 @@ pub struct QueryPane {
     pub asked: u64,
 }
 
-// How many are known of a generation of a pane: none, where something else is known.
+// Returns the known count of a generation of a pane: 0 if another one is known.
 pub(crate) fn asked_in(generation: u64, known: Option<QueryPane>) -> u64
     ensures known { result ≡ asked_in generation known }
 {
@@ -44,7 +44,7 @@ impl QueryList {
         self.all[usize::from(pane)] = known;
     }
 
-    /// How many questions the program of a pane has asked, where the pane is there.
+    /// Returns the number of questions of a pane's program, if the pane is there.
     pub fn get(&self, pane: u8) -> Option<QueryPane>
         requires pane { pane < 10 }
         ensures pane { result ≡ queries_at self.now pane }

@@ -1,4 +1,4 @@
--- What is true of the predictions that are kept.
+-- The facts about the kept predictions.
 use Rattle.std.proofs.Common.{◌≡◌, ℕ, ◌+◌, Bool, true, false, cond, eqb, List, [], ◌∷◌, length, map, Option, Some, None, refl, ap}
 use Rattle.std.specs.Prelude.{All, IfSome, is_some, nat_lt, not, ◌&&◌, ◌||◌}
 use Rattle.std.proofs.lemmas.List.Elements.{All-cons, All-head, All-nil, All-tail}
@@ -47,7 +47,7 @@ pub written_kept : (number c : ℕ) (row : List Glyph) (predictions : List Predi
     → IfSome (written_prediction number c row predictions col) IsPrediction
 written_kept number c row predictions col = written_by (may_write row predictions col) number c row predictions col
 
--- ---- what is noted of a prediction
+-- ---- the notes of a prediction
 
 noted_by : (b d : Bool) (now : ℕ) (prediction : Prediction) → IsPrediction prediction
     → IsPrediction (cond b prediction (cond d (record prediction { told = Some now }) prediction))

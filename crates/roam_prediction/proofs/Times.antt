@@ -25,7 +25,7 @@ all_told moment (prediction ∷ predictions) =
     All-cons (IsTold moment) (with_told moment prediction) (map (with_told moment) predictions)
     (told_by (is_some prediction.told) (counts moment prediction) moment prediction refl refl) (all_told moment predictions)
 
--- ---- where none is over, all are in time
+-- ---- if none is over, all are in time
 
 in_time : (moment : Moment) (prediction : Prediction) (predictions : List Prediction) (b : Bool) → is_over moment.at prediction ≡ b
     → (b || is_any_over moment.at predictions) ≡ false → IsTold moment prediction → All (IsInTime moment) predictions
@@ -63,7 +63,7 @@ time_ends moment s predictions =
     begun_in_time moment left (is_none left.list && is_ended left.ends_with moment.acknowledged)
     (expired_in_time moment noted (is_any_over moment.at noted.list) refl (all_told moment _))
 
--- ---- where the time of one is over
+-- ---- the time of one is over
 
 over_drops : (predictions : PredictionsOf) (over : Bool) → over ≡ true → cond over (dropped predictions) predictions ≡ dropped predictions
 over_drops predictions true e = refl

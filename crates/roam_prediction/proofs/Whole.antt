@@ -133,7 +133,7 @@ set_unguarded row k x lt none all c h = by (cases_eq c k)
 
 -- ---- all predicted cells
 
--- a row that may stand in a screen
+-- a row that a screen may have
 pub record IsRow (cols : ℕ) (row : List Glyph) : Type 0 where
   pub long : length row ≡ cols
   pub whole : IsWholeRow row

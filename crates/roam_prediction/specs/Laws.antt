@@ -1,4 +1,4 @@
--- What is true of predictions, whatever is typed and shown.
+-- The laws of predictions, whatever is typed and shown.
 use Rattle.std.specs.Prelude.{◌≡◌, ◌≢◌, ◌⊎◌, ℕ, ◌+◌, ◌<◌, Bool, true, false, List, [], ◌∷◌, map, drop, Some, None, is_some, All}
 use Rattle.std.specs.List.{fold}
 use Rattle.roam_acts.specs.declared.acts.Act.{Act}
@@ -11,10 +11,10 @@ use Rattle.roam_prediction.specs.Verdicts.{begun, counts, has_credit, is_any_ove
 use Rattle.roam_prediction.specs.declared.predictions.Prediction.{Prediction}
 use Rattle.roam_prediction.specs.declared.predictions.Moment.{Moment}
 
--- ---- what is shown over a screen
+-- ---- the overlay of a screen
 
--- a screen with predictions over it has its size, and its cursor in the same row, visible or not; it shows the same at each place of
--- another row, at each where no prediction writes, and at each that isn't one cell of one column; there one of one column stands again
+-- A screen with predictions over it has its size, and its cursor in the same row, visible or not. It shows the same at each place of
+-- another row, at each that no prediction writes, and at each that isn't one cell of one column. Any other place gets a cell of one column.
 pub record ChangesPredicted (predictions : PredictionsOf) (s : Screenshot) : Type 0 where
   pub rows : (overlay predictions s).rows ≡ s.rows
   pub cols : (overlay predictions s).cols ≡ s.cols
@@ -32,7 +32,7 @@ pub record ChangesPredicted (predictions : PredictionsOf) (s : Screenshot) : Typ
 abbrev pub OverlayChangesPredicted : Type 0
 OverlayChangesPredicted = (predictions : PredictionsOf) (s : Screenshot) → IsScreenshot s → All IsPrediction predictions.list → ChangesPredicted predictions s
 
--- where an epoch isn't trusted, or nothing is predicted, the screen itself is shown
+-- if an epoch isn't trusted, or nothing is predicted, the screen itself is shown
 pub record ShowsScreen (predictions : PredictionsOf) (s : Screenshot) : Type 0 where
   pub hidden : predictions.trusted ≡ false → overlay predictions s ≡ s
   pub none : predictions.list ≡ [] → overlay predictions s ≡ s
@@ -57,7 +57,7 @@ pub record IsTrustedByScreens (predictions : PredictionsOf) : Type 0 where
 abbrev pub TrustIsEarned : Type 0
 TrustIsEarned = (predictions : PredictionsOf) → IsTrustedByScreens predictions
 
--- where an act wasn't predicted, nothing more is predicted until another epoch begins, which has no prediction and isn't trusted
+-- if an act wasn't predicted, nothing more is predicted until another epoch begins, which has no prediction and isn't trusted
 pub record EndsWithAct (predictions : PredictionsOf) : Type 0 where
   pub typed : (number : ℕ) (act : Act) (s : Screenshot) → (typed_by number act s predictions).list ≡ predictions.list
   pub seen : (moment : Moment) (s : Screenshot) → (seen_by moment s predictions).ends_with ≡ None → seen_by moment s predictions ≡ none
@@ -67,8 +67,8 @@ EpochsEnd = (predictions : PredictionsOf) (last : ℕ) → predictions.ends_with
 
 -- ---- whole runs
 
--- what comes to predictions: an act is typed where a screen is shown; acts are typed that aren't to be predicted, the last one of a number;
--- a screen is seen that follows the one before, or one that doesn't
+-- An event of predictions: an act is typed over a shown screen; acts are typed that aren't predicted, the last one of a number; a screen is
+-- seen that follows the one before, or one that doesn't.
 pub data Step : Type 0 where
   Typed : (number : ℕ) → (act : Act) → (shown : Screenshot) → Step
   Passed : (number : ℕ) → Step
@@ -94,7 +94,7 @@ abbrev pub NoneConfirms : PredictionsOf → List Step → Type 0
 NoneConfirms predictions [] = Unit {0}
 NoneConfirms predictions (step ∷ steps) = (confirms predictions step ≡ false) × NoneConfirms (after predictions step) steps
 
--- whatever comes in an epoch that isn't trusted: where no screen confirms a prediction with credit, the screen itself is shown
+-- in an epoch that isn't trusted the screen itself is shown, whatever happens, unless a screen confirms a prediction with credit
 abbrev pub UnconfirmedIsHidden : Type 0
 UnconfirmedIsHidden =
     (predictions : PredictionsOf) (steps : List Step) (s : Screenshot) → predictions.trusted ≡ false → NoneConfirms predictions steps
@@ -115,8 +115,7 @@ pub data ShowsNoMore (before predictions : PredictionsOf) : Type 0 where
       → ShowsNoMore before predictions
   untrusted : predictions.trusted ≡ false → ShowsNoMore before predictions
 
--- After what ends an epoch nothing more is shown than what was predicted before, until a screen confirms with credit a prediction of
--- another.
+-- After the end of an epoch nothing is shown beyond the earlier predictions, until a screen confirms with credit a prediction of another.
 abbrev pub EndedShowsNoMore : Type 0
 EndedShowsNoMore =
     (before : PredictionsOf) (last : ℕ) (steps : List Step) → before.ends_with ≡ Some last → NoneEarns before steps
@@ -134,8 +133,8 @@ pub record IsInTime (moment : Moment) (prediction : Prediction) : Type 0 where
 abbrev pub TimeEnds : Type 0
 TimeEnds = (moment : Moment) (s : Screenshot) (predictions : PredictionsOf) → All (IsInTime moment) (seen_by moment s predictions).list
 
--- Where the time of a prediction is over that a screen doesn't confirm, as of a key that isn't echoed, none is left and the epoch isn't
--- trusted: so nothing is shown until a prediction that is made later is confirmed with credit.
+-- If the time of a prediction is over and a screen doesn't confirm it, as for a key that isn't echoed, none is left and the epoch isn't
+-- trusted. So nothing is shown until a later prediction is confirmed with credit.
 abbrev pub UnechoedEnds : Type 0
 UnechoedEnds = (moment : Moment) (s : Screenshot) (predictions : PredictionsOf) → is_any_over moment.at (left_by moment s predictions).list ≡ true
     → ((seen_by moment s predictions).list ≡ []) × ((seen_by moment s predictions).trusted ≡ false)

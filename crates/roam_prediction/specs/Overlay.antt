@@ -1,4 +1,4 @@
--- A screen with what is predicted over it.
+-- A screen with predictions over it.
 use Rattle.std.specs.Prelude.{ℕ, ◌-◌, Bool, ◌&&◌, nat_le, List, [], ◌∷◌, length, slice_set, Option, None, Some, if◌then◌else◌}
 use Rattle.roam_cells.specs.Glyph.{Glyph}
 use Rattle.roam_cells.specs.Place.{glyph_at, row_of}
@@ -8,11 +8,11 @@ use Rattle.roam_prediction.specs.Predictions.{PredictionsOf, are_shown, is_narro
 use Rattle.roam_prediction.specs.declared.predictions.Prediction.{Prediction}
 use Rattle.roam_prediction.specs.declared.predictions.Place.{Place}
 
--- whether a row has a column, from 1, where a cell of one column stands
+-- true if a row has a column, from 1, with a cell of one column
 abbrev pub has_place : List Glyph → ℕ → Bool
 has_place row col = nat_le 1 col && (nat_le col (length row) && is_narrow (glyph_at row (col - 1)))
 
--- a row with a predicted cell, where it has its place
+-- a row with a predicted cell, if it has its place
 abbrev pub with_place : List Glyph → Option Place → List Glyph
 with_place row None = row
 with_place row (Some place) = if has_place row place.col then slice_set row (place.col - 1) place.cell else row
@@ -27,7 +27,7 @@ abbrev pub last_column : ℕ → List Prediction → ℕ
 last_column col [] = col
 last_column col (prediction ∷ predictions) = last_column prediction.after predictions
 
--- a column where the screen has it, else the one where the cursor stands
+-- a column if the screen has it, else the cursor's
 abbrev pub column_in : ℕ → ℕ → ℕ → ℕ
 column_in cols here col = if nat_le 1 col && nat_le col cols then col else here
 
@@ -41,6 +41,6 @@ predicted s predictions =
     with_cursor s.cursor_row (column_in s.cols s.cursor_col (last_column s.cursor_col predictions)) s.visible
     (with_row (s.cursor_row - 1) (with_predictions (cursor_line s) predictions) s)
 
--- the screen with what is shown of the predictions
+-- the screen with the shown predictions
 abbrev pub overlay : PredictionsOf → Screenshot → Screenshot
 overlay predictions s = if are_shown predictions then predicted s predictions.list else s

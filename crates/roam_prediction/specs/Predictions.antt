@@ -1,4 +1,4 @@
--- Predictions: what keys are predicted to show in the row of the cursor (this project's profile, after Mosh's speculative local echo).
+-- Predictions of the effect of keys in the row of the cursor (this project's profile, after Mosh's speculative local echo).
 use Rattle.std.specs.Prelude.{◌≡◌, ℕ, ◌-◌, ◌==◌, ◌≤◌, Bool, true, false, not, ◌&&◌, List, [], ◌∷◌, length, Option, None, Some, IfSome, All, Vec, if◌then◌else◌}
 use Rattle.std.specs.Vec.{vec_capacity}
 use Rattle.std.specs.declared.alloc.Global.{Global}
@@ -18,8 +18,8 @@ grace = 100
 abbrev pub longest : ℕ
 longest = 150
 
--- all that is predicted: the predictions in the order of their acts, whether one of their epoch was confirmed with credit, and the act,
--- where one wasn't predicted, with which their epoch ends
+-- all predictions in the order of their acts, whether one of their epoch was confirmed with credit, and the act, if one wasn't predicted,
+-- with which their epoch ends
 pub record PredictionsOf : Type 0 where
   pub list : List Prediction
   pub trusted : Bool
@@ -29,7 +29,7 @@ pub record PredictionsOf : Type 0 where
 abbrev pub none : PredictionsOf
 none = record { list = []; trusted = false; ends_with = None }
 
--- the number of the last of these predictions, or another one where there is none
+-- the number of the last of these predictions, or another one if there is none
 abbrev pub last_of : Option ℕ → List Prediction → Option ℕ
 last_of before [] = before
 last_of before (prediction ∷ predictions) = last_of (Some prediction.number) predictions
@@ -39,8 +39,8 @@ abbrev pub last_act : Option ℕ → List Prediction → Option ℕ
 last_act None predictions = last_of None predictions
 last_act (Some number) predictions = Some number
 
--- all predictions go, the epoch isn't trusted any more, and nothing more is predicted until what was typed is acknowledged, since where it
--- goes isn't known
+-- all predictions go, the epoch isn't trusted any more, and nothing more is predicted until the typed acts are acknowledged, since their
+-- places are unknown
 abbrev pub dropped : PredictionsOf → PredictionsOf
 dropped predictions = record { list = []; trusted = false; ends_with = last_act predictions.ends_with predictions.list }
 
@@ -70,7 +70,7 @@ are_shown predictions = predictions.trusted && not (is_none predictions.list)
 abbrev pub is_narrow : Glyph → Bool
 is_narrow cell = not (is_wide cell) && not (is_right_half cell)
 
--- a cell of one column without a guard, so that it may stand wherever such a one stands
+-- a cell of one column without a guard, so that it may take the place of any such cell
 pub record MayStand (place : Place) : Type 0 where
   pub narrow : is_narrow place.cell ≡ true
   pub unguarded : place.cell.guarded ≡ false
@@ -78,7 +78,7 @@ pub record MayStand (place : Place) : Type 0 where
 abbrev pub IsPrediction : Prediction → Type 0
 IsPrediction prediction = IfSome prediction.place MayStand
 
--- what is true of the predictions that are kept
+-- the facts about the kept predictions
 pub record IsKept (list : Vec Prediction Global) : Type 0 where
   pub few : length list.items ≤ most_predictions
   pub room : most_predictions ≤ vec_capacity list

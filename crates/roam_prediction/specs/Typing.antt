@@ -1,4 +1,4 @@
--- What a key is predicted to show where this screen is shown (this project's profile, after Mosh's speculative local echo).
+-- The predicted effect of a key over this screen (this project's profile, after Mosh's speculative local echo).
 use Rattle.std.specs.Prelude.{ℕ, ◌+◌, ◌-◌, ◌==◌, Bool, true, false, not, ◌&&◌, ◌||◌, nat_lt, nat_le, List, [], ◌∷◌, ◌++◌, length, drop, Option, None, Some, is_some, if◌then◌else◌}
 use Rattle.std.specs.Str.{bytes_eq}
 use Rattle.roam_acts.specs.declared.acts.Act.{Act}
@@ -26,7 +26,7 @@ kind_of_key key.Left = Back
 kind_of_key key.Right = Forth
 kind_of_key _ = Other
 
--- what an act does where it is predicted
+-- the effect of an act if it is predicted
 abbrev pub kind_of : Act → Kind
 kind_of (act.Key k) = kind_of_key k
 kind_of _ = Other
@@ -37,11 +37,11 @@ kind_of _ = Other
 abbrev pub is_space : Glyph → Bool
 is_space cell = bytes_eq cell.points (32 ∷ [])
 
--- U+2502, the border between two panes that stand side by side
+-- U+2502, the border between two panes side by side
 abbrev pub is_border : Glyph → Bool
 is_border cell = bytes_eq cell.points (0x2502 ∷ [])
 
--- nothing but spaces stands before the border of the pane, or the end of the row
+-- there are only spaces before the border of the pane, or the end of the row
 abbrev pub is_blank_to_edge : List Glyph → Bool
 is_blank_to_edge [] = true
 is_blank_to_edge (cell ∷ cells) = if is_space cell then is_blank_to_edge cells else is_border cell
@@ -52,11 +52,11 @@ has_room [] = false
 has_room (first ∷ []) = false
 has_room (first ∷ second ∷ cells) = is_space first && (is_space second && is_blank_to_edge cells)
 
--- a column, from 1, of a pane, where a cell of one column stands
+-- a column, from 1, of a pane, with a cell of one column
 abbrev pub is_inside : List Glyph → ℕ → Bool
 is_inside row col = has_place row col && not (is_border (glyph_at row (col - 1)))
 
--- ---- what is predicted already
+-- ---- earlier predictions
 
 abbrev pub place_in : Option Place → ℕ → Option Glyph
 place_in None col = None
@@ -79,7 +79,7 @@ abbrev pub is_blank : Option Glyph → Bool
 is_blank None = true
 is_blank (Some cell) = is_space cell
 
--- what is predicted stands before a column, or is blank in the end
+-- the earlier predictions are before a column, or blank in the end
 abbrev pub is_place_clear : List Prediction → Option Place → ℕ → Bool
 is_place_clear all None col = true
 is_place_clear all (Some place) col = nat_lt place.col col || is_blank (latest all place.col)
@@ -104,7 +104,7 @@ abbrev pub style_or : Option Glyph → Glyph → Style
 style_or None cell = cell.style
 style_or (Some predicted) cell = predicted.style
 
--- the style of what stands left of a column within the pane, else the default
+-- the style of the cell left of a column within the pane, else the default
 abbrev pub style_left : List Glyph → List Prediction → ℕ → Style
 style_left row predictions col =
     if is_inside row (col - 1) then style_or (latest predictions (col - 1)) (glyph_at row (col - 2)) else default_style
@@ -113,7 +113,7 @@ style_left row predictions col =
 abbrev pub differs : Glyph → Glyph → Bool
 differs cell predicted = not (bytes_eq cell.points predicted.points)
 
--- the prediction that a cell stands in a column
+-- the prediction of a cell in a column
 abbrev pub prediction_with : ℕ → List Glyph → ℕ → Glyph → ℕ → Prediction
 prediction_with number row col cell after =
     record {
@@ -133,7 +133,7 @@ abbrev pub with_cell : ℕ → List Glyph → ℕ → ℕ → Option Glyph → O
 with_cell number row col after None = None
 with_cell number row col after (Some cell) = Some (prediction_with number row col cell after)
 
--- a character may be written in a column: the rest of the row is blank and has a place more, and no half of a wide one stands beside
+-- a character may be written in a column: the rest of the row is blank and has a place more, and no half of a wide one is beside it
 abbrev pub may_write : List Glyph → List Prediction → ℕ → Bool
 may_write row predictions col =
     (nat_le 1 col && (nat_le col (length row) && has_room (drop (col - 1) row)))
@@ -147,7 +147,7 @@ written_prediction number c row predictions col =
 abbrev pub may_go_back : List Glyph → ℕ → Bool
 may_go_back row col = nat_le 2 col && is_inside row (col - 1)
 
--- what was predicted there is blank
+-- the earlier prediction there is blank
 abbrev pub erased : ℕ → List Glyph → ℕ → Option Glyph → Option Prediction
 erased number row col None = Some (moved_prediction number (col - 1))
 erased number row col (Some cell) = with_cell number row (col - 1) (col - 1) (narrow_cell 32 cell.style)
@@ -162,7 +162,7 @@ abbrev pub forth_prediction : ℕ → List Glyph → ℕ → Option Prediction
 forth_prediction number row col =
     if nat_lt col (length row) && (is_inside row col && is_inside row (col + 1)) then Some (moved_prediction number (col + 1)) else None
 
--- what an act of a kind is predicted to show, where the cursor stands in a column of a row
+-- the prediction of an act of a kind, with the cursor in a column of a row
 abbrev pub prediction_of : ℕ → Kind → List Glyph → List Prediction → ℕ → Option Prediction
 prediction_of number (Write c) row predictions col = written_prediction number c row predictions col
 prediction_of number Erase row predictions col = erased_prediction number row predictions col
@@ -179,7 +179,7 @@ prediction_for number act s predictions =
     if may_grow predictions && s.visible
     then prediction_of number (kind_of act) (cursor_line s) predictions.list (last_column s.cursor_col predictions.list) else None
 
--- what was typed up to an act isn't predicted: the epoch ends with it
+-- acts up to this one aren't predicted: the epoch ends with it
 abbrev pub ended_with : ℕ → PredictionsOf → PredictionsOf
 ended_with number predictions = record predictions { ends_with = Some number }
 
@@ -187,6 +187,6 @@ abbrev pub with_prediction_or_end : ℕ → PredictionsOf → Option Prediction 
 with_prediction_or_end number predictions None = ended_with number predictions
 with_prediction_or_end number predictions (Some prediction) = record predictions { list = predictions.list ++ prediction ∷ [] }
 
--- the predictions after an act: what it shows is predicted, or the epoch ends with it
+-- the predictions after an act: its effect is predicted, or the epoch ends with it
 abbrev pub typed_by : ℕ → Act → Screenshot → PredictionsOf → PredictionsOf
 typed_by number act s predictions = with_prediction_or_end number predictions (prediction_for number act s predictions)

@@ -13,7 +13,7 @@ use Rattle.roam_prediction.specs.declared.predictions.Place.{Place}
 
 -- ---- right
 
--- a row shows a predicted cell's code points where it is predicted
+-- a row shows a predicted cell's code points at its place
 abbrev pub shows_place : List Glyph → Option Place → Bool
 shows_place row None = false
 shows_place row (Some place) = has_place row place.col && bytes_eq (glyph_at row (place.col - 1)).points place.cell.points
@@ -45,12 +45,12 @@ abbrev pub count_right : List Glyph → ℕ → List Prediction → ℕ
 count_right row col [] = 0
 count_right row col (prediction ∷ predictions) = if is_right row col (prediction ∷ predictions) then 1 + count_right row col predictions else 0
 
--- one is confirmed with credit: what is shown is what it says, and wasn't so before
+-- one is confirmed with credit: the screen shows its cell, and didn't before
 abbrev pub has_credit : List Glyph → List Prediction → Bool
 has_credit row [] = false
 has_credit row (prediction ∷ predictions) = (prediction.credit && shows row prediction) || has_credit row predictions
 
--- the predictions that are right go, and their epoch is trusted where one of them had credit
+-- right predictions go, and their epoch is trusted if one of them had credit
 abbrev pub confirmed : List Glyph → ℕ → PredictionsOf → PredictionsOf
 confirmed row col predictions =
     record {
@@ -68,7 +68,7 @@ with_since now prediction = if is_some prediction.since then prediction else rec
 abbrev pub waiting : ℕ → PredictionsOf → PredictionsOf
 waiting now predictions = record predictions { list = map (with_since now) predictions.list }
 
--- an acknowledgement counts once a prediction has waited so long, since an echo comes after it, and later where the network loses
+-- an acknowledgement counts once a prediction has waited so long, since an echo comes after it, and later if the network loses datagrams
 abbrev pub least_wait : Moment → ℕ
 least_wait moment = min moment.delay longest
 
@@ -93,7 +93,7 @@ abbrev pub is_any_over : ℕ → List Prediction → Bool
 is_any_over now [] = false
 is_any_over now (prediction ∷ predictions) = is_over now prediction || is_any_over now predictions
 
--- where the time of one is over all go, as those behind it stand where it would
+-- if the time of one is over all go, since those behind it depend on its place
 abbrev pub expired : ℕ → PredictionsOf → PredictionsOf
 expired now predictions = if is_any_over now predictions.list then dropped predictions else predictions
 
@@ -103,14 +103,14 @@ left_by moment s predictions =
     let right = confirmed (cursor_line s) s.cursor_col (waiting moment.at predictions) in
     record right { list = map (with_told moment) right.list }
 
--- what a screen tells of the predictions: which are right, which acknowledgements count, and whether the time of one is over
+-- the verdict of a screen on the predictions: the right ones, the acknowledgements that count, and whether the time of one is over
 abbrev pub judged : Moment → Screenshot → PredictionsOf → PredictionsOf
 judged moment s predictions = expired moment.at (left_by moment s predictions)
 
 -- ---- epochs
 
--- a screen follows another by itself or by predictions: its size, its status row and the cursor's row are the same, the cursor is visible,
--- and stands where it stood or where a prediction brings it
+-- A screen follows another by itself or by predictions: its size, its status row and the cursor's row are the same. The cursor is visible,
+-- and is at its old place or at one that a prediction brings it to.
 pub record Follows (before s : Screenshot) (predictions : List Prediction) : Type 0 where
   pub rows : before.rows ≡ s.rows
   pub cols : before.cols ≡ s.cols
@@ -124,6 +124,6 @@ abbrev pub is_ended : Option ℕ → ℕ → Bool
 is_ended None acknowledged = false
 is_ended (Some number) acknowledged = nat_le number acknowledged
 
--- another epoch begins hidden where the act with which this one ends is acknowledged, and no prediction is left
+-- another epoch begins hidden if the act with which this one ends is acknowledged, and no prediction is left
 abbrev pub begun : ℕ → PredictionsOf → PredictionsOf
 begun acknowledged predictions = if is_none predictions.list && is_ended predictions.ends_with acknowledged then none else predictions

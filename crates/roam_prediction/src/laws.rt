@@ -1,8 +1,8 @@
 //! Laws of the definitions, each the contract of a function that does nothing when it runs.
 ghost use Rattle.roam_prediction.specs.Laws.{EndedShowsNoMore, EpochsEnd, NothingShows, OverlayChangesPredicted, TimeEnds, TrustIsEarned, UnconfirmedIsHidden, UnechoedEnds};
 
-/// What is shown over a screen differs from it in the row of the cursor alone, at places where a prediction writes and a cell of one column
-/// stands, and there one of one column stands again.
+/// An overlay differs from its screen in the row of the cursor only, at predicted places with a cell of one column, and has a cell of one
+/// column there.
 pub fn overlay_changes_predicted()
     ensures changes { OverlayChangesPredicted }
 {}
@@ -27,20 +27,20 @@ pub fn epochs_end()
     ensures ends { EpochsEnd }
 {}
 
-/// After what ends an epoch, whatever is typed and seen, nothing more is shown than what was predicted before, until a screen confirms with
+/// After the end of an epoch, whatever is typed and seen, nothing is shown beyond the earlier predictions, until a screen confirms with
 /// credit a prediction of another epoch.
 pub fn ended_shows_no_more()
     ensures ends { EndedShowsNoMore }
 {}
 
-/// Where a screen doesn't confirm a prediction whose time is over, as of a key that isn't echoed, no prediction is left and the epoch isn't
+/// If a screen doesn't confirm a prediction whose time is over, as for a key that isn't echoed, no prediction is left and the epoch isn't
 /// trusted.
 pub fn unechoed_ends()
     ensures ends { UnechoedEnds }
 {}
 
-/// After a screen is seen no prediction is left whose acknowledgement counted a tenth of a second before or earlier; and an acknowledgement
-/// counts 150 ms after its prediction was seen first at the latest.
+/// After a screen is seen no prediction is left whose acknowledgement counted a tenth of a second before or earlier. An acknowledgement
+/// counts at the latest 150 ms after its prediction was seen first.
 pub fn time_ends()
     ensures ends { TimeEnds }
 {}

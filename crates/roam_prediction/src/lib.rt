@@ -1,7 +1,7 @@
-//! What keys are predicted to show, over the screen that is shown.
+//! Predictions of the effect of keys, over the screen that is shown.
 //!
-//! It holds no screen and no act: what is typed goes to the session as it came, and what is shown stays as it was told. Predictions stand
-//! in the row of the cursor; they are made and confirmed as in Mosh's speculative local echo, by epochs that begin hidden.
+//! The crate keeps no screen and no act: typed acts go to the session unchanged, and the screen stays as it was sent. Predictions are in
+//! the row of the cursor. They are made and confirmed as in Mosh's speculative local echo, by epochs that begin hidden.
 #![tactic(auto)]
 
 pub mod laws;

@@ -1,4 +1,4 @@
-//! A screen with what is predicted over it.
+//! A screen with predictions over it.
 ghost use Rattle.std.specs.Prelude.{◌≡◌, IfOk, IsOkUnless};
 ghost use Rattle.roam_prediction.specs.Overlay.{column_in, has_place, last_column, overlay, with_predictions, with_place};
 
@@ -7,14 +7,14 @@ use roam_cells::{Cell, Fault};
 use roam_screens::{RowShot, Seen};
 use std::alloc::Global;
 
-// Whether a row has a column, from 1, where a cell of one column stands.
+// Returns true if a row has a column, from 1, with a cell of one column.
 pub(crate) fn has_place(row: &[Cell], col: u16) -> bool
     ensures place { result ≡ has_place row.now col }
 {
     1 <= col && col as usize <= row.len() && row[col as usize - 1].is_narrow()
 }
 
-// Puts a predicted cell into a row, where it has its place.
+// Puts a predicted cell into a row, if it has its place.
 fn put(row: &mut [Cell], place: Option<Place>)
     ensures put { row.new ≡ with_place row.old place }
 {
@@ -47,7 +47,7 @@ pub(crate) fn last_column(col: u16, predictions: &[Prediction]) -> u16
     last_column(predictions[0].after, &predictions[1..])
 }
 
-// A column where a row has it, else the one where the cursor stands.
+// Returns a column if a row has it, else the cursor's.
 fn column_in(cols: u16, here: u16, col: u16) -> u16
     ensures column { result ≡ column_in cols here col }
 {
@@ -55,7 +55,7 @@ fn column_in(cols: u16, here: u16, col: u16) -> u16
 }
 
 impl Predictions {
-    /// The screen with what is shown of the predictions; where nothing is, the screen itself. Refuses want of memory.
+    /// Returns the screen with the shown predictions; the screen itself if there are none. `OutOfMemory`.
     pub fn over(&self, alloc: Global, shown: &RowShot) -> Result<RowShot, Fault>
         ensures overlay { IfOk result (λ over. over ≡ overlay self.now shown.now) }
         ensures fault { IsOkUnless result Fault.OutOfMemory }

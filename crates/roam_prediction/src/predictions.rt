@@ -1,4 +1,4 @@
-//! Predictions, and what is true of them.
+//! Predictions, and the facts about them.
 ghost use Rattle.std.specs.Prelude.{◌≡◌, IfOk, IsOkUnless, length};
 ghost use Rattle.roam_prediction.specs.Predictions.{are_shown, none, waited, waited_in};
 
@@ -16,11 +16,11 @@ pub struct Moment {
     pub at: u64,
     /// How many acts are acknowledged then.
     pub acknowledged: u64,
-    /// How many milliseconds what is typed takes to be shown, of late.
+    /// The milliseconds that keys took to be shown of late.
     pub delay: u64,
 }
 
-/// A cell that is predicted to stand in a column.
+/// A cell that is predicted in a column.
 #[derive(Clone, Copy)]
 pub struct Place {
     /// The column, from 1.
@@ -29,16 +29,16 @@ pub struct Place {
     pub cell: Cell,
 }
 
-/// What a key is predicted to show in the row of the cursor.
+/// The predicted effect of a key in the row of the cursor.
 #[derive(Clone, Copy)]
 pub struct Prediction {
     /// The number of its act.
     pub number: u64,
-    /// What stands where then; where there is nothing, only the cursor moves.
+    /// The predicted cell with its column; if there is none, only the cursor moves.
     pub place: Option<Place>,
     /// The cursor's column after it, from 1.
     pub after: u16,
-    /// Whether another cell stood there when it was made, so that the screen tells when it comes.
+    /// True if another cell was there when it was made, so that the screen shows its arrival.
     pub credit: bool,
     /// The moment, in milliseconds, since which it waits: that of the first screen that was seen after it was made.
     pub since: Option<u64>,
@@ -46,11 +46,11 @@ pub struct Prediction {
     pub told: Option<u64>,
 }
 
-/// What is predicted now for one outer terminal: at most 64 predictions, in the order of their acts.
+/// The predictions for one outer terminal: at most 64, in the order of their acts.
 #[derive(Drop)]
 pub struct Predictions {
     pub(crate) list: Vec<Prediction>,
-    // Whether a prediction of this epoch was confirmed with credit.
+    // True if a prediction of this epoch was confirmed with credit.
     pub(crate) trusted: bool,
     // The last act that wasn't predicted: with it another epoch begins once it is acknowledged.
     pub(crate) ends_with: Option<u64>,
@@ -76,7 +76,7 @@ pub(crate) fn waited(prediction: &Prediction, now: u64) -> u64
     }
 }
 
-// The same of a prediction, from 0 on, where there are so many.
+// Returns the same for a prediction, from 0 on, if there are so many.
 fn waited_in(predictions: &[Prediction], now: u64, place: usize) -> Option<u64>
     ensures waited { result ≡ waited_in now predictions.now place }
 {
@@ -110,14 +110,14 @@ impl Predictions {
         self.list.len()
     }
 
-    /// For how many milliseconds a prediction, from 0 on in their order, has waited at a moment, where there are so many.
+    /// Returns for how many milliseconds a prediction, from 0 on in their order, has waited at a moment, if there are so many.
     pub fn waited(&self, now: u64, place: usize) -> Option<u64>
         ensures waited { result ≡ waited_in now self.now.list place }
     {
         waited_in(&self.list, now, place)
     }
 
-    /// Whether anything is shown over a screen.
+    /// Returns true if anything is shown over a screen.
     pub fn are_shown(&self) -> bool
         ensures shown { result ≡ are_shown self.now }
     {

@@ -14,11 +14,11 @@ use roam_screens::Seen;
 /// How many milliseconds a prediction stays after its acknowledgement counted.
 const GRACE: u64 = 100;
 
-/// How many milliseconds after it was made an acknowledgement counts at the latest, so that no prediction stays above a quarter of a second
-/// after its acknowledgement came, however long the last ones took.
+/// The milliseconds after which an acknowledgement counts at the latest, so that no prediction stays above a quarter of a second after its
+/// acknowledgement came, however long the last ones took.
 const LONGEST: u64 = 150;
 
-// Whether a row shows a predicted cell's code points where it is predicted.
+// Returns true if a row shows a predicted cell's code points at its place.
 fn shows(row: &[Cell], prediction: &Prediction) -> bool
     ensures shows { result ≡ shows row.now prediction.now }
 {
@@ -29,7 +29,7 @@ fn shows(row: &[Cell], prediction: &Prediction) -> bool
     }
 }
 
-// Whether a later prediction writes in the column of a prediction, or it writes nowhere.
+// Returns true if a later prediction writes in the column of a prediction, or it writes nothing.
 fn is_written(later: &[Prediction], prediction: &Prediction) -> bool
     ensures written { result ≡ is_written later.now prediction.now }
 {
@@ -39,7 +39,7 @@ fn is_written(later: &[Prediction], prediction: &Prediction) -> bool
     }
 }
 
-// Whether the cursor goes to a column by these predictions.
+// Returns true if the cursor goes to a column by these predictions.
 fn is_way(predictions: &[Prediction], col: u16) -> bool
     ensures way { result ≡ is_way predictions.now col }
 {
@@ -49,7 +49,8 @@ fn is_way(predictions: &[Prediction], col: u16) -> bool
     predictions[0].after == col || is_way(&predictions[1..], col)
 }
 
-// Whether the first of these predictions is right: its cell is shown, unless a later one writes there, and the cursor is on its way.
+// Returns true if the first of these predictions is right: its cell is shown, unless a later one writes there, and the cursor is on its
+// way.
 fn is_right(row: &[Cell], col: u16, predictions: &[Prediction]) -> bool
     requires some { 0 < length predictions.now }
     ensures right { result ≡ is_right row.now col predictions.now }
@@ -69,7 +70,7 @@ fn count_right(row: &[Cell], col: u16, predictions: &[Prediction]) -> usize
     1 + count_right(row, col, &predictions[1..])
 }
 
-// Whether one of the predictions is confirmed with credit: what is shown is what it says, and wasn't so before.
+// Returns true if one of the predictions is confirmed with credit: the screen shows its cell, and didn't before.
 fn has_credit(row: &[Cell], predictions: &[Prediction]) -> bool
     ensures credit { result ≡ has_credit row.now predictions.now }
 {
@@ -79,7 +80,7 @@ fn has_credit(row: &[Cell], predictions: &[Prediction]) -> bool
     (predictions[0].credit && shows(row, &predictions[0])) || has_credit(row, &predictions[1..])
 }
 
-// A prediction that waits since a moment, where it didn't before.
+// Returns a prediction that waits since a moment, if it didn't before.
 fn with_since(prediction: Prediction, now: u64) -> Prediction
     ensures since { result ≡ with_since now prediction }
 {
@@ -91,7 +92,7 @@ fn with_since(prediction: Prediction, now: u64) -> Prediction
     prediction
 }
 
-// Each waits since a moment, where it didn't before.
+// Makes each wait since a moment, if it didn't before.
 fn wait_each(predictions: &mut [Prediction], now: u64)
     ensures since { predictions.new ≡ map (with_since now) predictions.old }
 {
@@ -108,7 +109,7 @@ fn wait_all(list: &mut Vec<Prediction>, now: u64)
     wait_each(list, now);
 }
 
-// Whether the acknowledgement of a prediction counts: it came, and the prediction has waited as long as others took, but for a limit.
+// Returns true if the acknowledgement of a prediction counts: it came, and the prediction has waited as long as others took, up to a limit.
 fn counts(prediction: &Prediction, moment: Moment) -> bool
     ensures counts { result ≡ counts moment prediction.now }
 {
@@ -145,7 +146,7 @@ fn tell_all(list: &mut Vec<Prediction>, moment: Moment)
     tell_each(list, moment);
 }
 
-// Whether the time of a prediction is over.
+// Returns true if the time of a prediction is over.
 fn is_over(prediction: &Prediction, now: u64) -> bool
     ensures over { result ≡ is_over now prediction.now }
 {
@@ -155,7 +156,7 @@ fn is_over(prediction: &Prediction, now: u64) -> bool
     }
 }
 
-// Whether the time of one of the predictions is over.
+// Returns true if the time of one of the predictions is over.
 fn is_any_over(predictions: &[Prediction], now: u64) -> bool
     ensures over { result ≡ is_any_over now predictions.now }
 {
@@ -165,7 +166,7 @@ fn is_any_over(predictions: &[Prediction], now: u64) -> bool
     is_over(&predictions[0], now) || is_any_over(&predictions[1..], now)
 }
 
-// The number of the last of these predictions, or another one where there is none.
+// Returns the number of the last of these predictions, or another one if there is none.
 fn last_of(before: Option<u64>, predictions: &[Prediction]) -> Option<u64>
     ensures last { result ≡ last_of before predictions.now }
 {
@@ -185,8 +186,8 @@ fn last_act(ends_with: Option<u64>, predictions: &[Prediction]) -> Option<u64>
     }
 }
 
-// Whether a screen follows another by itself or by predictions: its size, its status row and the cursor's row are the same, the cursor is
-// visible, and stands where it stood or where a prediction brings it.
+// Returns true if a screen follows another by itself or by predictions: its size, its status row and the cursor's row are the same. The
+// cursor is visible, and is at its old place or at one that a prediction brings it to.
 fn follows<S: Seen>(before: &S, shown: &S, predictions: &[Prediction]) -> bool
     ensures follows { result ≡ true ↔ Follows (S.screen before.now) (S.screen shown.now) predictions.now }
 {
@@ -209,7 +210,7 @@ fn follows<S: Seen>(before: &S, shown: &S, predictions: &[Prediction]) -> bool
 }
 
 impl Predictions {
-    // All predictions go, and the epoch isn't trusted any more: it ends once what was typed is acknowledged.
+    // Drops all predictions; the epoch isn't trusted any more, and ends once the typed acts are acknowledged.
     fn drop_all(&mut self)
         ensures dropped { self.new ≡ dropped self.old }
     {
@@ -240,7 +241,7 @@ impl Predictions {
         tell_all(&mut self.list, moment);
     }
 
-    // The predictions that are right go, and their epoch is trusted where one of them had credit.
+    // Drops the right predictions; their epoch is trusted if one of them had credit.
     fn confirm(&mut self, row: &[Cell], col: u16)
         ensures confirmed { self.new ≡ confirmed row.now col self.old }
     {
@@ -250,7 +251,7 @@ impl Predictions {
         self.drop_first(count);
     }
 
-    // Where the time of a prediction is over all go, since those behind it stand where it would.
+    // Drops all if the time of a prediction is over, since those behind it depend on its place.
     fn expire(&mut self, now: u64)
         ensures expired { self.new ≡ expired now self.old }
     {
@@ -259,7 +260,7 @@ impl Predictions {
         }
     }
 
-    // Another epoch begins where the act with which this one ends is acknowledged, and no prediction is left.
+    // Begins another epoch if the act with which this one ends is acknowledged, and no prediction is left.
     fn begin(&mut self, acknowledged: u64)
         ensures begun { self.new ≡ begun acknowledged self.old }
     {
@@ -284,7 +285,7 @@ impl Predictions {
         count_right(shown.row(row - 1), col, &self.list)
     }
 
-    // What is shown tells which predictions are right.
+    // Judges the predictions by the shown screen.
     fn judge<S: Seen>(&mut self, moment: Moment, shown: &S)
         ensures judged { self.new ≡ judged moment (S.screen shown.now) self.old }
     {
@@ -296,7 +297,7 @@ impl Predictions {
         self.expire(moment.at);
     }
 
-    /// A screen is shown at a moment, after another one. Predictions that are right go; all go where the time of one is over, and where the
+    /// Takes a screen that is shown at a moment, after another one. Right predictions go; all go if the time of one is over, or if the
     /// screen doesn't follow the one before. It takes no memory.
     pub fn seen<S: Seen>(&mut self, moment: Moment, before: &S, shown: &S)
         ensures goes_on { Follows (S.screen before.now) (S.screen shown.now) self.old.list
@@ -315,7 +316,7 @@ impl Predictions {
         self.begin(moment.acknowledged);
     }
 
-    /// So many acts are acknowledged, and what is shown isn't known: all predictions are dropped, and what was typed since begins an epoch.
+    /// Drops all predictions, since the shown screen is unknown; so many acts are acknowledged, and those typed since begin an epoch.
     pub fn end(&mut self, acknowledged: u64)
         ensures ends { self.new ≡ begun acknowledged (dropped self.old) }
     {

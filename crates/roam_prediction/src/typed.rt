@@ -1,4 +1,4 @@
-//! What a key is predicted to show.
+//! The predicted effect of a key.
 ghost use Rattle.std.specs.Prelude.{◌≡◌, ◌^◌, ◌<◌, ◌≤◌, ◌++◌, ◌∷◌, [], true, length, Some, IfSome};
 ghost use Rattle.roam_prediction.specs.Predictions.{IsPrediction};
 ghost use Rattle.roam_prediction.specs.Typing.{back_prediction, cell_in, differs, erased_prediction, forth_prediction, prediction_for, ended_with, prediction_of, prediction_with, has_room, is_blank_to_edge, is_border, is_clear, is_free, is_inside, is_space, kind_of, latest, may_grow, moved_prediction, narrow_cell, style_left, typed_by, written_prediction};
@@ -10,11 +10,11 @@ use roam_cells::{Cell, Style, width};
 use roam_keys::Key;
 use roam_screens::Seen;
 
-/// The border between two panes that stand side by side, U+2502.
+/// The border between two panes side by side, U+2502.
 const BORDER: char = '\u{2502}';
 
-/// What an act does where it is predicted: it writes a character of one column, erases the one before the cursor, or moves the cursor;
-/// another act isn't predicted.
+/// The effect of an act if it is predicted: it writes a character of one column, erases the one before the cursor, or moves the cursor.
+/// Another act isn't predicted.
 #[derive(Clone, Copy)]
 pub(crate) enum Kind {
     Write(char),
@@ -24,7 +24,7 @@ pub(crate) enum Kind {
     Other,
 }
 
-// What an act does.
+// Returns the effect of an act.
 fn kind_of(act: &Act) -> Kind
     ensures kind { result ≡ kind_of act.now }
 {
@@ -37,7 +37,7 @@ fn kind_of(act: &Act) -> Kind
     }
 }
 
-// Whether a cell is a space.
+// Returns true if a cell is a space.
 fn is_space(cell: &Cell) -> bool
     ensures space { result ≡ is_space cell.now }
 {
@@ -46,7 +46,7 @@ fn is_space(cell: &Cell) -> bool
     chars.len() == 1 && chars[0] == ' '
 }
 
-// Whether a cell is the border of a pane.
+// Returns true if a cell is the border of a pane.
 fn is_border(cell: &Cell) -> bool
     ensures border { result ≡ is_border cell.now }
 {
@@ -55,7 +55,7 @@ fn is_border(cell: &Cell) -> bool
     chars.len() == 1 && chars[0] == BORDER
 }
 
-// Whether nothing but spaces stands before the pane's edge.
+// Returns true if there are only spaces before the pane's edge.
 fn is_blank_to_edge(cells: &[Cell]) -> bool
     ensures blank { result ≡ is_blank_to_edge cells.now }
 {
@@ -67,14 +67,14 @@ fn is_blank_to_edge(cells: &[Cell]) -> bool
     true
 }
 
-// Whether there is room from a place on: two spaces, and nothing but spaces before the pane's edge.
+// Returns true if there is room from a place on: two spaces, and only spaces before the pane's edge.
 fn has_room(cells: &[Cell]) -> bool
     ensures room { result ≡ has_room cells.now }
 {
     cells.len() >= 2 && is_space(&cells[0]) && is_space(&cells[1]) && is_blank_to_edge(&cells[2..])
 }
 
-// Whether a column, from 1, is one of a pane where a cell of one column stands.
+// Returns true if a column, from 1, is one of a pane with a cell of one column.
 fn is_inside(row: &[Cell], col: u16) -> bool
     ensures inside { result ≡ is_inside row.now col }
 {
@@ -104,7 +104,7 @@ pub(crate) fn latest(predictions: &[Prediction], col: u16) -> Option<Cell>
     }
 }
 
-// Whether what is predicted last in the column of a prediction leaves it blank, or stands before a column.
+// Returns true if the last prediction in the column of this one leaves it blank, or is before a column.
 fn is_clear(all: &[Prediction], prediction: &Prediction, col: u16) -> bool
     ensures clear { result ≡ is_clear all.now prediction.now col }
 {
@@ -120,7 +120,7 @@ fn is_clear(all: &[Prediction], prediction: &Prediction, col: u16) -> bool
     }
 }
 
-// Whether no prediction leaves a character in a column or behind it.
+// Returns true if no prediction leaves a character in a column or behind it.
 fn is_free(all: &[Prediction], predictions: &[Prediction], col: u16) -> bool
     ensures free { result ≡ is_free all.now predictions.now col }
 {
@@ -140,7 +140,7 @@ fn narrow_cell(c: char, style: Style) -> Option<Cell>
     Cell::of(&[c], style, false)
 }
 
-// The style of what stands left of a column within the pane, else the default.
+// Returns the style of the cell left of a column within the pane, else the default.
 fn style_left(row: &[Cell], predictions: &[Prediction], col: u16) -> Style
     ensures style { result ≡ style_left row.now predictions.now col }
 {
@@ -153,14 +153,14 @@ fn style_left(row: &[Cell], predictions: &[Prediction], col: u16) -> Style
     }
 }
 
-// Whether a cell has other code points than one that is predicted.
+// Returns true if a cell has other code points than a predicted one.
 fn differs(cell: &Cell, predicted: &Cell) -> bool
     ensures differs { result ≡ differs cell.now predicted.now }
 {
     cell.chars() != predicted.chars()
 }
 
-// The prediction that a cell stands in a column that a row has.
+// Returns the prediction of a cell in a column that a row has.
 fn prediction_with(number: u64, row: &[Cell], col: u16, cell: Cell, after: u16) -> Prediction
     requires place { (1 ≤ col) × (col ≤ length row.now) }
     ensures guess { result ≡ prediction_with number row.now col cell after }
@@ -189,7 +189,7 @@ fn moved_prediction(number: u64, after: u16) -> Prediction
     }
 }
 
-// A character is written where the rest of the row is blank, but not in the last place, nor beside a half of a wide character.
+// Predicts a character if the rest of the row is blank, but not in the last place, nor beside a half of a wide character.
 fn written_prediction(
     number: u64,
     c: char,
@@ -210,7 +210,7 @@ fn written_prediction(
     Some(prediction_with(number, row, col, cell, col + 1))
 }
 
-// What was predicted before the cursor is blank; what stands there else isn't predicted to go.
+// Predicts a blank in place of the prediction before the cursor; other text there isn't predicted to go.
 fn erased_prediction(
     number: u64,
     row: &[Cell],
@@ -252,7 +252,7 @@ fn forth_prediction(number: u64, row: &[Cell], col: u16) -> Option<Prediction>
     Some(moved_prediction(number, col + 1))
 }
 
-// What an act of a kind is predicted to show, where the cursor stands in a column of a row.
+// Returns the prediction of an act of a kind, with the cursor in a column of a row.
 fn prediction_of(
     number: u64,
     kind: Kind,
@@ -274,7 +274,7 @@ fn prediction_of(
 }
 
 impl Predictions {
-    // Whether another prediction may be made.
+    // Returns true if another prediction may be made.
     fn may_grow(&self) -> bool
         ensures grow { result ≡ may_grow self.now }
         ensures few { result ≡ true → length self.now.list < 64 }
@@ -282,7 +282,7 @@ impl Predictions {
         self.ends_with.is_none() && self.list.len() < MOST_PREDICTIONS
     }
 
-    // What an act is predicted to show.
+    // Returns the prediction of an act.
     fn prediction_for<S: Seen>(&self, number: u64, act: &Act, shown: &S) -> Option<Prediction>
         ensures guess { result ≡ prediction_for number act.now (S.screen shown.now) self.now }
         ensures kept { IfSome result IsPrediction }
@@ -307,14 +307,14 @@ impl Predictions {
         let _ = self.list.extend_from_slice(&[prediction]);
     }
 
-    /// What was typed up to the act of a number isn't predicted: the epoch ends with that act.
+    /// Ends the epoch with the act of a number: acts up to it aren't predicted.
     pub fn end_with(&mut self, number: u64)
         ensures ends { self.new ≡ ended_with number self.old }
     {
         self.ends_with = Some(number);
     }
 
-    /// An act of a number was typed where this screen is shown: what it shows is predicted, or the epoch ends with it. It takes no memory.
+    /// Takes an act of a number that was typed over this screen: its effect is predicted, or the epoch ends with it. It takes no memory.
     pub fn typed<S: Seen>(&mut self, number: u64, act: &Act, shown: &S)
         ensures typed { self.new ≡ typed_by number act.now (S.screen shown.now) self.old }
     {

@@ -1,4 +1,4 @@
-//! Predictions whose cells are underlined, so that who sees them knows that nobody has confirmed them.
+//! Predictions with underlined cells, so that a user sees that nothing has confirmed them.
 ghost use Rattle.std.specs.Prelude.{◌≡◌, IfOk, IsOkUnless, map};
 ghost use Rattle.std.specs.Vec.{vec_capacity};
 ghost use Rattle.roam_prediction.specs.Underlined.{underlined, underlined_cell, underlined_prediction, underlined_place};
