@@ -1,4 +1,4 @@
--- What of a terminal changes where it is heard.
+-- The changes to a terminal by a call of `hear`.
 use Rattle.std.proofs.Common.{◌≡◌, ◌⊎◌, ℕ, Bool, true, false, List, ◌++◌, Option, None, Some, refl, sym, ap, ◌∙◌, subst, inl, inr}
 use Rattle.std.specs.Prelude.{◌≢◌, is_some, if◌then◌else◌}
 use Rattle.roam_cells.specs.declared.faults.Fault.{Fault}
@@ -45,14 +45,14 @@ refused_after {S} a b c h long k =
       waiting = a.waiting ++ k.0;
     }))
 
--- ---- the line that stands first
+-- ---- the first line
 
 -- whether it asks for the end
 ends_told : (b : Bool) → is_end (if b then taking.End else taking.Line) ≡ b
 ends_told true = refl
 ends_told false = refl
 
--- what became of it, with the entry that it said where it was taken
+-- the result of the first line, with the entry of it that was taken
 pub entry_heard : {S : Type 0} (entry : Entry) (line rest : List ℕ) (old mid new : Terminal S) (client client' : ClientView) (told : Taking)
     → old.watches ≡ mid.watches → is_heard mid.state ≡ true → IsFirst mid.lines.kept line rest → Says line entry
     → TakesEntry entry mid new client client' told
@@ -91,12 +91,12 @@ line_bad lines display_state line rest fault first only memory (inl bad_act) =
     differ e = cc
 line_bad lines display_state line rest fault first only memory (inr none) = wanting line rest first (memory none)
 
--- a terminal is as it is told where it was read
+-- reading changes nothing of a terminal's wishes
 pub watches_read : {S : Type 0} (old mid : Terminal S) → IsRead old mid → old.watches ≡ mid.watches
 watches_read old mid (read is) = sym (ap (λ t. t.watches) is)
 watches_read old mid (refused text words long is) = sym (ap (λ t. t.watches) is)
 
--- ---- what is noted
+-- ---- the noted screen
 
 entry_outer : (entry : Entry) (outer : Option Noted) → (outer_after entry outer ≡ outer) ⊎ (outer_after entry outer ≡ None)
 entry_outer (Acts acts) outer = inl refl
@@ -136,7 +136,7 @@ pub heard_outer : {S : Type 0} (remaining contents : S → Option (List ℕ)) (e
 heard_outer remaining contents entry old new client client' h =
     either_after old.outer h.read.outer new.outer (read_outer old h.read h.is_read) (taken_outer entry h.read new client client' h.takes)
 
--- ---- what was typed
+-- ---- the typed acts
 
 not_gone : (s : State) → is_heard s ≡ true → s ≢ Gone
 not_gone s h is = let other : is_heard Gone ≡ true = ap is_heard (sym is) ∙ h in absurd cc

@@ -1,4 +1,4 @@
--- What waits for a terminal leads it from what it showed to what it shows.
+-- The queued bytes lead a terminal from its old screen to its new one.
 use Rattle.std.proofs.Common.{◌≡◌, ◌⊎◌, ℕ, List, [], ◌++◌, map, append-nil, append_assoc, Option, Some, None, refl, sym, ap, ◌∙◌, subst, arith, inl, inr}
 use Rattle.std.proofs.lemmas.List.{map-append}
 use Rattle.std.specs.Prelude.{IfSome, Vec}
@@ -17,7 +17,7 @@ use Rattle.roam_outer_terminal.specs.Overlaid.Lays.{none, laid}
 use Rattle.roam_outer_terminal.specs.Overlaid.TakesBack.{nothing, back, lost}
 use Rattle.roam_outer_terminal.specs.declared.laying.Taken.{Taken}
 
--- two screens are one where all their parts are
+-- two screens are equal if all their parts are
 pub same_screen : (a b : Screenshot) → IsSize a b → a.cells ≡ b.cells → a.cursor_row ≡ b.cursor_row → a.cursor_col ≡ b.cursor_col
     → a.visible ≡ b.visible → a ≡ b
 same_screen a b size cells row col visible =
@@ -147,7 +147,7 @@ leads_laid a outer' wanted over w w' (laid s text asked is same forth) h =
     subst (λ o. LeadsSized a w' (on_show o outer')) (sym is)
     (subst (λ l. LeadsSized a l (on_show (Some s) outer')) (sym same) (leads_forth a outer' s w text forth h))
 
--- another screen stood over the one before: what takes it back comes first, and what is laid last
+-- another overlay was shown before: the text that takes it back comes first, and the new overlay comes last
 pub leads_again : (o : Screenshot) (outer outer' : Option Noted) (wanted over : Option Screenshot) (b w mid w' : List ℕ)
     → IsBack o outer b → LeadsSized outer w outer' → mid ≡ b ++ w → Lays outer' wanted over mid w'
     → LeadsSized (on_show (Some o) outer) w' (on_show over outer')
@@ -155,7 +155,7 @@ leads_again o outer outer' wanted over b w mid w' is h joined lays =
     leads_laid (on_show (Some o) outer) outer' wanted over mid w' lays
     (subst (λ l. LeadsSized (on_show (Some o) outer) l outer') (sym joined) (leads_back o outer outer' b w is h))
 
--- nothing stood there, or it was lost
+-- no overlay was shown, or it was lost
 pub leads_from : (over : Option Screenshot) (outer mid b : Option Noted) (taken : Option Taken) (w : List ℕ)
     → TakesBack over outer mid taken → taken ≡ None → LeadsSized mid w b → LeadsSized (on_show over outer) w b
 leads_from over outer mid b taken w (nothing is same t) e h =
@@ -164,7 +164,7 @@ leads_from over outer mid b taken w (nothing is same t) e h =
 leads_from over outer mid b taken w (back t is same some text) e h = absurd cc
 leads_from over outer mid b taken w (lost is t) e h = leads_any (on_show over outer) b w (subst (λ x. LeadsSized x w b) is h)
 
--- something stood there, and is taken back
+-- an overlay was shown, and is taken back
 pub leads_taken : (over : Option Screenshot) (outer mid b b' : Option Noted) (t : Taken) (w w' : List ℕ)
     → TakesBack over outer mid (Some t) → LeadsSized mid w b
     → ((o : Screenshot) (x : Option Noted) → t.over ≡ o → IsBack o x t.text.items → LeadsSized x w b
@@ -190,7 +190,7 @@ pub leads_same : (outer : Option Noted) (w : List ℕ) → w ≡ [] → LeadsSiz
 leads_same None w empty = tt
 leads_same (Some noted) w empty = subst (λ l. ShowsSized (Some noted) l noted.screen) (sym empty) (still noted.screen noted.number)
 
--- what stood there stands there still
+-- the overlay stays
 pub leads_still : (o : Screenshot) (outer outer' : Option Noted) (b w : List ℕ) → IsBack o outer b → w ≡ []
     → LeadsSized (on_show (Some o) outer) w (on_show (Some o) outer')
 leads_still o outer None b w is empty = tt
@@ -198,7 +198,7 @@ leads_still o None (Some noted') b w is empty = absurd is
 leads_still o (Some noted) (Some noted') b w is empty =
     subst (λ l. ShowsSized (Some (record noted { screen = o })) l o) (sym empty) (still o noted.number)
 
--- ---- what stands there is what is predicted
+-- ---- the overlay is the predicted screen
 
 pub over_laid : (now : ℕ) (g : Option OverlayOf) (outer : Option Noted) (wanted over : Option Screenshot) (w w' : List ℕ)
     → Lays outer wanted over w w' → IsOver now g outer wanted → IsOver now g outer over
@@ -209,13 +209,13 @@ over_laid now g outer wanted over w w' (none is same) h = subst (IsOver now g ou
     over_none (Some g) outer = tt
 over_laid now g outer wanted over w w' (laid s text asked is same forth) h = subst (IsOver now g outer) (asked ∙ sym is) h
 
--- nothing is laid where nothing is wanted
+-- no overlay is shown if none is wanted
 pub none_laid : (outer : Option Noted) (wanted over : Option Screenshot) (w w' : List ℕ)
     → Lays outer wanted over w w' → wanted ≡ None → over ≡ None
 none_laid outer wanted over w w' (none is same) e = is
 none_laid outer wanted over w w' (laid s text asked is same forth) e = absurd cc
 
--- what is noted stays where what stands over it is taken back, or nothing is noted
+-- the noted screen stays if the overlay is taken back; otherwise none is noted
 pub noted_kept : (over : Option Screenshot) (outer outer' : Option Noted) (taken : Option Taken) → TakesBack over outer outer' taken
     → (outer' ≡ outer) ⊎ (outer' ≡ None)
 noted_kept over outer outer' taken (nothing is same e) = inl same

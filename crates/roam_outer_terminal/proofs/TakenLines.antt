@@ -1,4 +1,4 @@
--- What is taken of a terminal's lines, one after another.
+-- The lines taken from a terminal, one after another.
 use Rattle.std.proofs.Common.{◌≡◌, ℕ, Bool, true, false, List, [], ◌∷◌, ◌++◌, append-nil, append_assoc, refl, sym, ap, ◌∙◌, subst, inl, inr}
 use Rattle.std.proofs.KnownBytes.{Consumes-nil, Consumes-trans}
 use Rattle.std.specs.Prelude.{◌≢◌, ◌⊎◌, Option, None, Some, Ok, Vec}
@@ -54,7 +54,7 @@ ended_more [] line = append-nil (ended_line line)
 ended_more (first ∷ lines) line =
     ap (λ l. ended_line first ++ l) (ended_more lines line) ∙ sym (append_assoc (ended_line first) (ended_all lines) (ended_line line))
 
--- what was read is kept behind what was
+-- bytes that are read are kept behind the kept ones
 pub stands_read : (kept bytes : List ℕ) (w : Bool) (log : List ℕ) (all : List Act) → Stands kept w log all
     → Stands (kept ++ bytes) w (log ++ bytes) all
 stands_read kept bytes w log all h =
@@ -74,7 +74,7 @@ stands_taken entry line kept kept' w log all first says h = record {
   takes = takes_more h.lines line entry false w (watches_after entry w) all (typed_by w entry) h.takes says refl refl;
 }
 
--- ---- the line that stands first
+-- ---- the first line
 
 -- acts that were typed all at once
 pub types_all : (acts : List Act) (client client' : ClientView) → TypesAll client acts (Ok tt) client' → Types acts client client'
@@ -84,7 +84,7 @@ types_all acts client client' (spent w r e s) = absurd cc
 types_all acts client client' (typed_now w r n e s) = s
 types_all acts client client' (none_for_them w r n some e s) = absurd cc
 
--- predictions begin as they are wanted, where there is memory
+-- predictions begin as they are wanted, if there is memory
 pub is_set : (predicting : Predicting) (watches adaptive : Bool) (new : Option OverlayOf) → watches ≡ false
     → adaptive_of predicting ≡ Some adaptive → ((new ≡ None) ⊎ (new ≡ Some (fresh_predictions adaptive))) → IsSet predicting watches new
 is_set predicting watches adaptive new heard wanted (inl none) = no_predictions none
@@ -103,7 +103,7 @@ module _ {S : Type 0} (old new : Terminal S) (client client' : ClientView) (told
   paste_taken acts (line_waits t watches holds same is) = waits t watches holds same is
   paste_taken acts (line_no_memory t watches some same is) = no_memory t watches some same is
 
-  -- a word types nothing, and predictions stay but where it says when they are shown
+  -- a word types nothing, and predictions stay unless it says when to show them
   pub word_taken : (entry : Entry) → acts_in entry ≡ []
       → (new.predicting ≡ old.predicting → Predictions old.watches entry client old.predicting new.predicting)
       → TakesWord entry client old new told → TakesEntry entry old new client client told
@@ -113,7 +113,7 @@ module _ {S : Type 0} (old new : Terminal S) (client client' : ClientView) (told
   word_taken entry none predictions (word_untold t told_is same) = untold t told_is refl same
   word_taken entry none predictions (word_late t may is) = late t may is refl
 
--- ---- what is read
+-- ---- reading
 
 pub reads_none : (known : Option (List ℕ)) (kept : List ℕ) (state : State) → Reads known known kept kept state
 reads_none known kept state = record { bytes = []; consumed = Consumes-nil known; kept_on = λ on. sym (append-nil kept) }

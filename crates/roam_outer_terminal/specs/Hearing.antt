@@ -1,4 +1,4 @@
--- An outer terminal is heard: bytes of its stream are read, and the line that stands first then is taken, or there is a reason why not.
+-- A call of `hear`: bytes of an outer terminal's stream are read, and the first line is then taken, or there is a reason against it.
 use Rattle.std.specs.Prelude.{◌≡◌, ◌⊎◌, ℕ, ◌<◌, Bool, true, false, not, ◌&&◌, ◌==◌, List, [], ◌++◌, length, Option, Some, None, is_some, if◌then◌else◌}
 use Rattle.std.specs.Borrow.{Bor}
 use Rattle.std.specs.Io.KnownBytes.{Keeps}
@@ -25,18 +25,18 @@ use Rattle.roam_outer_terminal.specs.declared.hearing.Taking.TheVariants as taki
 use Rattle.roam_outer_terminal.specs.declared.terminal.State.TheVariants.{Refused}
 use Rattle.roam_outer_terminal.specs.declared.terminal.Terminal.{Terminal}
 
--- why a line is refused is told in words, or in a record to one who is told in records, where there is memory for it
+-- the reason for a refused line is sent in words, or in a record if the terminal asked for records, if there is memory for it
 abbrev pub IsRefusal : Bool → List ℕ → Type 0
 IsRefusal false text = Unit {0}
 IsRefusal true text = (text ≡ []) ⊎ ((line : ℕ) × (words : Bor (List ℕ)) × (text ≡ text_of (records.Refused line words)))
 
--- its line is refused: it is told so, where there is memory for that, and nothing is noted of it any more
+-- the first line is refused: the terminal gets the reason if there is memory for it, and no screen is noted any more
 abbrev pub IsRefused : {S : Type 0} → Terminal S → Terminal S → Type 0
 IsRefused old new =
     (text : List ℕ) × IsRefusal (is_some old.display_state) text
     × (new ≡ record old { state = Refused; outer = None; waiting = old.waiting ++ text })
 
--- bytes were read; or what was read is more than a line, which is refused
+-- bytes were read; or more than a line was read, which is refused
 pub data IsRead {S : Type 0} (old new : Terminal S) : Type 0 where
   read : new ≡ record old { stream = new.stream; lines = new.lines; state = new.state } → IsRead old new
   refused : (text : List ℕ) → IsRefusal (is_some old.display_state) text → front_of new.lines.kept ≡ TooLong
@@ -44,17 +44,17 @@ pub data IsRead {S : Type 0} (old new : Terminal S) : Type 0 where
       ≡ record old { stream = new.stream; lines = new.lines; state = Refused; outer = None; waiting = old.waiting ++ text }
       → IsRead old new
 
--- ---- the line that stands first
+-- ---- the first line
 
--- a line stands first of these bytes, and says an entry
+-- these bytes begin with a line that has an entry
 pub record Asks (kept : List ℕ) (entry : Entry) : Type 0 where
   pub line : List ℕ
   pub rest : List ℕ
   pub first : IsFirst kept line rest
   pub says : Says line entry
 
--- an entry can be taken where it comes: records are asked for by the first line alone; to watch says the first, or the second behind that;
--- what is told in records alone is asked for there; and a fifth mask is none
+-- An entry has its place. Only the first line asks for records. The first line, or the second behind that one, asks for a read-only
+-- terminal. Wishes about records need a terminal with records. A fifth mask is refused.
 abbrev pub may_show : Showing → Option DisplayStateView → Bool
 may_show showing None = false
 may_show showing (Some t) = has_room_for showing t
@@ -71,8 +71,7 @@ may_take LookStyled count display_state = is_some display_state
 may_take (Show showing) count display_state = may_show showing display_state
 may_take End count display_state = true
 
--- why the first line is refused: it says nothing; what it says cannot be taken there; or memory was refused, and the line says nothing that takes
--- none
+-- The reasons to refuse the first line: it has no entry; its entry is out of place; or memory was refused, and its entry takes memory.
 pub data IsBad (lines : LinesView) (display_state : Option DisplayStateView) : Type 0 where
   no_entry : (line rest : List ℕ) → IsFirst lines.kept line rest → ((entry : Entry) → Says line entry → ⊥) → IsBad lines display_state
   late : (e : Entry) → Asks lines.kept e → may_take e lines.count display_state ≡ false → IsBad lines display_state
@@ -81,7 +80,7 @@ pub data IsBad (lines : LinesView) (display_state : Option DisplayStateView) : T
 
 -- ---- what an entry makes of a terminal
 
--- what is noted of it: nothing after a repaint, and where records begin
+-- the noted screen after an entry: none after a repaint, and none if records begin
 abbrev pub outer_after : Entry → Option Noted → Option Noted
 outer_after (Acts acts) outer = outer
 outer_after (Paste acts) outer = outer
@@ -94,7 +93,7 @@ outer_after LookStyled outer = outer
 outer_after (Show showing) outer = outer
 outer_after End outer = outer
 
--- records begin behind what waits
+-- the first record is queued behind the rest
 abbrev pub waiting_after : Entry → List ℕ → List ℕ
 waiting_after (Acts acts) waiting = waiting
 waiting_after (Paste acts) waiting = waiting
@@ -107,7 +106,7 @@ waiting_after LookStyled waiting = waiting
 waiting_after (Show showing) waiting = waiting
 waiting_after End waiting = waiting
 
--- and nothing stands over what is noted then
+-- the overlay after an entry: none if the noted screen is forgotten
 abbrev pub over_after : Entry → Option Screenshot → Option Screenshot
 over_after (Acts acts) over = over
 over_after (Paste acts) over = over
@@ -120,9 +119,9 @@ over_after LookStyled over = over
 over_after (Show showing) over = over
 over_after End over = over
 
--- ---- what is told of it
+-- ---- records about lines
 
--- a line was taken; the last of its acts has this number, where it has acts
+-- a line was taken; its last act has this number, if it has acts
 abbrev pub line_told : Option ℕ → Option DisplayStateView → Option DisplayStateView
 line_told last None = None
 line_told last (Some t) = Some (record t { taken = took last t.taken })
@@ -144,12 +143,12 @@ abbrev pub shown_then : Showing → Option DisplayStateView → Option DisplaySt
 shown_then showing None = None
 shown_then showing (Some t) = Some (shown_so showing t)
 
--- a screen that was asked for isn't told yet
+-- a requested screen isn't sent yet
 abbrev pub is_looking : Option DisplayStateView → Bool
 is_looking None = false
 is_looking (Some t) = is_some t.looking
 
--- what is told of it after an entry, where the start is so then
+-- the state of the records after an entry, with the start as it is then
 abbrev pub display_state_after : Bool → Entry → ClientView → Option DisplayStateView → Option DisplayStateView
 display_state_after watches (Acts acts) client display_state = line_told (last_typed watches client) display_state
 display_state_after watches (Paste acts) client display_state = line_told (last_typed watches client) display_state
@@ -162,7 +161,7 @@ display_state_after watches LookStyled client display_state = line_told None (as
 display_state_after watches (Show showing) client display_state = line_told None (shown_then showing display_state)
 display_state_after watches End client display_state = line_told None display_state
 
--- what asks for a screen so
+-- the entry that asks for such a screen
 abbrev pub look_of : Looking → Entry
 look_of Points = Look
 look_of Styled = LookStyled
@@ -180,7 +179,7 @@ is_look LookStyled = true
 is_look (Show showing) = false
 is_look End = false
 
--- what an entry that was taken makes of a terminal, with its lines and what is predicted then
+-- the effect of an accepted entry on a terminal's lines and predictions
 abbrev pub Makes : {S : Type 0} → Entry → ClientView → Terminal S → Terminal S → Type 0
 Makes e client old new =
     new
@@ -194,9 +193,9 @@ Makes e client old new =
       display_state = display_state_after old.watches e client old.display_state;
     }
 
--- A terminal that was read: the line that stands first was taken, and what it says was done; or none was. A line waits for a reason; or it
--- asks for a screen and another is asked for; or memory is wanting to type its acts, or for the first record; or it is refused; or no line
--- stands first; or the terminal isn't heard any more.
+-- The second half of `hear`: the first line was taken and its entry done, or no line was taken. A line stays for a reason: it asks for a
+-- screen while another is requested, or memory was refused for its acts or the first record. Otherwise it is refused, no line is whole, or
+-- the terminal's lines aren't read any more.
 pub data TakesLine {S : Type 0} (entry : Option Entry) (old new : Terminal S) (client client' : ClientView) : Type 0 where
   taken : (e : Entry) (line : List ℕ) → entry ≡ Some e → is_heard old.state ≡ true → IsFirst old.lines.kept line new.lines.kept
       → Says line e → may_take e old.lines.count old.display_state ≡ true → Types (typed_by old.watches e) client client'
@@ -217,7 +216,7 @@ pub data TakesLine {S : Type 0} (entry : Option Entry) (old new : Terminal S) (c
       → TakesLine entry old new client client'
   unheard : entry ≡ None → is_heard old.state ≡ false → client' ≡ client → new ≡ old → TakesLine entry old new client client'
 
--- A terminal was heard: bytes of it were read, and the line that stood first then was taken, by this entry, or none was.
+-- A call of `hear`: bytes were read, and the first line then was taken with this entry, or none was.
 pub record HearsOne {S : Type 0} (remaining contents : S → Option (List ℕ)) (entry : Option Entry) (old new : Terminal S)
     (client client' : ClientView) : Type 0 where
   pub read : Terminal S
@@ -226,17 +225,17 @@ pub record HearsOne {S : Type 0} (remaining contents : S → Option (List ℕ)) 
   pub is_read : IsRead old read
   pub takes : TakesLine entry read new client client'
 
--- ---- what becomes of a line, as it is told
+-- ---- the reported result of a line
 
 -- a line was taken
 abbrev pub Took : List ℕ → List ℕ → Type 0
 Took kept kept' = (line rest : List ℕ) → IsFirst kept line rest → kept' ≡ rest
 
--- so it is told where the line that stands first is taken
+-- the result if the first line is taken
 abbrev pub taking_of : Bool → Entry → Taking
 taking_of watches entry = if ends_by watches entry then taking.End else taking.Line
 
--- so what became of the line that stood first is told
+-- the reported result of the first line
 abbrev pub told_of : {S : Type 0} {entry : Option Entry} {old new : Terminal S} {client client' : ClientView}
     → TakesLine entry old new client client' → Taking
 told_of {S} {entry} {old} (taken e line is heard first says may types predictions makes) = taking_of old.watches e
@@ -255,7 +254,8 @@ is_end taking.End = true
 is_end taking.Waits = false
 is_end taking.NoMemory = false
 
--- The acts of the line that stands first were typed and the line taken, of a terminal that only watches without them; or it waits.
+-- The acts of the first line were typed and the line taken; if the terminal is read-only, the line is taken without them. Or the line
+-- stays.
 pub data TypesLine {S : Type 0} (pasted : Bool) (acts : List Act) (old new : Terminal S) (client client' : ClientView) (told : Taking)
     : Type 0 where
   typed : told ≡ taking.Line → Took old.lines.kept new.lines.kept → Types (acts_by old.watches acts) client client'
@@ -272,7 +272,7 @@ pub data TypesLine {S : Type 0} (pasted : Bool) (acts : List Act) (old new : Ter
   no_memory : told ≡ taking.NoMemory → old.watches ≡ false → 0 < length acts → client' ≡ client → new ≡ old
       → TypesLine pasted acts old new client client' told
 
--- What the line that stands first says was done, and the line taken; or it waits; or memory is wanting; or it comes where it can't.
+-- The entry of the first line was done, and the line taken. Or the line stays; or memory was refused; or the entry is out of place.
 pub data TakesEntry {S : Type 0} (entry : Entry) (old new : Terminal S) (client client' : ClientView) (told : Taking) : Type 0 where
   taken : told ≡ taking_of old.watches entry → may_take entry old.lines.count old.display_state ≡ true
       → Took old.lines.kept new.lines.kept → Types (typed_by old.watches entry) client client'

@@ -24,15 +24,15 @@ is_here Left = false
 is_here Refused = false
 is_here Gone = false
 
--- it tells of no silence, or is told of it in records
+-- the terminal shows no notice of silence, or gets it in records
 abbrev pub is_open : {S : Type 0} → Terminal S → Bool
 is_open t = is_some t.display_state || not (is_some t.told)
 
--- a terminal is to be painted: it is there, tells of no silence but in records, and all that was painted before is written
+-- the terminal can be painted: it is connected, shows no notice of silence outside records, and has no queued bytes
 abbrev pub is_ready : {S : Type 0} → Terminal S → Bool
 is_ready t = is_here t.state && (is_open t && is_empty t.waiting)
 
--- what a start shows, under its number
+-- the screen that a start shows, and its number
 abbrev pub shown_of : ClientView → Noted
 shown_of client = record { number = client.kept.receiver.newest.number; screen = client.kept.receiver.newest.state }
 
@@ -48,9 +48,9 @@ pub data IsJudged (now : ℕ) (client : ClientView) (noted : Option Noted) (old 
 abbrev pub IsHidden : Silence → Option Screenshot → Type 0
 IsHidden silence over = nat_le 10 (seconds_of silence) ≡ true → over ≡ None
 
--- A terminal was painted: what waits for it leads it from what it showed to what it shows, the screen that is noted with what is predicted
--- over it. What is noted is what the start shows, or what was noted before, where that has its number or memory was wanting; where there is
--- no memory to take back what was laid over it, nothing is.
+-- A terminal was painted: its queued bytes lead it from its old screen to its new one, the noted screen with the predictions. The noted
+-- screen is the start's. It stays the old one if that has the same number or memory was refused. Without memory to take an overlay back,
+-- none is noted.
 pub record Paints {S : Type 0} (silence : Silence) (client : ClientView) (old new : Terminal S) : Type 0 where
   pub ready : is_ready old ≡ true
   pub untold : is_some old.display_state ≡ false
@@ -66,20 +66,20 @@ pub record Paints {S : Type 0} (silence : Silence) (client : ClientView) (old ne
 
 -- ---- in records
 
--- what is to be shown of a terminal of which a screen is noted: that with what stands over it
+-- the screen to show on a terminal with a noted screen: its overlay, if there is one
 abbrev pub shown_screen : Option Screenshot → Noted → Screenshot
 shown_screen None noted = noted.screen
 shown_screen (Some over) noted = over
 
--- the screen that is noted was told where it was asked for, and what is to be shown of it with what stands over it
+-- the noted screen was sent if it was requested, then the terminal's screen with its overlay
 abbrev pub TellsNoted : Option Noted → Option Screenshot → List Record → DisplayStateView → DisplayStateView → Type 0
 TellsNoted None over said old new = (said ≡ []) × (new ≡ old)
 TellsNoted (Some noted) over said old new =
     (mid : DisplayStateView) × (looked : List Record) × (shown : List Record) × TellsLook noted.screen looked old mid
     × Tells (shown_screen over noted) shown mid new × (said ≡ looked ++ shown)
 
--- It was told in records, behind what waits: first which of its lines are taken, where so many acts are acknowledged; then the screen that
--- it asked for; then what is to be shown.
+-- The records, behind the queued bytes: first the taken lines, given the number of acknowledged acts; then the requested screen; then the
+-- screen to show.
 pub record TellsIt {S : Type 0} (acknowledged : ℕ) (before : DisplayStateView) (old new : Terminal S) : Type 0 where
   pub between : DisplayStateView
   pub after : DisplayStateView
@@ -89,8 +89,8 @@ pub record TellsIt {S : Type 0} (acknowledged : ℕ) (before : DisplayStateView)
   pub tells_noted : TellsNoted old.outer old.over shown between after
   pub is : new ≡ record old { display_state = Some after; waiting = old.waiting ++ texts_of (taken ++ shown) }
 
--- A terminal that asked for records was told in them. Whole screens are noted, and predictions are made and judged over these. What is
--- noted is what the start shows, or what was noted before, where that has its number or memory was wanting.
+-- A terminal with records got them. The noted screens are whole, and predictions are made and judged from them. The noted screen is the
+-- start's; it stays the old one if that has the same number or memory was refused.
 pub record TellsAll {S : Type 0} (silence : Silence) (client : ClientView) (old new : Terminal S) : Type 0 where
   pub ready : is_ready old ≡ true
   pub before : DisplayStateView
@@ -103,12 +103,12 @@ pub record TellsAll {S : Type 0} (silence : Silence) (client : ClientView) (old 
   pub others : mid ≡ record old { outer = mid.outer; predicting = mid.predicting; over = mid.over }
   pub tells : TellsIt client.kept.acts.acked before mid new
 
--- one that is ready was painted, or told in records what is to be shown; another is as it was
+-- a ready terminal was painted, or got its screen in records; another is unchanged
 pub data MayPaint {S : Type 0} (silence : Silence) (client : ClientView) (old new : Terminal S) : Type 0 where
   painted : Paints silence client old new → MayPaint silence client old new
   told : TellsAll silence client old new → MayPaint silence client old new
   not_ready : is_ready old ≡ false → new ≡ old → MayPaint silence client old new
 
--- something is predicted of what a terminal is to show
+-- a terminal has predictions
 abbrev pub is_predicting : {S : Type 0} → Terminal S → Bool
 is_predicting t = has_predictions t.predicting

@@ -1,10 +1,10 @@
--- What an outer terminal is told where a client start hears nothing.
+-- What an outer terminal shows while a client start hears nothing from its server.
 use Rattle.std.specs.Prelude.{ℕ, ◌-◌, ◌/◌, ◌%◌, ◌&&◌, ◌==◌, not, nat_le, nat_lt, Bool, false, List, ◌∷◌, ◌++◌, Option, Some, None, is_some, if◌then◌else◌, codes, decimal}
 use Rattle.roam_outer_terminal.specs.declared.silence.Silence.{Silence}
 use Rattle.roam_outer_terminal.specs.declared.silence.End.{End}
 use Rattle.roam_outer_terminal.specs.declared.silence.End.TheVariants.{Heard, Silent, Unheard}
 
--- when something was heard last, or the beginning where nothing was
+-- the moment at which the server was heard last; the beginning if it never was
 abbrev pub last_heard : Option ℕ → ℕ
 last_heard None = 0
 last_heard (Some moment) = moment
@@ -13,26 +13,26 @@ last_heard (Some moment) = moment
 abbrev pub seconds_of : Silence → ℕ
 seconds_of s = (s.moment - last_heard s.heard) / 1000
 
--- this was told
+-- the terminal shows this number of seconds
 abbrev pub is_told : Option ℕ → ℕ → Bool
 is_told None seconds = false
 is_told (Some told) seconds = told == seconds
 
--- what is to be told: a silence of ten seconds and more, each second once
+-- the seconds to show: a silence of ten seconds or more, each second once
 abbrev pub due_of : Silence → Option ℕ
 due_of s = if nat_le 10 (seconds_of s) && not (is_told s.told (seconds_of s)) then Some (seconds_of s) else None
 
--- after so many milliseconds there is something to be told next: at ten seconds, and then at each second
+-- the milliseconds until the next seconds to show: at ten seconds, and then every second
 abbrev pub wait_of : Silence → ℕ
 wait_of s =
     if nat_lt (s.moment - last_heard s.heard) 10000 then 10000 - (s.moment - last_heard s.heard)
     else 1000 - (s.moment - last_heard s.heard) % 1000
 
--- a silence that was told is over
+-- a silence that the terminal shows is over
 abbrev pub is_over : Silence → Bool
 is_over s = is_some s.told && nat_lt (seconds_of s) 10
 
--- what a silence of so many seconds is at the end, where something was heard before
+-- the end after a silence of so many seconds, if the server was heard before
 abbrev pub ends_after : ℕ → End
 ends_after seconds = if nat_lt seconds 10 then Heard else Silent seconds
 
@@ -52,6 +52,6 @@ before_words = 27 ∷ codes "7" ++ 27 ∷ codes "[?7l" ++ 27 ∷ codes "[999;1H"
 abbrev pub after_words : List ℕ
 after_words = 27 ∷ codes "[0m" ++ 27 ∷ codes "[K" ++ 27 ∷ codes "[?7h" ++ 27 ∷ codes "8"
 
--- the words over the last row of a terminal that wraps otherwise: where they are too long they end there, and nothing scrolls
+-- The notice over the last row. The terminal doesn't wrap meanwhile: a longer notice is cut, and nothing scrolls.
 abbrev pub notice_of : ℕ → List ℕ
 notice_of seconds = before_words ++ words_for seconds ++ after_words

@@ -7,13 +7,13 @@ use Rattle.roam_outer_terminal.specs.declared.terminal.State.{State}
 use Rattle.roam_outer_terminal.specs.declared.terminal.State.TheVariants.{Here, Deaf, Left, Refused, Gone}
 use Rattle.roam_outer_terminal.specs.declared.terminal.Terminal.{Terminal}
 
--- a line stands first, and whole
+-- the first line is whole
 abbrev pub is_line : Front → Bool
 is_line (Line n) = true
 is_line Part = false
 is_line TooLong = false
 
--- a terminal is let go: it is, or it left and none of its lines stands whole
+-- the terminal is disconnected: it is gone, or it left and none of its lines is whole
 abbrev pub is_let_go : State → List ℕ → Bool
 is_let_go Here kept = false
 is_let_go Deaf kept = false

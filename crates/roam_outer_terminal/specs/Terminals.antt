@@ -1,4 +1,4 @@
--- What a client start takes of an outer terminal: its lines in their order, each once.
+-- The lines that a client start takes from an outer terminal: in order, each once.
 use Rattle.std.specs.Prelude.{◌≡◌, ◌≢◌, ℕ, ◌+◌, ◌<◌, Bool, true, false, not, nat_lt, List, [], ◌∷◌, ◌++◌, length, Option, Some, None}
 use Rattle.std.specs.List.{fold}
 use Rattle.std.specs.Io.KnownBytes.{Consumes}
@@ -32,7 +32,7 @@ watches_after LookStyled watches = watches
 watches_after (Show showing) watches = watches
 watches_after End watches = watches
 
--- a line ends the start where it says so, and its terminal doesn't only watch
+-- a line ends the start if it asks for that and its terminal isn't read-only
 abbrev pub ends_by : Bool → Entry → Bool
 ends_by watches (Acts acts) = false
 ends_by watches (Paste acts) = false
@@ -45,7 +45,7 @@ ends_by watches LookStyled = false
 ends_by watches (Show showing) = false
 ends_by watches End = not watches
 
--- a terminal asked for the end by the line that was taken of it, where one was
+-- the taken line asked for the end
 abbrev pub asks_end : Bool → Option Entry → Bool
 asks_end watches None = false
 asks_end watches (Some entry) = ends_by watches entry
@@ -75,7 +75,7 @@ pub record Stands (kept : List ℕ) (watches : Bool) (log : List ℕ) (typed : L
 abbrev pub Types : List Act → ClientView → ClientView → Type 0
 Types acts old new = new ≡ keeping old (after_typed_all old.kept acts)
 
--- Of a terminal that was heard these bytes of its stream were read, and these acts typed: where it stays, the next ones of its lines.
+-- A call of `hear` read these bytes of a terminal's stream and typed these acts: the next ones of its lines, while it stays connected.
 pub record Hears (before after : Option (List ℕ)) (kept kept' : List ℕ) (watches watches' : Bool) (state' : State)
     (client client' : ClientView) : Type 0 where
   pub bytes : List ℕ
@@ -103,7 +103,7 @@ is_heard Left = true
 is_heard Refused = false
 is_heard Gone = false
 
--- so many acts are unacknowledged at most where another line is taken
+-- the most unacknowledged acts with which another line is taken
 abbrev pub most_acts : ℕ
 most_acts = 64
 
@@ -114,9 +114,9 @@ pub data Holds (acts : List Act) (client : ClientView) : Type 0 where
   full : HasNoRoom client.kept.acts (length acts) → Holds acts client
   spent : IsShort client.kept.acts (length acts) → Holds acts client
 
--- ---- what is predicted of them
+-- ---- the predictions
 
--- the predictions of a terminal after acts of its line were typed, the first under a number, where a start showed a screen
+-- the predictions of a terminal after the acts of its line were typed, the first under a number, while its start showed a screen
 abbrev pub predictions_after : Bool → ℕ → List Act → Screenshot → Option OverlayOf → Option OverlayOf
 predictions_after pasted first acts shown None = None
 predictions_after pasted first acts shown (Some o) =
@@ -126,7 +126,7 @@ predictions_after pasted first acts shown (Some o) =
 abbrev pub first_number : ClientView → ℕ
 first_number client = next_number (last_number client.kept.acts)
 
--- whether predictions are shown where what is typed takes long alone, as a line says; or none are
+-- adaptive display of predictions, as a line asks for it; none if it wants no predictions
 abbrev pub adaptive_of : Predicting → Option Bool
 adaptive_of Always = Some false
 adaptive_of Adaptive = Some true
@@ -136,7 +136,7 @@ adaptive_of Never = None
 abbrev pub fresh_predictions : Bool → OverlayOf
 fresh_predictions adaptive = record { predictions = none; adaptive = adaptive; delays = no_delay; seen = None }
 
--- predictions begin anew, as a line says; there are none where it wants none, of a terminal that watches, and where memory is wanting
+-- Predictions begin anew, as a line asks. There are none if it wants none, if the terminal is read-only, or if memory was refused.
 pub data IsSet (predicting : Predicting) (watches : Bool) (new : Option OverlayOf) : Type 0 where
   no_predictions : new ≡ None → IsSet predicting watches new
   fresh : (adaptive : Bool) → watches ≡ false → adaptive_of predicting ≡ Some adaptive → new ≡ Some (fresh_predictions adaptive)
@@ -152,7 +152,7 @@ abbrev pub has_predictions : Option OverlayOf → Bool
 has_predictions None = false
 has_predictions (Some o) = nat_lt 0 (length o.predictions.list)
 
--- what a line that was taken makes of what is predicted: its acts are predicted; it says when predictions are shown; or nothing changes
+-- the effect of a taken line on predictions: its acts are predicted; it says when to show predictions; or nothing changes
 abbrev pub Predictions : Bool → Entry → ClientView → Option OverlayOf → Option OverlayOf → Type 0
 Predictions watches (Acts acts) client old new = new ≡ predictions_by watches false acts.items client old
 Predictions watches (Paste acts) client old new = new ≡ predictions_by watches true acts.items client old
@@ -167,7 +167,7 @@ Predictions watches End client old new = new ≡ old
 
 -- ---- a line at a time
 
--- bytes were read of a stream: where the terminal isn't let go they are kept behind those that were
+-- bytes were read from a stream, and are kept behind the kept ones unless the terminal is disconnected
 pub record Reads (before after : Option (List ℕ)) (kept kept' : List ℕ) (state' : State) : Type 0 where
   pub bytes : List ℕ
   pub consumed : Consumes before after bytes

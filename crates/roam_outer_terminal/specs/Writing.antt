@@ -1,4 +1,4 @@
--- What waits for an outer terminal: it is written as the terminal takes it; and what is told of silence.
+-- The writing of a terminal's queued bytes as it accepts them, and the notices of silence.
 use Rattle.std.specs.Prelude.{◌≡◌, ◌⊎◌, ℕ, ◌-◌, Bool, true, false, nat_le, nat_lt, List, [], ◌∷◌, length, Option, Some, None, is_some, if◌then◌else◌}
 use Rattle.std.specs.Io.KnownBytes.{Keeps}
 use Rattle.roam_stream_framing.specs.Carriers.{Writes}
@@ -10,7 +10,7 @@ use Rattle.roam_outer_terminal.specs.declared.terminal.State.{State}
 use Rattle.roam_outer_terminal.specs.declared.terminal.State.TheVariants.{Here, Deaf, Left, Refused, Gone}
 use Rattle.roam_outer_terminal.specs.declared.terminal.Terminal.{Terminal}
 
--- after how many milliseconds a terminal is let go that takes nothing of what waits
+-- the milliseconds after which a terminal that accepts none of its queued bytes is disconnected
 abbrev pub longest_stuck : ℕ
 longest_stuck = 60000
 
@@ -18,7 +18,7 @@ abbrev pub is_empty : List ℕ → Bool
 is_empty [] = true
 is_empty (byte ∷ bytes) = false
 
--- what a terminal is once nothing more can be written to it: what it typed before is taken none the less
+-- the state of a terminal that can't be written to any more: the lines that it typed are still taken
 abbrev pub unwritten : State → State
 unwritten Here = Deaf
 unwritten Deaf = Deaf
@@ -38,7 +38,7 @@ once_written Gone = Gone
 abbrev pub has_gone : List ℕ → List ℕ → Bool
 has_gone old new = nat_lt (length new) (length old)
 
--- since when a terminal takes nothing of what waits: it just took some, or it did or does from now on
+-- the moment since which a terminal has accepted none of its queued bytes: now if it has just accepted some, or if it was not stuck before
 abbrev pub stuck_since : Bool → ℕ → Option ℕ → ℕ
 stuck_since true now stuck = now
 stuck_since false now None = now
@@ -54,9 +54,8 @@ state_after true has_taken now stuck state = once_written state
 state_after false has_taken now stuck state =
     if nat_le longest_stuck (now - stuck_since has_taken now stuck) then Gone else state
 
--- Some of what waited for a terminal was written, and nothing else is another: what is noted of it, what stands over that and what is
--- predicted stay, and so do its lines. Where a write failed nothing more can be written. Since when it takes nothing is known by whether
--- less waits than before.
+-- Some of a terminal's queued bytes were written, and the rest of the terminal stays: the noted screen, the overlay, the predictions and
+-- its lines. After a failed write nothing more can be written. A terminal is stuck from the moment at which its queue stopped shrinking.
 pub record Flushes {S : Type 0} (remaining contents : S → Option (List ℕ)) (now : ℕ) (old new : Terminal S) : Type 0 where
   pub writes : Writes (contents old.stream) (contents new.stream) old.waiting new.waiting
   pub apart : Keeps (remaining old.stream) (remaining new.stream)
@@ -67,12 +66,12 @@ pub record Flushes {S : Type 0} (remaining contents : S → Option (List ℕ)) (
   pub others : new
       ≡ record old { stream = new.stream; waiting = new.waiting; stuck = new.stuck; state = new.state }
 
--- what a terminal knows of the silence
+-- the silence as a terminal shows it
 abbrev pub seen_by : {S : Type 0} → Silence → Terminal S → Silence
 seen_by silence t = record silence { told = t.told }
 
--- In records it is told that a silence is over, or of so many seconds, where nothing waits and the terminal is there; or nothing changes.
--- What is noted and shown stays.
+-- The records of a silence: that it is over, or its seconds, if no bytes are queued and the terminal is connected. Otherwise nothing
+-- changes. The noted screen and the overlay stay.
 pub data SaysSilence {S : Type 0} (seen : Silence) (old new : Terminal S) : Type 0 where
   heard : is_over seen ≡ true → old.waiting ≡ [] → old.state ≡ Here
       → new ≡ record old { told = None; waiting = text_of records.Heard } → SaysSilence seen old new
@@ -80,8 +79,8 @@ pub data SaysSilence {S : Type 0} (seen : Silence) (old new : Terminal S) : Type
       → new ≡ record old { told = Some seconds; waiting = text_of (records.Silent seconds) } → SaysSilence seen old new
   quiet : new ≡ old → SaysSilence seen old new
 
--- A silence that a terminal was told of is over, and what it shows isn't known; it is told of so many seconds, where nothing waits for it
--- and nothing stands over what is noted; or nothing changes. One that asked for records is told in them.
+-- The notice of a silence: it is over, and the terminal's screen is unknown; or its seconds are shown, if no bytes are queued and no
+-- overlay is shown. Otherwise nothing changes. A terminal with records gets records.
 pub data TellsSilence {S : Type 0} (silence : Silence) (old new : Terminal S) : Type 0 where
   over : is_some old.display_state ≡ false → is_over (seen_by silence old) ≡ true → new ≡ record old { told = None; outer = None }
       → TellsSilence silence old new
@@ -91,7 +90,7 @@ pub data TellsSilence {S : Type 0} (silence : Silence) (old new : Terminal S) : 
   quiet : is_some old.display_state ≡ false → is_over (seen_by silence old) ≡ false → new ≡ old → TellsSilence silence old new
   says : is_some old.display_state ≡ true → SaysSilence (seen_by silence old) old new → TellsSilence silence old new
 
--- a terminal was told of a silence or not, and some of what waited for it was written
+-- a terminal got its notice of a silence, if one was due, and some of its queued bytes were written
 pub record Settles {S : Type 0} (remaining contents : S → Option (List ℕ)) (silence : Silence) (old new : Terminal S) : Type 0 where
   pub told : Terminal S
   pub tells : TellsSilence silence old told

@@ -1,4 +1,4 @@
-//! A terminal that asked for records is told in them what is to be shown, which lines are taken, and the screen that it asked for.
+//! A terminal that asked for records gets three kinds: the screen to show, the taken lines, and the screen that it asked for.
 ghost use Rattle.std.specs.Prelude.{◌≡◌, ◌⊎◌, ◌++◌, List, true, Some, is_some};
 ghost use Rattle.roam_display_records.specs.declared.records.Record.{Record};
 ghost use Rattle.roam_screens.specs.Shown.{shown_by};
@@ -17,7 +17,7 @@ use roam_stream_framing::Outbox;
 use roam_turns::Outer;
 use std::alloc::Global;
 
-// Tells what is to be shown of a screen of either version.
+// Sends the screen to show, of either representation.
 fn tell_shown(
     alloc: Global,
     display_state: &mut DisplayState,
@@ -39,7 +39,7 @@ fn tell_shown(
     }
 }
 
-// Tells the screen that is noted where it was asked for, and what is to be shown of it with what stands over it.
+// Sends the noted screen if it was requested, and the terminal's screen with its overlay.
 fn tell_noted(
     alloc: Global,
     display_state: &mut DisplayState,
@@ -63,7 +63,7 @@ fn tell_noted(
 }
 
 impl<S: Duplex + Drop> Terminal<S> {
-    // Notes what the start shows, where there is memory for it.
+    // Notes the screen that the start shows, if there is memory for it.
     fn note(&mut self, alloc: Global, client: &Client)
         ensures noted { (self.new.outer ≡ Some (shown_of client.now)) ⊎ (self.new.outer ≡ self.old.outer) }
         ensures others { self.new ≡ record self.old { outer = self.new.outer } }
@@ -72,8 +72,8 @@ impl<S: Duplex + Drop> Terminal<S> {
         self.outer.see(alloc, number, &screen);
     }
 
-    // Tells in records which lines are taken, where so many acts are acknowledged, the screen that it asked for, and what is to be shown of
-    // the screen that is noted with what stands over it; all behind what waits.
+    // Appends the records to the queued bytes: the taken lines, given the number of acknowledged acts; the requested screen; and the noted
+    // screen with its overlay.
     fn tell_all(&mut self, alloc: Global, acknowledged: u64)
         ensures told { (before : DisplayStateView) → self.old.display_state ≡ Some before → TellsIt acknowledged before self.old self.new }
     {
@@ -89,14 +89,14 @@ impl<S: Duplex + Drop> Terminal<S> {
         }
     }
 
-    // What stands over the screen that is noted, as it is told.
+    // Sets the overlay of the noted screen, as the records give it.
     fn stand_over(&mut self, over: Option<RowShot>)
         ensures over { self.new ≡ record self.old { over = over } }
     {
         self.over = over;
     }
 
-    // Tells it in records what it is to know, behind what waits: whole screens are noted, and predictions judged by these.
+    // Appends the due records to the queued bytes. It notes whole screens, and judges predictions by these.
     pub(crate) fn tell(&mut self, alloc: Global, client: &Client, silence: Silence)
         requires ready { is_ready self.old ≡ true }
         requires told { is_some self.old.display_state ≡ true }

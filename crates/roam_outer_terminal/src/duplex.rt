@@ -5,10 +5,10 @@ ghost use Rattle.std.specs.Io.KnownBytes.{Keeps, ReadConsumes, WriteAppends};
 use std::io;
 use std::io::{Read, Write};
 
-/// A stream whose two ways are apart, with an outer terminal at its other end: what is read of it leaves what was written as it is, and
-/// what is written leaves what is still to be read. `Read` and `Write` alone don't say so.
+/// A stream with two independent directions and an outer terminal at its other end. A read leaves the written bytes as they are, and a
+/// write leaves the unread bytes. `Read` and `Write` alone don't promise this.
 pub trait Duplex: Read + Write {
-    /// Reads what came, as `read` does.
+    /// Reads available bytes, as `read` does.
     fn read_some(&mut self, buf: &mut [u8]) -> io::Result<usize>
         ensures bound { IfOk result (λ n. n ≤ length buf.new) }
         ensures bytes { ReadConsumes (Self.remaining self.old) (Self.remaining self.new) result buf.new }
@@ -28,7 +28,7 @@ pub struct Opaque<S> {
 }
 
 impl<S> Opaque<S> {
-    /// The stream, of which nothing is told.
+    /// Wraps a stream, so that clauses say nothing of it.
     pub fn new(stream: S) -> Opaque<S>
         ensures stream { result.stream ≡ stream }
     {

@@ -1,4 +1,4 @@
-//! What an outer terminal types: its lines are read and taken, each once and in order.
+//! The lines of an outer terminal: each is read and taken once, in order.
 ghost use Rattle.std.specs.Prelude.{◌≡◌, ◌≢◌, ◌⊎◌, ◌++◌, ◌≤◌, ℕ, List, Option, true, None, Some, IfOk, length};
 ghost use Rattle.std.specs.Io.KnownBytes.{Keeps};
 ghost use Rattle.std.specs.List.{All};
@@ -33,10 +33,10 @@ const PIECE: usize = 1024;
 /// So many pieces are more than a line.
 const MOST_READS: u32 = 4;
 
-/// What became of the line of a terminal that stood first.
+/// The result of a terminal's first line.
 #[derive(Clone, Copy, Debug, PartialEq, Eq)]
 pub enum Taking {
-    /// None stood there.
+    /// There was no whole line.
     Nothing,
 
     /// It was taken.
@@ -53,7 +53,7 @@ pub enum Taking {
 }
 
 impl Taking {
-    /// Whether it ends the start.
+    /// Returns true if the line ends the start.
     pub fn is_end(self) -> bool
         ensures end { result ≡ is_end self }
     {
@@ -64,7 +64,7 @@ impl Taking {
     }
 }
 
-// Predictions that begin, where there is memory for them.
+// Returns new predictions, or `None` if memory is refused.
 fn new_overlay(alloc: Global, adaptive: bool) -> Option<Overlay>
     ensures fresh { (result ≡ None) ⊎ (result ≡ Some (fresh_predictions adaptive)) }
 {
@@ -74,7 +74,7 @@ fn new_overlay(alloc: Global, adaptive: bool) -> Option<Overlay>
     }
 }
 
-// What predictions are shown by, where they are to be and there is memory for it; a terminal that watches has none.
+// Returns new predictions if they are wanted and there is memory for them; `None` for a read-only terminal.
 fn overlay_for(alloc: Global, predicting: Predicting, watches: bool) -> Option<Overlay>
     ensures set { IsSet predicting watches result }
 {
@@ -89,12 +89,12 @@ fn overlay_for(alloc: Global, predicting: Predicting, watches: bool) -> Option<O
 }
 
 impl<S: Duplex + Drop> Terminal<S> {
-    // A read brought bytes or not; tells whether it brought some that are kept.
+    // Notes the result of a read, and returns true if it brought bytes that are kept.
     fn take_piece(&mut self, answer: &io::Result<usize>, piece: &[u8]) -> bool
         requires within { IfOk answer.now (λ n. n ≤ length piece.now) }
         ensures on { result ≡ true → self.new.state ≡ self.old.state }
         ensures kept { self.new.state ≢ State.Gone → self.new.lines.kept ≡ self.old.lines.kept ++ bytes_given answer.now piece.now }
-        // It left where the stream is over, and nowhere else.
+        // The terminal leaves only if the stream ends.
         ensures left { self.new.state ≡ State.Left → (self.old.state ≡ State.Left) ⊎ IsStreamEnd answer.now }
         ensures others { self.new ≡ record self.old { lines = self.new.lines; state = self.new.state } }
     {
@@ -115,7 +115,7 @@ impl<S: Duplex + Drop> Terminal<S> {
         false
     }
 
-    // Reads a piece, and tells whether one came.
+    // Reads a piece, and returns true if it brought bytes.
     fn read_piece(&mut self) -> bool
         ensures on { result ≡ true → self.new.state ≡ self.old.state }
         ensures reads { Reads (S.remaining self.old.stream) (S.remaining self.new.stream) self.old.lines.kept self.new.lines.kept
@@ -128,7 +128,7 @@ impl<S: Duplex + Drop> Terminal<S> {
         self.take_piece(&answer, &piece)
     }
 
-    // Whether more of it may come.
+    // Returns true if more bytes may arrive.
     fn is_read(&self) -> bool
         ensures read { result ≡ is_read self.now.state }
     {
@@ -138,7 +138,7 @@ impl<S: Duplex + Drop> Terminal<S> {
         }
     }
 
-    // Reads until a line stands first or nothing more comes now.
+    // Reads until a line is whole or no more bytes are available.
     fn read_line(&mut self, alloc: Global)
         ensures reads { Reads (S.remaining self.old.stream) (S.remaining self.new.stream) self.old.lines.kept self.new.lines.kept
             self.new.state }
@@ -163,7 +163,7 @@ impl<S: Duplex + Drop> Terminal<S> {
 }
 
 impl<S: Duplex + Drop> Terminal<S> {
-    // Whether its lines are taken: also those that came whole before it left.
+    // Returns true if the terminal's lines are taken. Whole lines that arrived before it left are.
     fn is_heard(&self) -> bool
         ensures heard { result ≡ is_heard self.now.state }
     {
@@ -173,8 +173,7 @@ impl<S: Duplex + Drop> Terminal<S> {
         }
     }
 
-    // The acts of a line were typed at the start, the first under a number, where it showed a screen: what they show is predicted, where
-    // that is wanted.
+    // Predicts the screen after the acts of a line, the first under a number, if predictions are wanted and the start showed a screen.
     fn prediction(&mut self, is_pasted: bool, first: u64, acts: &[Act], client: &Client)
         ensures guesses { self.new.predicting
             ≡ predictions_after is_pasted first acts.now client.now.kept.receiver.newest.state self.old.predicting }
@@ -193,7 +192,7 @@ impl<S: Duplex + Drop> Terminal<S> {
         self.predicting = overlay_for(alloc, predicting, self.watches);
     }
 
-    // The line that stands first was taken; the last of its acts has this number, where it has acts.
+    // Takes the first line; its last act has this number, if it has acts.
     fn took_line(&mut self, last: Option<u64>)
         ensures took { Took self.old.lines.kept self.new.lines.kept }
         ensures others { self.new ≡ record self.old { lines = self.new.lines; display_state = line_told last self.old.display_state } }
@@ -204,7 +203,7 @@ impl<S: Duplex + Drop> Terminal<S> {
         }
     }
 
-    // Types the acts of the line that stands first, all or none.
+    // Types the acts of the first line, all or none.
     fn type_acts(&mut self, client: &mut Client, acts: &[Act], is_pasted: bool) -> Taking
         requires in_range { All IsInRange acts.now }
         ensures types { TypesLine is_pasted acts.now self.old self.new client.old client.new result }
@@ -229,7 +228,7 @@ impl<S: Duplex + Drop> Terminal<S> {
         }
     }
 
-    // The line that stands first comes where it can't.
+    // Refuses a first line that is out of place.
     fn refuse_line(&mut self, alloc: Global) -> Taking
         ensures refused { IsRefused self.old self.new }
         ensures nothing { result ≡ Taking.Nothing }
@@ -238,7 +237,7 @@ impl<S: Duplex + Drop> Terminal<S> {
         Taking::Nothing
     }
 
-    // Nothing is told in records yet, and nothing is known of what it shows.
+    // Begins the state of records: nothing is sent yet, and the terminal's screen is unknown.
     fn open_records(&mut self)
         ensures opened { self.new ≡ record self.old { outer = None; over = None; display_state = Some nothing_told } }
     {
@@ -247,7 +246,7 @@ impl<S: Duplex + Drop> Terminal<S> {
         self.display_state = Some(DisplayState::new());
     }
 
-    // Records come from here on, behind what waits: the first line says so.
+    // Begins records behind the queued bytes, as the first line asks.
     fn begin_records(&mut self, alloc: Global) -> Taking
         ensures begins { (client : ClientView) → TakesWord Entry.Events client self.old self.new result }
     {
@@ -262,7 +261,7 @@ impl<S: Duplex + Drop> Terminal<S> {
         Taking::Line
     }
 
-    // It only watches from here on: the first line says so, or the second where the first asked for records.
+    // Makes the terminal read-only, as the first line asks, or the second behind one that asked for records.
     fn watch(&mut self, alloc: Global) -> Taking
         ensures watches { (client : ClientView) → TakesWord Entry.Watch client self.old self.new result }
     {
@@ -275,7 +274,7 @@ impl<S: Duplex + Drop> Terminal<S> {
         Taking::Line
     }
 
-    // The screen is asked for, once it was told that was asked for before.
+    // Requests the screen, once the screen requested before is sent.
     fn look(&mut self, alloc: Global, looking: Looking) -> Taking
         ensures looks { (client : ClientView) → TakesWord (look_of looking) client self.old self.new result }
         ensures waits { is_looking self.old.display_state ≡ true → result ≡ Taking.Waits }
@@ -291,7 +290,7 @@ impl<S: Duplex + Drop> Terminal<S> {
         Taking::Line
     }
 
-    // Something else of the screen is to be shown.
+    // Sets which part of the screen to show.
     fn show(&mut self, alloc: Global, showing: Showing) -> Taking
         ensures shows { (client : ClientView) → TakesWord (Entry.Show showing) client self.old self.new result }
     {
@@ -305,7 +304,7 @@ impl<S: Duplex + Drop> Terminal<S> {
         Taking::Line
     }
 
-    // Nothing is known of what it shows, whatever it is told.
+    // Forgets the terminal's screen, with and without records.
     fn forget_all(&mut self)
         ensures forgotten { self.new ≡ record self.old { outer = None; display_state = forgotten self.old.display_state } }
     {
@@ -315,7 +314,7 @@ impl<S: Duplex + Drop> Terminal<S> {
         }
     }
 
-    // What it shows isn't known any more.
+    // Makes the terminal's screen unknown, so that it is painted anew.
     fn repaint(&mut self) -> Taking
         ensures anew { (client : ClientView) → TakesWord Entry.Repaint client self.old self.new result }
     {
@@ -324,7 +323,7 @@ impl<S: Duplex + Drop> Terminal<S> {
         Taking::Line
     }
 
-    // Does what the line that stands first asks for.
+    // Does the entry of the first line.
     fn take_entry(&mut self, alloc: Global, client: &mut Client, entry: &Entry) -> Taking
         requires in_range { All IsInRange (acts_in entry.now) }
         ensures takes { TakesEntry entry.now self.old self.new client.old client.new result }
@@ -355,7 +354,7 @@ impl<S: Duplex + Drop> Terminal<S> {
         }
     }
 
-    /// Reads what came, and does what the line that stands first asks for: its acts are typed at the start, all of them or none.
+    /// Reads available bytes, and does the entry of the first line. Its acts are typed at the start, all of them or none.
     pub fn hear(&mut self, alloc: Global, client: &mut Client) -> Taking
         ensures hears { (entry : Option EntryOf) × (hears : HearsOne S.remaining S.contents entry self.old self.new client.old client.new)
             × (is_end result ≡ asks_end self.old.watches entry) × (result ≡ told_of hears.takes) }

@@ -9,7 +9,7 @@ pub fn heard_lines_stand<S: Duplex>()
     ensures stands { HeardStands S.remaining S.contents }
 {}
 
-/// The text that takes back what stands over a screen that is noted leads a ground terminal that shows it to the screen that is noted.
+/// The text that takes an overlay back leads a ground terminal from the overlay to the noted screen.
 pub fn taken_back_is_noted()
     ensures noted { TakenBackIsNoted }
 {}

@@ -1,4 +1,4 @@
-//! What is predicted is laid over the screen that is noted of an outer terminal, and taken back before another is painted.
+//! Predictions are painted as an overlay over the noted screen of a terminal. The overlay is taken back before another screen is painted.
 ghost use Rattle.std.specs.Prelude.{◌≡◌, ◌⊎◌, ◌++◌, ◌≤◌, ℕ, [], Option, true, false, None, Some, IfSome, is_some, IfOk, OnOk, OnErr, IsOkUnless};
 ghost use Rattle.roam_screens.specs.Screenshot.{Screenshot};
 ghost use Rattle.roam_scroll_paint.specs.Leads.{Leads};
@@ -18,21 +18,21 @@ use roam_stream_framing::Outbox;
 use roam_turns::Outer;
 use std::alloc::Global;
 
-/// What stood over the screen that is noted, and the text that takes it back.
+/// An overlay, and the text that takes it back.
 #[derive(Drop)]
 pub(crate) struct Taken {
     pub(crate) over: RowShot,
     pub(crate) text: Vec<u8>,
 }
 
-// Whether one screen has the size of another.
+// Returns true if one screen has the size of another.
 fn is_size<O: Seen, N: Seen>(one: &O, other: &N) -> bool
     ensures size { result ≡ true → IsSize (O.screen one.now) (N.screen other.now) }
 {
     one.rows() == other.rows() && one.cols() == other.cols()
 }
 
-// Whether the rows of two screens of one size are the same.
+// Returns true if the rows of two screens of one size are equal.
 fn are_same_rows(one: &RowShot, other: &RowShot) -> bool
     requires size { IsSize one.now other.now }
     ensures same { result ≡ true → one.now.cells ≡ other.now.cells }
@@ -47,7 +47,7 @@ fn are_same_rows(one: &RowShot, other: &RowShot) -> bool
     true
 }
 
-// Whether two screens are the same.
+// Returns true if two screens are equal.
 fn is_same(one: &RowShot, other: &RowShot) -> bool
     ensures same { result ≡ true → one.now ≡ other.now }
 {
@@ -57,7 +57,7 @@ fn is_same(one: &RowShot, other: &RowShot) -> bool
         && are_same_rows(one, other)
 }
 
-// A text that leads from one screen to another, in which rows may be moved; none where there is no memory.
+// Returns a text that leads from one screen to another and may move rows; `None` if memory is refused.
 fn moving_text<O: Seen, N: Seen>(alloc: Global, one: &O, other: &N) -> Option<Vec<u8>>
     ensures leads { IfSome result (λ text. Leads (O.screen one.now) (N.screen other.now) text.items) }
 {
@@ -68,7 +68,7 @@ fn moving_text<O: Seen, N: Seen>(alloc: Global, one: &O, other: &N) -> Option<Ve
     }
 }
 
-// A text that takes back what stands over the screen that is noted; none where that has another size, or there is no memory.
+// Returns a text that takes an overlay back; `None` if the noted screen has another size, or memory is refused.
 fn text_back(alloc: Global, over: &RowShot, outer: &Outer) -> Option<Vec<u8>>
     ensures back { IfSome result (λ text. IsBack over.now outer.now text.items) }
 {
@@ -79,7 +79,7 @@ fn text_back(alloc: Global, over: &RowShot, outer: &Outer) -> Option<Vec<u8>>
     moving_text(alloc, over, &screen)
 }
 
-// A text that lays a screen over the one that is noted; none where that has another size, or there is no memory.
+// Returns a text that paints an overlay; `None` if the noted screen has another size, or memory is refused.
 fn text_forth(alloc: Global, outer: &Outer, over: &RowShot) -> Option<Vec<u8>>
     ensures forth { IfSome result (λ text. IsForth outer.now over.now text.items) }
 {
@@ -90,7 +90,7 @@ fn text_forth(alloc: Global, outer: &Outer, over: &RowShot) -> Option<Vec<u8>>
     moving_text(alloc, &screen, over)
 }
 
-// What stands over the screen that is noted, with the text that takes it back.
+// Returns an overlay with the text that takes it back.
 fn taken_of(alloc: Global, over: RowShot, outer: &Outer) -> Option<Taken>
     ensures back { IfSome result (λ taken. (taken.over ≡ over) × IsBack over outer.now taken.text.items) }
 {
@@ -98,7 +98,7 @@ fn taken_of(alloc: Global, over: RowShot, outer: &Outer) -> Option<Taken>
     Some(Taken { over, text })
 }
 
-// Puts a text before what waits, where there is memory for it.
+// Puts a text before the queued bytes, if there is memory for it.
 fn put_before(alloc: Global, waiting: &mut Outbox, text: &[u8]) -> bool
     ensures put { result ≡ true → waiting.new ≡ text.now ++ waiting.old }
 {
@@ -110,7 +110,7 @@ fn put_before(alloc: Global, waiting: &mut Outbox, text: &[u8]) -> bool
     true
 }
 
-// Lays a screen over the one that is noted, behind what waits, where one is wanted and there is memory for it.
+// Paints an overlay behind the queued bytes, if one is wanted and there is memory for it.
 fn put_forth(
     alloc: Global,
     waiting: &mut Outbox,
@@ -125,7 +125,7 @@ fn put_forth(
     Some(over)
 }
 
-// Whether nothing waits, and what is to stand over the screen that is noted stands there.
+// Returns true if no bytes are queued and the wanted overlay is shown already.
 fn is_there(waiting: &Outbox, taken: &Taken, over: &Option<RowShot>) -> bool
     ensures none { result ≡ true → waiting.now ≡ [] }
     ensures there { result ≡ true → over.now ≡ Some taken.now.over }
@@ -137,8 +137,7 @@ fn is_there(waiting: &Outbox, taken: &Taken, over: &Option<RowShot>) -> bool
 }
 
 impl<S: Duplex + Drop> Terminal<S> {
-    // Takes back what stands over the screen that is noted: the text for it stands first in the next entry. Where there is no memory for
-    // it nothing is noted any more.
+    // Takes the overlay back: its text comes first in the next entry of the queue. Without memory for it, no screen is noted any more.
     fn take_back(&mut self, alloc: Global) -> Option<Taken>
         ensures taken { TakesBack self.old.over self.old.outer self.new.outer result }
         ensures others { self.new ≡ record self.old { over = None; outer = self.new.outer } }
@@ -153,8 +152,7 @@ impl<S: Duplex + Drop> Terminal<S> {
         }
     }
 
-    // Paints what the start shows: the text that leads there from what is noted waits. Where there is no memory to keep it nothing is
-    // noted any more.
+    // Queues the text from the noted screen to the start's. Without memory to keep the new screen, none is noted any more.
     fn paint_noted(&mut self, alloc: Global, client: &Client)
         requires ready { self.old.waiting ≡ [] }
         ensures leads { LeadsSized self.old.outer self.new.waiting self.new.outer }
@@ -182,7 +180,7 @@ impl<S: Duplex + Drop> Terminal<S> {
         }
     }
 
-    // What is to stand over the screen that is noted: nothing in a silence, which is told.
+    // Returns the wanted overlay; `None` during a silence, which has a notice of its own.
     pub(crate) fn wanted(&self, alloc: Global, silence: Silence) -> Option<RowShot>
         ensures over { IsOver silence.moment self.now.predicting self.now.outer result }
         ensures hidden { IsHidden silence result }
@@ -195,7 +193,7 @@ impl<S: Duplex + Drop> Terminal<S> {
         overlay.over(alloc, &screen, silence.moment())
     }
 
-    // Lays a screen over the one that is noted, behind what waits.
+    // Paints an overlay behind the queued bytes.
     fn lay_over(&mut self, alloc: Global, wanted: Option<RowShot>)
         ensures lays { Lays self.old.outer wanted self.new.over self.old.waiting self.new.waiting }
         ensures hidden { wanted ≡ None → self.new.over ≡ None }
@@ -204,8 +202,8 @@ impl<S: Duplex + Drop> Terminal<S> {
         self.over = put_forth(alloc, &mut self.waiting, &self.outer, wanted);
     }
 
-    // The same where another one stood over the one that was noted before: the text that takes it back stands first. Where nothing
-    // changed nothing waits; where there is no memory for that text nothing is noted any more.
+    // Does the same if another overlay was shown: the text that takes it back comes first. If nothing changed, nothing is queued. Without
+    // memory for that text, no screen is noted any more.
     fn lay_again(&mut self, alloc: Global, wanted: Option<RowShot>, taken: Taken)
         requires bare { self.old.over ≡ None }
         ensures leads { (over : Screenshot) (outer : Option NotedOf) → taken.over ≡ over → IsBack over outer taken.text.items
@@ -229,7 +227,7 @@ impl<S: Duplex + Drop> Terminal<S> {
         self.lay_over(alloc, wanted);
     }
 
-    // Lays a screen over the one that is noted, behind what waits and what takes back the one that stood there.
+    // Paints an overlay behind the queued bytes and the text that takes the old one back.
     fn lay(&mut self, alloc: Global, wanted: Option<RowShot>, taken: Option<Taken>)
         requires bare { self.old.over ≡ None }
         ensures leads { (over : Option Screenshot) (outer mid : Option NotedOf) → TakesBack over outer mid taken
@@ -247,8 +245,8 @@ impl<S: Duplex + Drop> Terminal<S> {
         }
     }
 
-    // Paints it: what stands over the screen that is noted is taken back first, then what the start shows is painted, and what is predicted
-    // is laid over that. All of it waits to be written, whole.
+    // Paints the terminal: takes the overlay back, paints the start's screen, and paints the predictions over it. All of it is queued,
+    // whole.
     fn paint(&mut self, alloc: Global, client: &Client, silence: Silence)
         requires ready { is_ready self.old ≡ true }
         requires untold { is_some self.old.display_state ≡ false }
@@ -263,7 +261,7 @@ impl<S: Duplex + Drop> Terminal<S> {
         self.lay(alloc, wanted, taken);
     }
 
-    // Whether it is to be painted now: all that was painted before is written, and it tells of no silence, but in records.
+    // Returns true if the terminal can be painted: no bytes are queued, and it shows no notice of silence outside records.
     fn is_ready(&self) -> bool
         ensures ready { result ≡ is_ready self.now }
     {
@@ -271,7 +269,7 @@ impl<S: Duplex + Drop> Terminal<S> {
         self.is_here() && is_open && self.waiting.len() == 0
     }
 
-    /// Paints what the start shows where it is ready for it.
+    /// Paints the start's screen if the terminal is ready for it.
     pub fn paint_if_ready(&mut self, alloc: Global, client: &Client, silence: Silence)
         ensures paints { MayPaint silence client.now self.old self.new }
         ensures behind { IsBehind self.old.outer client.now.kept.receiver.newest.number client.now.kept.receiver.newest.state

@@ -1,5 +1,5 @@
-//! An outer terminal of a client start: a program at the other end of a stream, whose lines of acts are typed there, and to which goes what
-//! is painted of what the start shows, with predictions over it, and what it is told of silence.
+//! An outer terminal of a client start: a program at the other end of a stream. It types lines of acts, and gets the painted screen of the
+//! start, with predictions over it and notices of silence.
 #![tactic(auto)]
 
 mod display_state;

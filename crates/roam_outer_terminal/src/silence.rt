@@ -1,4 +1,5 @@
-//! What a client start knows of its server without asking: for how long it heard nothing, and what the outer terminal says of that.
+//! A client start's knowledge of its server without a question: for how long it has heard nothing, and which notice the outer terminal
+//! shows.
 ghost use Rattle.std.specs.Prelude.{◌≡◌, ◌↔◌, ◌≤◌, ◌-◌, Some, None, is_some, nat_le, IsTrue, IfOk, IsOkUnless};
 ghost use Rattle.roam_outer_terminal.specs.Silence.{seconds_of, due_of, is_over, end_of, notice_of, wait_of};
 
@@ -7,16 +8,16 @@ use std::alloc::Global;
 use std::fmt;
 use std::fmt::{Display, Formatter};
 
-/// From how many seconds on a silence is told.
+/// The seconds from which a silence gets a notice.
 const LONG: u64 = 10;
 
-/// What stands before the words: the cursor is saved, nothing wraps, and the last row begins, in reverse.
+/// The text before the words: it saves the cursor, turns wrapping off, and begins the last row in reverse.
 const BEFORE: &[u8] = b"\x1b7\x1b[?7l\x1b[999;1H\x1b[0;7m";
 
-/// What stands after them: the rest of the row is erased, what is printed wraps again, and the cursor is put back.
+/// The text behind the words: it erases the rest of the row, turns wrapping on, and restores the cursor.
 const AFTER: &[u8] = b"\x1b[0m\x1b[K\x1b[?7h\x1b8";
 
-/// What a client start heard of its server in the end, where it took all its turns or the stream of its acts was over.
+/// What a client start heard of its server at the end, once it has taken all its turns or its acts ended.
 #[derive(Clone, Copy, Debug, PartialEq, Eq)]
 pub enum End {
     /// It heard something within the last ten seconds.
@@ -52,7 +53,7 @@ pub struct Silence {
 }
 
 impl Silence {
-    /// Moments from 0 on: nothing was heard, and nothing is told.
+    /// Returns the silence at moment 0: the server was not heard, and no notice is shown.
     pub fn new() -> Silence
         ensures new { result ≡ record { moment = 0; heard = None; told = None } }
     {
@@ -77,14 +78,14 @@ impl Silence {
         self.heard = Some(self.moment);
     }
 
-    /// The outer terminal tells of so many seconds from now on, or of none.
+    /// Notes that the outer terminal shows so many seconds from now on, or no notice.
     pub fn tell(&mut self, told: Option<u64>)
         ensures told { self.new ≡ record self.old { told = told } }
     {
         self.told = told;
     }
 
-    /// What was heard, where this is the end.
+    /// Returns what was heard if the start ends now.
     pub fn end(&self) -> End
         ensures end { result ≡ end_of self.now }
     {
@@ -96,7 +97,7 @@ impl Silence {
         }
     }
 
-    /// Whether the outer terminal tells of a silence.
+    /// Returns true if the outer terminal shows a notice.
     pub fn is_told(&self) -> bool
         ensures told { result ≡ is_some self.now.told }
     {
@@ -114,14 +115,14 @@ impl Silence {
         self.moment.saturating_sub(heard) / 1000
     }
 
-    /// Whether nothing was heard for ten seconds or more.
+    /// Returns true if nothing was heard for ten seconds or more.
     pub fn is_long(&self) -> bool
         ensures long { result ≡ nat_le 10 (seconds_of self.now) }
     {
         self.seconds() >= LONG
     }
 
-    /// What is to be told: a silence of ten seconds and more, each second once.
+    /// Returns the seconds to show: a silence of ten seconds or more, each second once.
     pub fn due(&self) -> Option<u64>
         ensures due { result ≡ due_of self.now }
     {
@@ -133,7 +134,7 @@ impl Silence {
         }
     }
 
-    /// After how many milliseconds there is something to be told next, where nothing is heard.
+    /// Returns the milliseconds until the next notice if the server stays silent.
     pub fn wait(&self) -> u64
         ensures wait { result ≡ wait_of self.now }
     {
@@ -156,14 +157,14 @@ impl Silence {
         self.moment
     }
 
-    /// Whether so many milliseconds have passed since a moment.
+    /// Returns true if so many milliseconds have passed since a moment.
     pub fn has_passed(&self, since: u64, long: u64) -> bool
         ensures passed { IsTrue result ↔ long ≤ self.now.moment - since }
     {
         self.moment.saturating_sub(since) >= long
     }
 
-    /// Whether a silence that is told is over.
+    /// Returns true if a silence with a notice is over.
     pub fn is_over(&self) -> bool
         ensures over { result ≡ is_over self.now }
     {
@@ -171,7 +172,7 @@ impl Silence {
     }
 }
 
-/// The text that tells of so many seconds of silence over the last row of a terminal. It scrolls nothing, and the cursor is where it was.
+/// Returns the text of a notice of so many seconds over the last row of a terminal. It scrolls nothing, and leaves the cursor in its place.
 /// `OutOfMemory`.
 pub fn notice(alloc: Global, seconds: u64) -> Result<Vec<u8>, Fault>
     ensures text { IfOk result (λ text. text.items ≡ notice_of seconds) }

@@ -1,4 +1,4 @@
-//! An outer terminal: the stream at its other end, the lines that came, and what waits to be written.
+//! An outer terminal: the stream to it, its lines, and its queued bytes.
 ghost use Rattle.std.specs.Prelude.{◌≡◌, ◌++◌, List, ℕ, [], true, false, not, None};
 ghost use Rattle.roam_outer_terminal.specs.Hearing.{IsRefusal, IsRefused};
 ghost use Rattle.roam_outer_terminal.specs.Painted.{is_predicting, is_here};
@@ -23,21 +23,21 @@ pub(crate) enum State {
     /// It is there.
     Here,
 
-    /// It takes nothing more, as where it is closed at its other end: its lines are taken until it left.
+    /// It accepts no more bytes, as if closed at its other end. Its lines are taken until it leaves.
     Deaf,
 
     /// It left: the lines that came whole are taken, and then it goes.
     Left,
 
-    /// A line of it was refused: it goes once it was told so.
+    /// A line was refused: the terminal is disconnected once it got the reason.
     Refused,
 
-    /// It is to be let go.
+    /// It is to be disconnected.
     Gone,
 }
 
 impl State {
-    // What it is once nothing more can be written to it. What it typed before is taken none the less.
+    // Returns the state after a write that failed for good. The lines that the terminal typed before are still taken.
     pub(crate) fn unwritten(self) -> State
         ensures unwritten { result ≡ unwritten self }
     {
@@ -48,7 +48,7 @@ impl State {
         }
     }
 
-    // What it is once all that waited for it is written.
+    // Returns the state once all queued bytes are written.
     pub(crate) fn once_written(self) -> State
         ensures written { result ≡ once_written self }
     {
@@ -66,10 +66,10 @@ pub struct Terminal<S> {
     pub(crate) lines: Lines,
     pub(crate) outer: Outer,
     pub(crate) predicting: Option<Overlay>,
-    // What stands over the screen that is noted: that screen with what was predicted.
+    // The overlay: the noted screen with its predictions.
     pub(crate) over: Option<RowShot>,
     pub(crate) waiting: Outbox,
-    // What it is told in records, where it asked for these.
+    // The state of its records, if it asked for them.
     pub(crate) display_state: Option<DisplayState>,
     pub(crate) watches: bool,
     pub(crate) told: Option<u64>,
@@ -102,7 +102,7 @@ impl<S: Duplex + Drop> Terminal<S> {
         }
     }
 
-    /// Whether it is to be let go: it is, or it left and none of its lines stands whole.
+    /// Returns true if the terminal is to be disconnected: it is gone, or it left and none of its lines is whole.
     pub fn is_gone(&self) -> bool
         ensures gone { result ≡ is_gone self.now }
     {
@@ -113,14 +113,14 @@ impl<S: Duplex + Drop> Terminal<S> {
         }
     }
 
-    /// Whether something waits to be written.
+    /// Returns true if bytes are queued.
     pub fn is_waiting(&self) -> bool
         ensures waits { result ≡ not (is_empty self.now.waiting) }
     {
         self.waiting.len() > 0
     }
 
-    // Whether it is there, and takes what is written to it.
+    // Returns true if the terminal is connected and accepts bytes.
     pub(crate) fn is_here(&self) -> bool
         ensures here { result ≡ is_here self.now.state }
     {
@@ -130,7 +130,7 @@ impl<S: Duplex + Drop> Terminal<S> {
         }
     }
 
-    /// Whether something is predicted of what it is to show.
+    /// Returns true if the terminal has predictions.
     pub fn is_predicting(&self) -> bool
         ensures guesses { result ≡ is_predicting self.now }
     {
@@ -140,14 +140,14 @@ impl<S: Duplex + Drop> Terminal<S> {
         }
     }
 
-    // What it shows isn't known any more: it is opened and painted anew.
+    // Makes the terminal's screen unknown, so that it is painted anew.
     pub(crate) fn forget(&mut self)
         ensures outer { self.new ≡ record self.old { outer = None } }
     {
         self.outer = Outer::new();
     }
 
-    // Tells the terminal why its next line isn't taken, behind what waits, where there is memory for it.
+    // Queues the reason for which the next line is refused, if there is memory for it.
     pub(crate) fn refuse(&mut self, alloc: Global, fault: Fault)
         ensures refused { IsRefused self.old self.new }
     {

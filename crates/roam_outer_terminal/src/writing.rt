@@ -1,4 +1,4 @@
-//! What waits for an outer terminal is written to it as it takes it, and silences are told.
+//! The queued bytes are written as the terminal accepts them, and silences get their notices.
 ghost use Rattle.std.specs.Prelude.{◌≡◌, ◌≢◌, ◌⊎◌, ◌+◌, ◌≤◌, ◌++◌, [], true, false, None, Some, IfOk, OnErr, min, drop, length};
 ghost use Rattle.std.specs.Io.KnownBytes.{Keeps};
 ghost use Rattle.roam_faults.specs.Streams.{IsStreamEnd};
@@ -17,13 +17,13 @@ use roam_faults::is_for_now;
 use std::alloc::Global;
 use std::io;
 
-/// How many pieces of what waits are written in a round at most.
+/// The most pieces of queued bytes that a round writes.
 const MOST_WRITES: u32 = 16;
 
-/// After how many milliseconds a terminal is let go that takes nothing of what waits.
+/// The milliseconds after which a terminal that accepts none of its queued bytes is disconnected.
 const LONGEST_STUCK: u64 = 60_000;
 
-// Since when nothing is taken of what waits, where some was just taken or not.
+// Returns the moment since which none of the queued bytes was accepted, given whether some just were.
 fn stuck_since(has_taken: bool, now: u64, stuck: Option<u64>) -> u64
     ensures since { result ≡ stuck_since has_taken now stuck }
 {
@@ -34,7 +34,7 @@ fn stuck_since(has_taken: bool, now: u64, stuck: Option<u64>) -> u64
 }
 
 impl<S: Duplex + Drop> Terminal<S> {
-    // Tells of so many seconds of silence, where there is memory; what it shows isn't known then.
+    // Queues the notice of so many seconds, if there is memory. The terminal's screen is unknown then.
     fn tell_over(&mut self, alloc: Global, seconds: u64)
         ensures told { (self.new ≡ self.old)
             ⊎ (self.new ≡ record self.old { told = Some seconds; outer = None; waiting = self.old.waiting ++ notice_of seconds }) }
@@ -48,7 +48,7 @@ impl<S: Duplex + Drop> Terminal<S> {
         }
     }
 
-    // Tells of so many seconds of silence in a record, where there is memory.
+    // Queues the record of so many seconds of silence, if there is memory.
     fn say_silent(&mut self, alloc: Global, seconds: u64)
         ensures told { (self.new ≡ self.old)
             ⊎ (self.new ≡ record self.old { told = Some seconds; waiting = self.old.waiting ++ text_of (Record.Silent seconds) }) }
@@ -58,7 +58,7 @@ impl<S: Duplex + Drop> Terminal<S> {
         }
     }
 
-    // Tells in a record that the server is heard again, where there is memory.
+    // Queues the record that the server is heard again, if there is memory.
     fn say_heard(&mut self, alloc: Global)
         ensures heard { (self.new ≡ self.old)
             ⊎ (self.new ≡ record self.old { told = None; waiting = self.old.waiting ++ text_of Record.Heard }) }
@@ -68,7 +68,7 @@ impl<S: Duplex + Drop> Terminal<S> {
         }
     }
 
-    // Tells of a silence of ten seconds and more in records, once a second, and once where it is over.
+    // Queues records of a silence of ten seconds or more: one a second, and one once it is over.
     fn tell_silence_in_records(&mut self, alloc: Global, seen: Silence)
         ensures tells { SaysSilence seen self.old self.new }
     {
@@ -82,8 +82,8 @@ impl<S: Duplex + Drop> Terminal<S> {
         }
     }
 
-    /// Tells of a silence of ten seconds and more over the last row, once a second; where that is over, it is painted anew. What is told in
-    /// records is told so, and stays as it is painted.
+    /// Shows a silence of ten seconds or more over the last row, with new seconds every second. Once it is over, the terminal is painted
+    /// anew. A terminal with records gets records, and its screen stays as painted.
     pub(crate) fn tell_silence(&mut self, alloc: Global, silence: Silence)
         ensures tells { TellsSilence silence self.old self.new }
     {
@@ -101,13 +101,13 @@ impl<S: Duplex + Drop> Terminal<S> {
         }
     }
 
-    // A write of what waits was answered so; tells how much was taken.
+    // Notes the result of a write, and returns how many bytes were taken.
     fn note_written(&mut self, answer: &io::Result<usize>) -> usize
         ensures taken { IfOk answer.now (λ n. result ≡ min n (length self.old.waiting)) }
         ensures none { OnErr answer.now (result ≡ 0) }
         ensures left { self.new.waiting ≡ drop result self.old.waiting }
         ensures within { result ≤ length self.old.waiting }
-        // Nothing more can be written where the stream is over, and nowhere else.
+        // The terminal becomes unwritable only if the stream ends.
         ensures fails { (self.new.state ≡ self.old.state)
             ⊎ ((self.new.state ≡ unwritten self.old.state) × IsStreamEnd answer.now × (result ≡ 0)) }
         ensures others { self.new ≡ record self.old { waiting = self.new.waiting; state = self.new.state } }
@@ -127,11 +127,11 @@ impl<S: Duplex + Drop> Terminal<S> {
         }
     }
 
-    // Writes a piece of what waits, and tells how much was taken.
+    // Writes a piece of the queued bytes, and returns how many were taken.
     fn write_piece(&mut self) -> usize
         ensures writes { Writes (S.contents self.old.stream) (S.contents self.new.stream) self.old.waiting self.new.waiting }
         ensures apart { Keeps (S.remaining self.old.stream) (S.remaining self.new.stream) }
-        // A write that fails ends what is written alone: what it typed before is taken.
+        // A failed write ends only the writing: the lines that the terminal typed are taken.
         ensures fails { (self.new.state ≡ self.old.state) ⊎ (self.new.state ≡ unwritten self.old.state) }
         ensures on { result ≢ 0 → self.new.state ≡ self.old.state }
         ensures went { length self.new.waiting + result ≡ length self.old.waiting }
@@ -145,7 +145,7 @@ impl<S: Duplex + Drop> Terminal<S> {
         self.note_written(&answer)
     }
 
-    // Notes since when nothing of what waits is taken.
+    // Notes since when none of the queued bytes was accepted.
     fn note_stuck(&mut self, has_taken: bool, now: u64)
         ensures stuck { self.new.stuck ≡ stuck_after (is_empty self.old.waiting) has_taken now self.old.stuck }
         ensures state { self.new.state ≡ state_after (is_empty self.old.waiting) has_taken now self.old.stuck self.old.state }
@@ -163,7 +163,7 @@ impl<S: Duplex + Drop> Terminal<S> {
         }
     }
 
-    // Writes what waits, as much as the stream takes now, and tells whether it took some.
+    // Writes queued bytes until the stream accepts no more, and returns true if it accepted some.
     fn write_waiting(&mut self) -> bool
         ensures writes { Writes (S.contents self.old.stream) (S.contents self.new.stream) self.old.waiting self.new.waiting }
         ensures apart { Keeps (S.remaining self.old.stream) (S.remaining self.new.stream) }
@@ -181,14 +181,14 @@ impl<S: Duplex + Drop> Terminal<S> {
         has_taken
     }
 
-    /// Writes what waits, as much as the stream takes now. One that took nothing for a minute is let go.
+    /// Writes queued bytes until the stream accepts no more. A terminal that accepts none for a minute is disconnected.
     pub(crate) fn flush(&mut self, now: u64)
         ensures flushes { Flushes S.remaining S.contents now self.old self.new }
     {
         let has_taken = self.write_waiting();
         self.note_stuck(has_taken, now);
     }
-    /// Tells it of a silence or not, and writes what waits for it.
+    /// Shows the notice of a silence if one is due, and writes queued bytes.
     pub fn settle(&mut self, alloc: Global, silence: Silence)
         ensures settles { Settles S.remaining S.contents silence self.old self.new }
         ensures outer { (self.new.outer ≡ self.old.outer) ⊎ (self.new.outer ≡ None) }

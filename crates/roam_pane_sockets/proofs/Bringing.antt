@@ -1,4 +1,4 @@
--- What is handed to a pane's terminal of what came in a generation of the pane.
+-- The bytes of a generation that go to a pane's terminal.
 use Rattle.std.proofs.Common.{IfSome, Some, ◌∙◌, ◌≤◌, length, take, ◌≡◌, List, [], ◌++◌, ℕ, Option, None, is_some, refl, sym, subst, append-nil}
 use Rattle.std.proofs.lemmas.List.{take-append-le}
 use Rattle.roam_pane_sockets.specs.PaneInputs.{Brings, BringsPiece, Carries}
@@ -22,7 +22,7 @@ nothing-came old new result buf same none =
     subst (λ r. Brings old new (bytes_given r buf)) (sym none) (subst (λ i. Brings old i []) (sym same) (goes-on old old []
     (λ came given h. subst (λ all. Carries old came all) (sym (append-nil given)) h) refl))
 
--- what was heard was brought, or nothing was
+-- the bytes that were read go on, or none do
 pub brought : (old mid new : PaneInput) (result : Option ℕ) (now : ℕ) (buf : List ℕ) → mid ≡ old
     → IfSome result (λ n. BringsPiece now mid new n (take n buf)) → (result ≡ None → new ≡ mid) → Brings old new (bytes_given result buf)
 brought old mid new None now buf same brings none = nothing-came old new None buf (none refl ∙ same) refl
@@ -35,6 +35,6 @@ abbrev pub how-many : Heard → ℕ
 how-many (Piece n) = n
 how-many other = 0
 
--- what stands in front stays so with more behind it
+-- a beginning stays the same if more bytes follow
 pub front-kept : (n : ℕ) (xs ys : List ℕ) → n ≤ length xs → take n (xs ++ ys) ≡ take n xs
 front-kept n xs ys within = take-append-le n xs ys within

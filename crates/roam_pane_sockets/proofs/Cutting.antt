@@ -5,7 +5,7 @@ use Rattle.roam_pane_sockets.specs.Frames.{HasNoEscape, HasNoMark, frame_with, o
 use Rattle.roam_pane_sockets.specs.Pieces.{frame_upto}
 use Rattle.roam_pane_sockets.proofs.Framing.{no-change, unmarked}
 
--- a run without ESC is one, also where less of the bytes is looked at
+-- a run without ESC is one in a longer text too
 still-in : (run n : ℕ) (xs : List ℕ) → run ≤ n → HasNoEscape (take run (take n xs)) → HasNoEscape (take run xs)
 still-in zero n xs few still = tt
 still-in (suc run) zero xs few still = absurd (omega (arith, few))

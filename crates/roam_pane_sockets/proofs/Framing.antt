@@ -1,4 +1,4 @@
--- Where frames begin and end, however the bytes are looked at; and what is left of them once some were handed on.
+-- The beginnings and ends of synchronized updates, however the bytes are cut, and the rest once some bytes went on.
 use Rattle.std.proofs.Common.{◌≡◌, ◌<◌, ◌≤◌, ◌+◌, ℕ, zero, suc, Bool, true, false, List, [], ◌∷◌, ◌++◌, length, take, drop, Option, None, Some, length-append, refl, sym, ap, ◌∙◌, arith, if◌then◌else◌}
 use Rattle.std.specs.Prelude.{◌==◌, ◌&&◌, IfSome, nat_lt, slice_index}
 use Rattle.std.proofs.lemmas.List.{append-nil, drop-drop}
@@ -68,24 +68,24 @@ no-escape (suc n) (b ∷ bytes) few never = (
   no-escape n bytes (omega (arith, few)) (λ k less. never (suc k) (omega (arith, less))),
 )
 
--- where it begins it lies before a later place too
+-- a beginning before one place is before a later place too
 pub within-more : (frame : Option ℕ) (a b : ℕ) → a ≤ b → IfSome frame (λ begin. begin ≤ a) → IfSome frame (λ begin. begin ≤ b)
 within-more None a b more h = tt
 within-more (Some begin) a b more h = omega (arith, more, h)
 
--- ---- what was appended, and what wasn't
+-- ---- appended bytes
 
 none-left : (xs : List ℕ) → length xs ≡ 0 → xs ≡ []
 none-left [] none = refl
 none-left (x ∷ xs) none = absurd (omega (arith, none))
 
--- where nothing may be handed on, all stands where it is ready
+-- while nothing may go on, every byte is ready
 pub none-later : (frame : Option ℕ) (ready later : List ℕ) → IfSome frame (λ begin. (begin ≤ length ready) × (later ≡ []))
     → free_before frame (ready ++ later) ≡ 0 → later ≡ []
 none-later None ready later h free = none-left later (omega (arith, free, length-append ready later))
 none-later (Some begin) ready later h free = h.1
 
--- where a frame begins behind what was appended, once all of it was
+-- the beginning of an update behind the appended bytes, once all are appended
 pub framed : (frame result : Option ℕ) (from : ℕ) (old new chunk rest : List ℕ) → from ≡ length old → new ++ rest ≡ old ++ chunk
     → (rest ≡ [] → result ≡ frame_after frame from (drop from new)) → rest ≡ [] → result ≡ frame_after frame (length old) chunk
 framed frame result from old new chunk rest at all is none =
@@ -93,7 +93,7 @@ framed frame result from old new chunk rest at all is none =
     is none ∙ ap (λ k. frame_after frame k (drop k new)) at ∙ ap (λ l. frame_after frame (length old) (drop (length old) l)) same
     ∙ ap (frame_after frame (length old)) (drop-append_seam old chunk)
 
--- whether anything stands later
+-- no byte is left over
 true-not-false : true ≡ false → ⊥
 true-not-false e = cc
 

@@ -1,10 +1,10 @@
--- What came goes through a filter, and is handed on.
+-- Bytes pass a filter and go on.
 use Rattle.std.proofs.Common.{◌≡◌, ◌⊎◌, ◌≤◌, inl, inr, ℕ, List, [], ◌++◌, take, drop, refl, sym, ap, subst, ◌∙◌, append_assoc, append-nil, take-append-drop}
 use Rattle.roam_normalize.specs.Normalized.{held_part, normalized, normalized_from, normalized_part}
 use Rattle.roam_pane_sockets.specs.Frames.{FramesView, frame_at, frame_left, free}
 use Rattle.roam_pane_sockets.specs.FilterStages.{FilterStagePassesOn, IsSifted, Sifts, FilterStageView, empty_filter_stage}
 
--- however bytes are cut, the same goes out for them, and the same is held back
+-- the cuts of the bytes change neither the filter's output nor the bytes that it keeps back
 pub record CutsChangeNothing : Type 0 where
   pub out : (bytes more : List ℕ) → normalized_part (bytes ++ more) ≡ normalized_part bytes ++ normalized_part (held_part bytes ++ more)
   pub held : (bytes more : List ℕ) → held_part (bytes ++ more) ≡ held_part (held_part bytes ++ more)
@@ -20,7 +20,7 @@ nothing-goes = refl
 pub none-sifted : Sifts empty_filter_stage [] []
 none-sifted = record { read = []; waits = refl; keeps = sym nothing-held; normalized = sym nothing-goes }
 
--- a piece waits before it, where nothing did
+-- a piece is queued before an empty filter
 pub waits-in : (s : FilterStageView) (piece came given : List ℕ) → s.unread ≡ [] → Sifts s came given
     → Sifts (record s { unread = piece }) (came ++ piece) given
 waits-in s piece came given none h = record {
@@ -30,7 +30,7 @@ waits-in s piece came given none h = record {
   normalized = h.normalized;
 }
 
--- what waits before it goes through
+-- queued bytes pass the filter
 goes-through : (s t : FilterStageView) (now : ℕ) (came given : List ℕ) → CutsChangeNothing → IsSifted s t now → Sifts s came given → Sifts t came given
 goes-through s t now came given cuts is h = record {
   read = h.read ++ s.unread;
@@ -46,7 +46,7 @@ pub gone-through : (s t : FilterStageView) (now : ℕ) (came given : List ℕ) �
 gone-through s t now came given cuts (inl same) h = subst (λ u. Sifts u came given) (sym same) h
 gone-through s t now came given cuts (inr is) h = goes-through s t now came given cuts is h
 
--- what is ready may be less, or wait for less
+-- the ready bytes may change their state without effect on the sum
 pub ready-so : (s : FilterStageView) (f : FramesView) (came given : List ℕ) → f.ready ≡ s.frames.ready → Sifts s came given
     → Sifts (record s { frames = f }) came given
 ready-so s f came given same h = record {
@@ -56,7 +56,7 @@ ready-so s f came given same h = record {
   normalized = ap (λ l. given ++ l) same ∙ h.normalized;
 }
 
--- so much of what is ready is handed on
+-- this many ready bytes go on
 pub handed-on : (s : FilterStageView) (f : FramesView) (n : ℕ) (came given bytes : List ℕ) → f.ready ≡ drop n s.frames.ready
     → bytes ≡ take n s.frames.ready → Sifts s came given → Sifts (record s { frames = f }) came (given ++ bytes)
 handed-on s f n came given bytes is same h = record {

@@ -1,11 +1,11 @@
--- A filter on the way of what comes of a pane's program.
+-- A filter between a pane's program and its terminal.
 use Rattle.std.specs.Prelude.{ℕ, ◌≡◌, ◌⊎◌, ◌<◌, ◌≤◌, ◌++◌, Bool, false, List, [], drop, take, Option, Some, None}
 use Rattle.roam_normalize.specs.Normalized.{held_part, normalized_part}
 use Rattle.roam_pane_sockets.specs.Frames.{FramesView, Takes, frame_at, frame_left, free, free_before, held_until, no_frames}
 use Rattle.roam_pane_sockets.specs.Pieces.{goes_on}
 
--- a filter on that way: what it holds back, what waits before it for want of memory, and what went through and isn't handed on yet, where
--- frames are held together
+-- the state of a filter: the bytes that it keeps back, the bytes queued before it for want of memory, and its output that hasn't gone on
+-- yet
 pub record FilterStageView : Type 0 where
   pub held : List ℕ
   pub unread : List ℕ
@@ -15,18 +15,18 @@ pub record FilterStageView : Type 0 where
 abbrev pub empty_filter_stage : FilterStageView
 empty_filter_stage = record { held = []; unread = []; frames = no_frames }
 
--- what waits before it went through at a moment
+-- the bytes queued before the filter passed it at a moment
 pub record IsSifted (s t : FilterStageView) (now : ℕ) : Type 0 where
   pub held : t.held ≡ held_part (s.held ++ s.unread)
   pub unread : t.unread ≡ []
   pub takes : Takes s.frames t.frames (normalized_part (s.held ++ s.unread)) now
 
--- a frame that is over at a moment isn't held any more
+-- an update that is over at a moment isn't kept back any more
 abbrev pub passed : ℕ → FilterStageView → FilterStageView
 passed now s = record s { frames = record s.frames { frame = frame_at now s.frames } }
 
--- At a moment so many bytes went on, and no more than might: a frame that is over isn't held any more, what waits before went through first
--- or didn't, and where a frame is open then it waits from where it begins.
+-- This many bytes go on at a moment, no more than allowed. An update that is over isn't kept back any more. Bytes queued before the filter
+-- pass it first, or not at all. An open update stays from its beginning on.
 pub record FilterStagePassesOn (now : ℕ) (s t : FilterStageView) (count : ℕ) : Type 0 where
   pub mid : FilterStageView
   pub sifted : (mid ≡ passed now s) ⊎ IsSifted (passed now s) mid now
@@ -36,7 +36,7 @@ pub record FilterStagePassesOn (now : ℕ) (s t : FilterStageView) (count : ℕ)
   pub since : t.frames.since ≡ mid.frames.since
   pub others : t ≡ record mid { frames = t.frames }
 
--- so it was where there is a filter; without one no frame is held
+-- the same with a filter; without one no update is kept back
 abbrev pub PassesOn : ℕ → Option FilterStageView → Option FilterStageView → ℕ → Type 0
 PassesOn now None None count = Unit {0}
 PassesOn now None (Some t) count = ⊥
@@ -48,14 +48,14 @@ abbrev pub taken_in : List ℕ → Option FilterStageView → Option FilterStage
 taken_in piece None = None
 taken_in piece (Some s) = Some (record s { unread = piece })
 
--- of what came the filter read some, and the rest waits; what that means was handed on, and what is ready follows
+-- the filter read some of the bytes, and the rest is queued; the output went on, or is ready
 pub record Sifts (s : FilterStageView) (came given : List ℕ) : Type 0 where
   pub read : List ℕ
   pub waits : came ≡ read ++ s.unread
   pub keeps : s.held ≡ held_part read
   pub normalized : given ++ s.frames.ready ≡ normalized_part read
 
--- what came goes on as it is, or as it is meant where there is a filter
+-- bytes go on unchanged, or through the filter if there is one
 abbrev pub Goes : Option FilterStageView → List ℕ → List ℕ → Type 0
 Goes None came given = given ≡ came
 Goes (Some s) came given = Sifts s came given
@@ -65,7 +65,7 @@ abbrev pub IsFree : Option FilterStageView → Type 0
 IsFree None = Unit {0}
 IsFree (Some s) = (s.unread ≡ []) × (s.frames.ready ≡ [])
 
--- at a moment some may be handed on of what waits: a frame that is over isn't held any more
+-- some queued bytes may go on at a moment; an update that is over isn't kept back any more
 abbrev pub HasFree : ℕ → Option FilterStageView → Type 0
 HasFree now None = ⊥
 HasFree now (Some s) = 0 < free_before (frame_at now s.frames) s.frames.ready
@@ -75,7 +75,7 @@ abbrev pub TakesMore : Option FilterStageView → Type 0
 TakesMore None = Unit {0}
 TakesMore (Some s) = s.unread ≡ []
 
--- until when a frame is held there at most
+-- the last moment until which an update is kept back
 abbrev pub waits_until : Option FilterStageView → Option ℕ
 waits_until None = None
 waits_until (Some s) = held_until s.frames.frame s.frames.since

@@ -1,16 +1,16 @@
--- Frames, which are held together on the way to a pane's terminal (synchronized output, the private mode 2026).
+-- Synchronized updates, which reach a pane's terminal as a whole (the private mode 2026).
 use Rattle.std.specs.Prelude.{ℕ, ◌≡◌, ◌+◌, ◌-◌, ◌++◌, ◌==◌, ◌&&◌, ◌||◌, Bool, true, false, List, [], ◌∷◌, length, nat_le, Option, None, Some, if◌then◌else◌}
 use Rattle.roam_pane_sockets.specs.Moments.{after, is_time}
 
--- a frame is held for so many milliseconds at most
+-- an update is kept back for at most this many milliseconds
 abbrev pub longest_hold : ℕ
 longest_hold = 150
 
--- and no more is held once so many bytes are
+-- an update is kept back up to this many bytes
 abbrev pub most_held : ℕ
 most_held = 262144
 
--- CSI ? 2026 stands at the front, as programs write it, and this final byte
+-- the bytes begin with CSI ? 2026, as programs write it, and this final byte
 abbrev pub sets_frame : ℕ → List ℕ → Bool
 sets_frame last (a ∷ b ∷ c ∷ d ∷ e ∷ f ∷ g ∷ h ∷ rest) =
     a == 0x1B && (b == 0x5B && (c == 0x3F && (d == 0x32 && (e == 0x30 && (f == 0x32 && (g == 0x36 && h == last))))))
@@ -23,7 +23,7 @@ opens bytes = sets_frame 0x68 bytes
 abbrev pub closes : List ℕ → Bool
 closes bytes = sets_frame 0x6C bytes
 
--- where the frame begins that is open, with these bytes at a place; one that begins within another is no other
+-- the beginning of the open update after these bytes at a place; an update inside another is no new one
 abbrev pub opened_at : Option ℕ → ℕ → Option ℕ
 opened_at None at = Some at
 opened_at (Some begin) at = Some begin
@@ -46,8 +46,8 @@ abbrev pub frame_after : Option ℕ → ℕ → List ℕ → Option ℕ
 frame_after frame at [] = frame
 frame_after frame at (b ∷ bytes) = frame_after (frame_with frame at (b ∷ bytes)) (at + 1) bytes
 
--- what went through and isn't handed on yet; the place where the frame begins that is open at its end, which waits, and since when; whether
--- one is open behind what was handed on; and whether memory was wanting for what stands at its end
+-- The output that hasn't gone on yet; the beginning of an open update at its end, and since when it is kept back; an update open behind the
+-- bytes that went on; and the bytes for which memory was refused.
 pub record FramesView : Type 0 where
   pub ready : List ℕ
   pub frame : Option ℕ
@@ -71,16 +71,16 @@ abbrev pub since_after : Option ℕ → ℕ → ℕ → ℕ → ℕ
 since_after None from since now = since
 since_after (Some begin) from since now = if nat_le from begin then now else since
 
--- it has been held for long enough, or is large enough
+-- the update has been kept back for long enough, or is large enough
 abbrev pub is_over : Option ℕ → List ℕ → ℕ → ℕ → Bool
 is_over None ready since now = false
 is_over (Some begin) ready since now = is_time (Some since) now longest_hold || nat_le most_held (length ready - begin)
 
--- at a moment: a frame that is over isn't held any more
+-- the open update at a moment, unless it is over
 abbrev pub frame_at : ℕ → FramesView → Option ℕ
 frame_at now f = if is_over f.frame f.ready f.since now then None else f.frame
 
--- until when one is held
+-- the moment until which an update is kept back
 abbrev pub held_until : Option ℕ → ℕ → Option ℕ
 held_until None since = None
 held_until (Some begin) since = after (Some since) longest_hold
@@ -90,8 +90,7 @@ abbrev pub frame_left : Option ℕ → ℕ → Option ℕ
 frame_left None count = None
 frame_left (Some begin) count = Some (begin - count)
 
--- What went through stands behind the rest; where a frame is open then it is held from where it begins, and none is where memory is
--- wanting.
+-- New output follows the rest. An open update is kept back from its beginning; none is if memory was refused.
 pub record Takes (old new : FramesView) (chunk : List ℕ) (now : ℕ) : Type 0 where
   pub ready : new.ready ≡ old.ready ++ chunk
   pub frame : new.short ≡ false → new.frame ≡ frame_after old.frame (length old.ready) chunk

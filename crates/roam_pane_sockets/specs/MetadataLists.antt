@@ -1,4 +1,4 @@
--- What stands beside the terminals of the panes: their settings and titles, and their bells (this project's profile).
+-- The metadata of panes: modes, titles and bells (this project's profile).
 use Rattle.std.specs.Prelude.{ℕ, ◌≡◌, ◌-◌, Bool, true, false, List, [], Option, None, Some, ◌≤◌, slice_get}
 use Rattle.roam_pane_protocol.specs.MetadataLists.{metadata_at, without_new_bells}
 use Rattle.roam_pane_protocol.specs.declared.metadata_list.MetadataList.{MetadataList}
@@ -11,13 +11,13 @@ abbrev pub title_codes : Option (List ℕ) → List ℕ
 title_codes None = []
 title_codes (Some title) = title
 
--- what stands beside the terminal of a making of a pane
+-- the metadata of a generation of a pane
 abbrev pub metadata_of : Option ℕ → Pane → Option MetadataPane
 metadata_of None pane = None
 metadata_of (Some generation) pane =
     Some (record { generation = generation; settings = pane.pane_input.metadata.settings; titles = pane.pane_input.metadata.texts.said.titles })
 
--- what stands beside the terminal of a pane that is there
+-- the metadata of an open pane
 abbrev pub pane_metadata : Option Pane → Option MetadataPane
 pane_metadata None = None
 pane_metadata (Some pane) = metadata_of (generation_in pane.making) pane
@@ -31,12 +31,12 @@ pane_title (Some pane) = title_codes pane.pane_input.metadata.texts.said.title
 abbrev pub title_of : List Pane → ℕ → List ℕ
 title_of panes p = pane_title (slice_get panes (p - 1))
 
--- bells are told once in a while: between, there are as many as were shown before
+-- bells are limited in time: in between, the count is that of the last report
 abbrev pub shown_bells : Bool → Option MetadataPane → Option MetadataPane → Option MetadataPane
 shown_bells may_ring shown None = None
 shown_bells true shown (Some b) = Some b
 shown_bells false shown (Some b) = Some (without_new_bells shown b)
 
--- this stands beside the panes' terminals, with the bells that may be told
+-- the metadata of the panes, with the bells that may be reported now
 pub record AreMetadata (may_ring : Bool) (shown : MetadataList) (panes : List Pane) (now : MetadataList) : Type 0 where
   pub at : (p : ℕ) → 1 ≤ p → p ≤ 9 → metadata_at now p ≡ shown_bells may_ring (metadata_at shown p) (pane_metadata (slice_get panes (p - 1)))

@@ -1,4 +1,4 @@
--- Moments, and what lies between them.
+-- Moments and the time between them.
 use Rattle.std.specs.Prelude.{ℕ, ◌+◌, ◌-◌, ◌&&◌, Bool, true, min, nat_le, nat_lt, Option, Some, None, if◌then◌else◌}
 
 -- so many milliseconds have passed since a moment, if there was one
@@ -17,10 +17,10 @@ sooner None other = other
 sooner (Some one) None = Some one
 sooner (Some one) (Some other) = Some (min one other)
 
--- a moment stands still for so many milliseconds at most, while a frame goes on
+-- a moment is kept for at most this many milliseconds while an update goes on
 abbrev pub longest_stand : ℕ
 longest_stand = 50
 
--- what the moment is where a clock tells this one and it was that one before
+-- the moment, given the clock's and the moment before
 abbrev pub standing : Bool → ℕ → ℕ → ℕ
 standing goes_on before now = if goes_on && nat_lt (now - before) longest_stand then before else now

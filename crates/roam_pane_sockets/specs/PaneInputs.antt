@@ -1,22 +1,22 @@
--- What comes of a pane's program, on its way to the pane's terminal.
+-- The way from a pane's program to the pane's terminal.
 use Rattle.std.specs.Prelude.{ℕ, ◌≡◌, ◌⊎◌, ◌++◌, Bool, List, [], is_some}
 use Rattle.roam_pane_metadata.specs.Metadata.{Stands}
 use Rattle.roam_pane_sockets.specs.FilterStages.{Goes, PassesOn, TakesMore, taken_in}
 use Rattle.roam_pane_sockets.specs.declared.pane_inputs.PaneInput.{PaneInput}
 
--- In the generation of a pane this came of its program and this was handed to its terminal: what came, or what it means where that is asked
--- for; and what stands beside the terminal has read what came.
+-- In the generation of a pane, the program sent one list of bytes and the terminal got another: the same, or the normalized one if that is
+-- asked for. The metadata read what the program sent.
 pub record Carries (pane_input : PaneInput) (came given : List ℕ) : Type 0 where
   pub goes : Goes pane_input.filter_stage came given
   pub metadata : Stands pane_input.metadata came
 
--- nothing came in this generation of the pane, and what comes goes through a filter or doesn't
+-- no bytes arrived in this generation of the pane, and later ones pass a filter or don't
 pub record IsFreshPaneInput (pane_input : PaneInput) (is_normalized : Bool) : Type 0 where
   pub kind : is_some pane_input.filter_stage ≡ is_normalized
   pub carries : Carries pane_input [] []
 
--- At a moment so many bytes went on of what waited, or, where more might be read, of that and a piece that came: no more than might, a
--- frame that is open and isn't over waiting from where it begins.
+-- This many queued bytes go on at a moment, or, if more may be read, queued bytes and a new piece. An open update stays from its beginning
+-- until it is over.
 abbrev pub HandsOn : ℕ → PaneInput → PaneInput → ℕ → Type 0
 HandsOn now old new count =
     PassesOn now old.filter_stage new.filter_stage count

@@ -30,12 +30,12 @@ abbrev pub has_peer : Option Pane → Bool
 has_peer None = false
 has_peer (Some pane) = is_some (peer_in pane.making)
 
--- at a moment some may be handed to the terminal of a pane that is there of what waits on its way
+-- at a moment, some queued bytes of an open pane may go on
 abbrev pub HasFreeIn : ℕ → Option Pane → Type 0
 HasFreeIn now None = ⊥
 HasFreeIn now (Some pane) = IsSome (generation_in pane.making) × HasFree now pane.pane_input.filter_stage
 
--- what came in the generation of a pane, where there is a socket for it
+-- the bytes of the generation of a pane with a socket
 abbrev pub pane_input_in : Option Pane → Option PaneInput
 pane_input_in None = None
 pane_input_in (Some pane) = Some pane.pane_input
@@ -45,15 +45,15 @@ pub record IsStill (pane : ℕ) (old new : List Pane) : Type 0 where
   pub peer : has_peer (slice_get new (pane - 1)) ≡ has_peer (slice_get old (pane - 1))
   pub pane_input : pane_input_in (slice_get new (pane - 1)) ≡ pane_input_in (slice_get old (pane - 1))
 
--- from now on this making of the pane is there, or none: a peer that came to it stays, and any other goes, with all that came
+-- the pane has this generation from now on, or none: a peer of the generation stays; any other is dropped, with all its bytes
 pub record Generations (generation : Option ℕ) (p q : Pane) : Type 0 where
   pub generations : generation_in q.making ≡ generation
   pub stays : generation_in p.making ≡ generation → q ≡ p
   pub goes : generation_in p.making ≢ generation → peer_in q.making ≡ None
   pub fresh : generation_in p.making ≢ generation → IsFreshPaneInput q.pane_input (is_some p.pane_input.filter_stage)
 
--- Its program is handed bytes, and some went over or none: the making stays; where none is there, no peer is taken; a peer that is there
--- stays or goes, and no other comes in its place; and what goes over, goes over with a peer that came to the making.
+-- Bytes are offered to the pane's program, and some are taken or none. The generation stays. A closed pane accepts no peer. A connected
+-- peer stays or leaves, and no other takes its place. Bytes are taken only by a peer of the generation.
 pub record Asks (some : Bool) (p q : Pane) : Type 0 where
   pub generation : generation_in q.making ≡ generation_in p.making
   pub waits : generation_in p.making ≡ None → q ≡ p
@@ -61,9 +61,8 @@ pub record Asks (some : Bool) (p q : Pane) : Type 0 where
   pub from : some ≡ true → IsSome (peer_in q.making)
   pub pane_input : q.pane_input ≡ p.pane_input
 
--- Its program is asked for bytes, and these are handed to its terminal: it is the same with the making and its peers; what came in this
--- generation is handed on, piece after piece, as it came or as it is meant; and what is handed on, came with a peer that came to the
--- making, or waited.
+-- The pane's program is asked for bytes, and these go on to its terminal. The generation and its peers follow the same rule. The bytes of
+-- this generation go on piece by piece, as they are or normalized. They come from a peer of the generation, or were queued.
 pub record Hears (some : Bool) (bytes : List ℕ) (p q : Pane) : Type 0 where
   pub generation : generation_in q.making ≡ generation_in p.making
   pub waits : generation_in p.making ≡ None → q ≡ p
@@ -81,7 +80,7 @@ pub record Changes (Goes : Pane → Pane → Type 0) (pane : ℕ) (old new : Lis
 abbrev pub IsMended : Pane → Pane → Type 0
 IsMended p q = q ≡ record p { listener = q.listener }
 
--- until when a frame is held on the way to a pane's terminal, of the first one that ends
+-- the first moment at which an update on the way to a pane's terminal ends
 abbrev pub frames_until : List Pane → Option ℕ
 frames_until [] = None
 frames_until (pane ∷ panes) = sooner (waits_until pane.pane_input.filter_stage) (frames_until panes)

@@ -1,4 +1,4 @@
-//! A filter on the way of what comes of a pane's program.
+//! A filter between a pane's program and its terminal.
 ghost use Rattle.std.specs.Prelude.{◌≡◌, ◌⊎◌, ◌≤◌, ◌<◌, ◌++◌, ℕ, List, [], true, false, length, take, Some};
 ghost use Rattle.roam_pane_sockets.specs.Frames.{free, held_until};
 ghost use Rattle.roam_pane_sockets.specs.Pieces.{goes_on};
@@ -13,13 +13,13 @@ use std::marker::Model;
 /// How many bytes of a program are read at once at most.
 pub(crate) const MOST_READ: usize = 1024;
 
-/// A filter on that way. What there is no memory for waits before it, and what a buffer has no room for behind it: nothing more is read
-/// meanwhile. A frame that is open waits there too, and what comes then is read: so at most a frame waits, as large as one may be that is
-/// held, and what a piece means.
+/// A filter on that way. Bytes are queued before it if memory is refused, and behind it if the buffer is full; nothing is read meanwhile.
+/// An open update is kept behind it while later bytes are read. So at most one update, no larger than allowed, and the output of a piece
+/// are kept.
 #[derive(Drop)]
 pub(crate) struct FilterStage {
     filter: Filter,
-    // What waits before the filter, so many bytes from the front.
+    // The number of bytes queued before the filter, from the front.
     piece: [u8; MOST_READ],
     unread: usize,
     frames: Frames,
@@ -48,14 +48,14 @@ impl FilterStage {
         }
     }
 
-    // What waits before the filter.
+    // Returns the bytes queued before the filter.
     fn unread(&self) -> &[u8]
         ensures unread { result.now ≡ self.now.unread }
     {
         self.piece.split_at(self.unread).0
     }
 
-    // Whether nothing may be handed on at a moment, and more may be read.
+    // Returns true if nothing may go on at a moment, and more may be read.
     pub(crate) fn is_quiet(&self, now: u64) -> bool
         ensures quiet { result ≡ true → self.now.unread ≡ [] }
         ensures some { result ≡ false → IsFree (Some self.now) → ⊥ }
@@ -64,14 +64,14 @@ impl FilterStage {
         self.unread().is_empty() && self.frames.is_held(now)
     }
 
-    // Until when a frame is held at most, if one is.
+    // Returns the last moment until which an update is kept back; `None` if none is.
     pub(crate) fn held_until(&self) -> Option<u64>
         ensures until { result ≡ held_until self.now.frames.frame self.now.frames.since }
     {
         self.frames.held_until()
     }
 
-    // Whether the rest of a frame is to be handed on, the beginning of which was.
+    // Returns true if the rest of an update may go on whose beginning did.
     pub(crate) fn goes_on(&self) -> bool
         ensures goes { result ≡ goes_on self.now.frames }
     {
@@ -88,7 +88,7 @@ impl FilterStage {
         self.unread = count;
     }
 
-    // What waits before the filter goes through, where there is memory for it.
+    // Passes the bytes queued before the filter through it, if there is memory for that.
     fn sift(&mut self, now: u64)
         requires held { free self.old.frames ≡ 0 }
         ensures sifts { (self.new ≡ self.old) ⊎ IsSifted self.old self.new now }
@@ -99,7 +99,7 @@ impl FilterStage {
         }
     }
 
-    // What waits before the filter goes through, where nothing may be handed on.
+    // Passes the bytes queued before the filter through it, if nothing may go on.
     fn sift_on(&mut self, now: u64)
         ensures sifts { (self.new ≡ self.old) ⊎ IsSifted self.old self.new now }
         ensures stays { 0 < free self.old.frames → self.new ≡ self.old }
@@ -109,7 +109,7 @@ impl FilterStage {
         }
     }
 
-    // Hands on what may be at a moment, of what waits before the filter where that is nothing.
+    // Moves the bytes that may go on at a moment into the buffer. It passes queued bytes through the filter if there are none.
     pub(crate) fn go_on(&mut self, buf: &mut [u8], now: u64) -> usize
         ensures within { result ≤ length buf.new }
         ensures goes { (came given : List ℕ) → Goes (Some self.old) came given

@@ -1,4 +1,4 @@
-//! Frames, which are held together on the way to a pane's terminal.
+//! Synchronized updates, which reach a pane's terminal as a whole.
 ghost use Rattle.std.specs.Prelude.{◌≡◌, ◌≤◌, ◌<◌, ◌⊎◌, ◌-◌, ◌++◌, ◌↔◌, [], List, ℕ, true, false, length, take, drop, is_some, None, IfSome, IsTrue};
 ghost use Rattle.roam_pane_sockets.specs.Frames.{HasNoEscape, HasNoMark, Takes, closes, frame_after, frame_at, frame_left, frame_with, free, free_before, held_until, is_over, no_frames, opens, since_after};
 ghost use Rattle.roam_pane_sockets.specs.Pieces.{goes_on, left_open, piece_of};
@@ -10,30 +10,30 @@ use std::alloc::Global;
 use std::marker::Model;
 use std::mem::swap;
 
-/// A frame is held for so many milliseconds at most.
+/// An update is kept back for at most this many milliseconds.
 const LONGEST_HOLD: u64 = 150;
 
-/// No more of a frame is held once so many bytes are.
+/// An update is kept back up to this many bytes.
 const MOST_HELD: usize = 262_144;
 
 /// ESC, with which CSI begins in 7 bits (ECMA-48, 5.3).
 const ESCAPE: u8 = 0x1B;
 
-/// The question mark that stands in both, and in no rendition.
+/// The question mark: part of both sequences, and of no rendition.
 const MARK: u8 = b'?';
 
-/// What went through a filter and isn't handed on yet. Where a frame is open at its end that waits, as a whole, until it ends, or for so
-/// long, or up to so many bytes.
+/// The filter's output that hasn't gone on yet. An open update at its end is kept as a whole until it ends, for a limited time, and up to a
+/// limited size.
 #[derive(Drop)]
 pub(crate) struct Frames {
     alloc: Global,
     ready: Vec<u8>,
-    // What there was no memory for behind it: no frame is held then.
+    // The bytes behind it for which memory was refused. No update is kept back then.
     later: Vec<u8>,
     // Where the frame begins that is open.
     frame: Option<usize>,
     since: u64,
-    // Whether one is open behind what was handed on.
+    // True if an update is open behind the bytes that went on.
     within: bool,
 }
 
@@ -124,7 +124,7 @@ fn since_after(frame: Option<usize>, from: usize, since: u64, now: u64) -> u64
     }
 }
 
-// Puts a chunk behind what is ready, and answers it where there is no memory for that, else nothing.
+// Appends a chunk to the ready bytes, and returns it if memory is refused, else an empty one.
 fn append(alloc: Global, ready: &mut Vec<u8>, chunk: Vec<u8>) -> Vec<u8>
     ensures all { ready.new.items ++ result.items ≡ ready.old.items ++ chunk.items }
     ensures whole { (result.items ≡ []) ⊎ (ready.new.items ≡ ready.old.items) }
@@ -137,7 +137,7 @@ fn append(alloc: Global, ready: &mut Vec<u8>, chunk: Vec<u8>) -> Vec<u8>
     }
 }
 
-// Whether no question mark is among some bytes: no frame begins there, and none ends.
+// Returns true if no question mark is among some bytes, so that no update begins or ends there.
 pub(crate) fn has_no_mark(bytes: &[u8]) -> bool
     ensures none { result ≡ true → HasNoMark bytes.now }
 {
@@ -147,7 +147,7 @@ pub(crate) fn has_no_mark(bytes: &[u8]) -> bool
     }
 }
 
-// Where the frame begins that is open behind what was appended to what is ready; none is held where memory was wanting, and some is later.
+// Returns the beginning of the update that is open after the appended bytes. None is kept back if memory was refused.
 fn frame_behind(frame: Option<usize>, from: usize, ready: &[u8], later: &[u8]) -> Option<usize>
     requires from { from ≤ length ready.now }
     ensures frame { later.now ≡ [] → result ≡ frame_after frame from (drop from ready.now) }
@@ -163,7 +163,7 @@ fn frame_behind(frame: Option<usize>, from: usize, ready: &[u8], later: &[u8]) -
     }
 }
 
-// Whether a frame isn't to be held any more at a moment.
+// Returns true if an update isn't to be kept back any more at a moment.
 fn is_over(frame: Option<usize>, count: usize, since: u64, now: u64) -> bool
     ensures over { (ready : List ℕ) → length ready ≡ count → result ≡ is_over frame ready since now }
 {
@@ -175,7 +175,7 @@ fn is_over(frame: Option<usize>, count: usize, since: u64, now: u64) -> bool
     }
 }
 
-// What stands behind what is ready is, where nothing else is.
+// Moves the bytes behind the ready ones forward if there are no ready ones.
 fn bring_up(ready: &mut Vec<u8>, later: &mut Vec<u8>)
     ensures all { ready.new.items ++ later.new.items ≡ ready.old.items ++ later.old.items }
     ensures first { ready.new.items ≡ [] → later.new.items ≡ [] }
@@ -221,7 +221,7 @@ impl Frames {
         }
     }
 
-    // Where the frame begins that is held at a moment.
+    // Returns the beginning of the update that is kept back at a moment.
     fn frame_at(&self, now: u64) -> Option<usize>
         ensures frame { result ≡ frame_at now self.now }
     {
@@ -233,14 +233,14 @@ impl Frames {
         }
     }
 
-    /// A frame that is over isn't held any more.
+    /// Ends an update that is over at a moment.
     pub(crate) fn pass(&mut self, now: u64)
         ensures passed { self.new ≡ record self.old { frame = frame_at now self.old } }
     {
         self.frame = self.frame_at(now);
     }
 
-    /// Whether all is handed on that may be at a moment.
+    /// Returns true if all bytes went on that may at a moment.
     pub(crate) fn is_held(&self, now: u64) -> bool
         ensures held { IsTrue result ↔ (free_before (frame_at now self.now) self.now.ready ≡ 0) }
         ensures none { self.now.ready ≡ [] → result ≡ true }
@@ -251,7 +251,7 @@ impl Frames {
         }
     }
 
-    /// The same, of what is noted.
+    /// Returns the same for the update as noted.
     pub(crate) fn is_still(&self) -> bool
         ensures still { IsTrue result ↔ (free self.now ≡ 0) }
     {
@@ -261,7 +261,7 @@ impl Frames {
         }
     }
 
-    /// Until when a frame is held at most, if one is.
+    /// Returns the last moment until which an update is kept back; `None` if none is.
     pub(crate) fn held_until(&self) -> Option<u64>
         ensures until { result ≡ held_until self.now.frame self.now.since }
     {
@@ -271,7 +271,7 @@ impl Frames {
         }
     }
 
-    /// What went through stands behind the rest, of which nothing may be handed on now.
+    /// Adds output behind the rest, of which nothing may go on now.
     pub(crate) fn take(&mut self, chunk: Vec<u8>, now: u64)
         requires held { free self.old ≡ 0 }
         ensures takes { Takes self.old self.new chunk.items now }
@@ -282,14 +282,15 @@ impl Frames {
         self.since = since_after(self.frame, from, self.since, now);
     }
 
-    /// Whether the rest of a frame is to go on, the beginning of which did.
+    /// Returns true if the rest of an update is to go on whose beginning did.
     pub(crate) fn goes_on(&self) -> bool
         ensures goes { result ≡ goes_on self.now }
     {
         self.within && !self.is_still()
     }
 
-    /// Hands on what may be, as much as there is room for; where that would end within a frame, only up to where its beginning was told.
+    /// Moves the bytes that may go on into the buffer, as many as fit. If they would end within an update, the piece ends behind the
+    /// update's beginning.
     pub(crate) fn hand_on(&mut self, buf: &mut [u8]) -> usize
         ensures within { result ≤ length buf.new }
         ensures free { result ≤ free self.old }
@@ -301,7 +302,7 @@ impl Frames {
           within = self.new.within;
           short = self.new.short;
         } }
-        // Where there was memory for all that stands there.
+        // The case that all bytes had memory.
         ensures piece { self.old.short ≡ false → result ≡ piece_of self.old (length buf.old) }
         ensures open { self.old.short ≡ false → self.new.within ≡ is_some (left_open self.old (length buf.old)) }
         ensures short { self.old.short ≡ false → self.new.short ≡ false }

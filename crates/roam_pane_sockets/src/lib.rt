@@ -1,4 +1,4 @@
-//! The sockets of a server's panes: who is at each, what comes of a pane's program on its way to the pane's terminal, and what goes to it.
+//! The sockets of a server's panes: the peer at each, and the bytes between a pane's program and its terminal.
 #![tactic(auto)]
 
 mod filter_stages;

@@ -1,11 +1,11 @@
-//! Moments, and what lies between them.
+//! Moments and the time between them.
 ghost use Rattle.std.specs.Prelude.{◌≡◌};
 ghost use Rattle.roam_pane_sockets.specs.Moments.{after, is_time, sooner, standing};
 
-/// A moment stands still for so many milliseconds at most, while a frame goes on.
+/// A moment is kept for at most this many milliseconds while an update goes on.
 const LONGEST_STAND: u64 = 50;
 
-/// Whether so many milliseconds have passed since a moment, if there was one.
+/// Returns true if so many milliseconds have passed since a moment, or there was none.
 pub fn is_time(last: Option<u64>, now: u64, pace: u64) -> bool
     ensures time { result ≡ is_time last now pace }
 {
@@ -36,8 +36,8 @@ pub fn sooner(one: Option<u64>, other: Option<u64>) -> Option<u64>
     }
 }
 
-/// What the moment is where a clock tells this one and it was that one before: that one while a frame goes on, so that no tick makes a
-/// number within it, but not for long.
+/// Returns the moment, given the clock's and the moment before. While an update goes on it is the one before, for a limited time, so that
+/// no tick makes a screen within the update.
 pub fn standing(goes_on: bool, before: u64, now: u64) -> u64
     ensures standing { result ≡ standing goes_on before now }
 {

@@ -1,4 +1,4 @@
-//! What comes of a pane's program, on its way to the pane's terminal, and what stands beside that.
+//! The bytes of a pane's program on their way to the pane's terminal, and the metadata.
 ghost use Rattle.std.specs.Prelude.{◌≡◌, ◌≤◌, ◌<◌, ◌++◌, ℕ, List, [], length, min, take, is_some, None, IfSome};
 ghost use Rattle.roam_pane_sockets.specs.MetadataLists.{title_codes};
 ghost use Rattle.roam_pane_sockets.specs.Clips.{clip_codes};
@@ -10,7 +10,7 @@ use roam_pane_metadata::{Metadata, Query};
 use roam_pane_protocol::{ClipPane, MetadataPane, QueryPane};
 use std::alloc::Global;
 
-// A filter, where one is asked for.
+// Returns a filter if one is asked for.
 fn filter_stage_for(alloc: Global, is_normalized: bool) -> Option<FilterStage>
     ensures kind { is_some result ≡ is_normalized }
     ensures fresh { Goes result [] [] }
@@ -42,7 +42,7 @@ fn pass(filter_stage: &mut Option<FilterStage>, buf: &mut [u8], count: usize, no
     }
 }
 
-// How many bytes go on of what waits at a moment; none where nothing may, and more may be read.
+// Returns how many queued bytes go on at a moment; `None` if none may, and more may be read.
 fn pass_on(filter_stage: &mut Option<FilterStage>, buf: &mut [u8], now: u64) -> Option<usize>
     ensures none { result ≡ None → (filter_stage.new ≡ filter_stage.old) × TakesMore filter_stage.new }
     ensures some { IfSome result (λ _. IsFree filter_stage.old → ⊥) }
@@ -60,7 +60,7 @@ fn pass_on(filter_stage: &mut Option<FilterStage>, buf: &mut [u8], now: u64) -> 
     Some(filter_stage.go_on(buf, now))
 }
 
-/// What comes of a pane's program in one generation of the pane: as it comes, or through a filter; and what it says beside the screen.
+/// The bytes of a pane's program in one generation of the pane, with or without a filter, and the metadata that they set.
 #[derive(Drop)]
 pub(crate) struct PaneInput {
     alloc: Global,
@@ -69,7 +69,7 @@ pub(crate) struct PaneInput {
 }
 
 impl PaneInput {
-    /// Nothing came yet; what comes goes through a filter where it is to be as it is meant.
+    /// Returns an input without bytes. The filter is used if the bytes are to be normalized.
     pub(crate) fn new(alloc: Global, is_normalized: bool) -> PaneInput
         ensures fresh { IsFreshPaneInput result is_normalized }
     {
@@ -88,7 +88,7 @@ impl PaneInput {
         *self = PaneInput::new(self.alloc, is_normalized);
     }
 
-    /// What stands beside the terminal of this generation of the pane.
+    /// Returns the metadata of this generation of the pane.
     pub(crate) fn metadata_of(&self, generation: u64) -> MetadataPane
         ensures beside { result ≡ record {
           generation = generation;
@@ -144,7 +144,7 @@ impl PaneInput {
         self.metadata.queries()
     }
 
-    /// Until when a frame is held at most, if one is.
+    /// Returns the last moment until which an update is kept back; `None` if none is.
     pub(crate) fn waits_until(&self) -> Option<u64>
         ensures until { result ≡ waits_until self.now.filter_stage }
     {
@@ -154,7 +154,7 @@ impl PaneInput {
         }
     }
 
-    /// Whether the rest of a frame is to go on, the beginning of which did.
+    /// Returns true if the rest of an update is to go on whose beginning did.
     pub(crate) fn goes_on(&self) -> bool
         ensures goes { result ≡ frame_goes_on self.now.filter_stage }
     {
@@ -164,7 +164,7 @@ impl PaneInput {
         }
     }
 
-    /// How many bytes go on of what waits at a moment, which may be none for want of memory; more may be read where it answers none.
+    /// Returns how many queued bytes go on at a moment, which may be 0 if memory is refused; `None` if more may be read.
     pub(crate) fn go_on(&mut self, buf: &mut [u8], now: u64) -> Option<usize>
         ensures none { result ≡ None → (self.new ≡ self.old) × TakesMore self.new.filter_stage }
         ensures some { IfSome result (λ _. IsFree self.old.filter_stage → ⊥) }

@@ -1,4 +1,4 @@
-//! The sockets of the panes, where their programs are reached.
+//! The sockets of the panes, which their programs connect to.
 ghost use Rattle.std.specs.Prelude.{◌≡◌, ◌≢◌, ◌⊎◌, ◌++◌, ◌≤◌, ◌<◌, ◌-◌, [], ◌∷◌, length, map, slice_get, string_bytes, is_some, nat_lt, None, Some, IfOk, OnOk, IfSome, IfErr, IsOkUnless};
 ghost use Rattle.std.specs.List.{All, AllZip};
 ghost use Rattle.roam_pane_sockets.specs.Panes.{path_of, paths_of};
@@ -24,7 +24,7 @@ use std::alloc::Global;
 use std::fs::{Files, remove_file};
 use std::net::Net;
 
-/// The socket of a pane, and which making of the pane is there with its peer and with what came of it.
+/// The socket of a pane, and the pane's generation with its peer and its bytes.
 #[derive(Drop)]
 pub(crate) struct Pane {
     path: String,
@@ -34,7 +34,7 @@ pub(crate) struct Pane {
 }
 
 impl Pane {
-    // The socket of a pane in a folder; the pane isn't there yet. It is reported where the program waits.
+    // Binds the socket of a pane in a folder, for a pane that isn't open yet. The program's wait reports it.
     fn bind<R: Files + Net>(
         rt: &R,
         alloc: Global,
@@ -81,7 +81,7 @@ impl Pane {
         live(&mut self.making, &mut self.pane_input, generation);
     }
 
-    // What goes on to the terminal of what the program wrote: how many bytes of `buf` it fills from the front.
+    // Reads from the pane's program, and returns how many bytes at the front of `buf` go on to the terminal.
     fn read(&mut self, registry: &Registry, buf: &mut [u8], now: u64) -> Option<usize>
         ensures within { IfSome result (λ n. n ≤ length buf.new) }
         ensures hears { Hears (is_some result) (bytes_given result buf.new) self.old self.new }
@@ -99,7 +99,7 @@ impl Pane {
         )
     }
 
-    // What stands beside the terminal, where the pane is there.
+    // Returns the pane's metadata; `None` if it isn't open.
     fn metadata(&self) -> Option<MetadataPane>
         ensures beside { result ≡ pane_metadata (Some self.now) }
     {
@@ -109,7 +109,7 @@ impl Pane {
         }
     }
 
-    // How many texts for the clipboard the program has said, where the pane is there.
+    // Returns how many clips the program has sent; `None` if the pane isn't open.
     fn clips(&self) -> Option<ClipPane>
         ensures clips { result ≡ pane_clips (Some self.now) }
     {
@@ -119,7 +119,7 @@ impl Pane {
         }
     }
 
-    // How many questions the program has asked, where the pane is there.
+    // Returns how many questions the program has asked; `None` if the pane isn't open.
     fn asks(&self) -> Option<QueryPane>
         ensures asks { result ≡ pane_asked (Some self.now) }
     {
@@ -138,7 +138,7 @@ impl Pane {
     }
 }
 
-// What is told of what stands beside a terminal: where no bell may be told, as many as were shown before.
+// Returns the metadata to report. If no bell may be reported, the count of bells is that of the last report.
 fn shown_bells(
     may_ring: bool,
     shown: Option<MetadataPane>,
@@ -153,7 +153,7 @@ fn shown_bells(
     }
 }
 
-// Until when a frame is held in one of these panes at most, of the first one that ends.
+// Returns the first moment at which an update in one of these panes ends; `None` if none is kept back.
 fn frames_until(all: &[Pane]) -> Option<u64>
     ensures until { result ≡ frames_until all.now }
 {
@@ -161,7 +161,7 @@ fn frames_until(all: &[Pane]) -> Option<u64>
     sooner(first.pane_input.waits_until(), frames_until(others))
 }
 
-// Whether the rest of a frame is to go on to the terminal of one of these panes.
+// Returns true if the rest of an update is to go on to one of these panes.
 fn any_goes_on(all: &[Pane]) -> bool
     ensures any { result ≡ any_goes_on all.now }
 {
@@ -189,9 +189,9 @@ pub struct Panes {
 }
 
 impl Panes {
-    /// Binds the sockets of a folder; no pane is there yet. A socket's file to which nobody listens is removed first. `Bind` where one
-    /// can't be bound, as where its file is there, or where the folder has no name; `OutOfMemory`; those that were bound before are removed
-    /// then. What programs write goes on as it comes, or as it is meant.
+    /// Binds the sockets of a folder; no pane is open yet. It first removes socket files without a listener. `Bind` if one can't be bound,
+    /// as for a file in its place or a folder without a name; `OutOfMemory`. After an error it removes the sockets bound before. Bytes go
+    /// on as they are, or normalized.
     pub fn bind<R: Files + Net>(
         rt: &R,
         alloc: Global,
@@ -269,15 +269,14 @@ impl Panes {
         }
     }
 
-    /// What goes on to a pane's terminal of what its program wrote: how many bytes of `buf` it fills from the front, none where all that
-    /// came waits, as while a frame is open. A peer is taken where there is none, and let go where it is gone; one that comes to a pane
-    /// that isn't there waits.
+    /// Returns how many bytes of `buf`, from the front, go on to a pane's terminal; `None` if all bytes are kept back, as in an open
+    /// update. It accepts a peer if there is none, and drops one that closed. A peer of a closed pane has to wait.
     pub fn read(&mut self, registry: &Registry, pane: u8, buf: &mut [u8], now: u64) -> Option<usize>
         ensures within { IfSome result (λ n. n ≤ length buf.new) }
         ensures hears { Changes (Hears (is_some result) (bytes_given result buf.new)) pane self.old.all.items self.new.all.items }
         ensures none { result ≡ None → 1 ≤ pane
             → pane_input_in (slice_get self.new.all.items (pane - 1)) ≡ pane_input_in (slice_get self.old.all.items (pane - 1)) }
-        // What waits goes on as soon as it may: a frame that has been held for long enough too.
+        // Queued bytes go on as soon as they may, also those of an update that was kept back for long enough.
         ensures free { 1 ≤ pane → HasFreeIn now (slice_get self.old.all.items (pane - 1)) → 0 < length buf.old → CountsSome result }
         // And no sooner: a frame that is open, and isn't over at this moment, waits.
         ensures hands { Changes (λ p q. IfSome result (λ n. HandsOn now p.pane_input q.pane_input n)) pane self.old.all.items
@@ -290,7 +289,7 @@ impl Panes {
         self.all[at - 1].read(registry, buf, now)
     }
 
-    // What stands beside the terminal of a pane, where it is there.
+    // Returns the metadata of a pane; `None` if it isn't open.
     fn metadata(&self, pane: u8) -> Option<MetadataPane>
         ensures beside { 1 ≤ pane → result ≡ pane_metadata (slice_get self.now.all.items (pane - 1)) }
     {
@@ -312,7 +311,7 @@ impl Panes {
         self.all[at - 1].pane_input.title()
     }
 
-    /// What stands beside the panes' terminals, with the bells that may be told: all that rang, or those that were shown before.
+    /// Returns the metadata of the panes, with the bells that may be reported: all of them, or those of the last report.
     pub fn metadata_lists(&self, may_ring: bool, shown: &MetadataList) -> MetadataList
         ensures are { AreMetadata may_ring shown.now self.now.all.items result }
     {
@@ -326,7 +325,7 @@ impl Panes {
         list
     }
 
-    // How many texts for the clipboard the program of a pane has said, where the pane is there.
+    // Returns how many clips the program of a pane has sent; `None` if the pane isn't open.
     fn clips_at(&self, pane: u8) -> Option<ClipPane>
         ensures clips { 1 ≤ pane → result ≡ pane_clips (slice_get self.now.all.items (pane - 1)) }
     {
@@ -359,7 +358,7 @@ impl Panes {
         list
     }
 
-    /// How many questions the program of a pane has asked, where the pane is there.
+    /// Returns how many questions the program of a pane has asked; `None` if the pane isn't open.
     pub fn queries_at(&self, pane: u8) -> Option<QueryPane>
         ensures asks { 1 ≤ pane → result ≡ pane_asked (slice_get self.now.all.items (pane - 1)) }
     {
@@ -392,21 +391,21 @@ impl Panes {
         list
     }
 
-    /// Until when a frame is held in a pane at most, of the first one that ends, if one is.
+    /// Returns the first moment at which an update in a pane ends; `None` if none is kept back.
     pub fn frames_until(&self) -> Option<u64>
         ensures until { result ≡ frames_until self.now.all.items }
     {
         frames_until(&self.all)
     }
 
-    /// Whether the rest of a frame is to go on to the terminal of a pane.
+    /// Returns true if the rest of an update is to go on to the terminal of a pane.
     pub fn any_goes_on(&self) -> bool
         ensures any { result ≡ any_goes_on self.now.all.items }
     {
         any_goes_on(&self.all)
     }
 
-    /// Whether a peer came to a pane that is there.
+    /// Returns true if an open pane has a peer.
     pub fn has_peer(&self, pane: u8) -> bool
         ensures peer { 1 ≤ pane → result ≡ has_peer (slice_get self.now.all.items (pane - 1)) }
     {
@@ -417,7 +416,7 @@ impl Panes {
         has_peer(&self.all[at - 1].making)
     }
 
-    /// How many of the bytes the program of a pane took, 0 where none is there.
+    /// Returns how many of the bytes the program of a pane took, 0 if there is none.
     pub fn write(&mut self, registry: &Registry, pane: u8, bytes: &[u8]) -> usize
         ensures within { result ≤ length bytes.now }
         ensures asks { Changes (Asks (nat_lt 0 result)) pane self.old.all.items self.new.all.items }

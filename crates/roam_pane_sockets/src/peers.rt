@@ -30,7 +30,7 @@ pub(crate) struct Making {
     peer: Peer,
 }
 
-/// Whether a peer that answered a write so has failed.
+/// Returns true if this result of a write means that the peer has failed.
 pub fn has_failed(answer: &io::Result<usize>) -> bool
     ensures failed { IsTrue result ↔ HasFailed answer.now }
 {
@@ -40,7 +40,7 @@ pub fn has_failed(answer: &io::Result<usize>) -> bool
     }
 }
 
-/// The next program that waits at a socket. It is reported where the program waits.
+/// Accepts the next program at a socket. The program's wait reports it.
 pub fn next_at(listener: &UnixListener, registry: &Registry) -> Option<UnixStream> {
     let (mut stream, _) = listener.accept().ok()?;
     // Where it isn't reported, a wait ends by its time alone.
@@ -52,8 +52,7 @@ pub fn next_at(listener: &UnixListener, registry: &Registry) -> Option<UnixStrea
     Some(stream)
 }
 
-/// The making of a pane that is there from now on, or that none is. That which was there stays with its peer; the peer of any other goes,
-/// and what came of it.
+/// Sets the generation of a pane, or none. The same generation keeps its peer; any other loses the peer and its bytes.
 pub(crate) fn live(making: &mut Option<Making>, pane_input: &mut PaneInput, generation: Option<u64>)
     ensures lives { generation_in making.new ≡ generation }
     ensures stays { generation_in making.old ≡ generation → (making.new ≡ making.old) × (pane_input.new ≡ pane_input.old) }
@@ -82,7 +81,7 @@ pub(crate) fn generation_of(making: &Option<Making>) -> Option<u64>
     }
 }
 
-/// Whether a peer came to a making.
+/// Returns true if the generation has a peer.
 pub(crate) fn has_peer(making: &Option<Making>) -> bool
     ensures peer { result ≡ is_some (peer_in making.now) }
 {
@@ -92,7 +91,7 @@ pub(crate) fn has_peer(making: &Option<Making>) -> bool
     }
 }
 
-/// What a read of a program's stream brought.
+/// The result of a read from a program's stream.
 enum Heard {
     /// A piece, of which and of what waited so many bytes go on.
     Piece(usize),
@@ -102,7 +101,7 @@ enum Heard {
     Ended,
 }
 
-// Reads a piece of a program's stream. What goes on to the pane's terminal is put into `buf`.
+// Reads a piece of a program's stream, and puts the bytes that go on to the pane's terminal into `buf`.
 fn read_piece<S: Read>(
     stream: &mut S,
     pane_input: &mut PaneInput,
@@ -111,7 +110,7 @@ fn read_piece<S: Read>(
 ) -> Heard
     requires free { TakesMore pane_input.old.filter_stage }
     ensures within { (n : ℕ) → result ≡ Piece n → n ≤ length buf.new }
-    // What the stream gave is what goes on, and what the pane's metadata has read.
+    // The bytes of the stream go on, and the pane's metadata has read them.
     ensures brings { (n : ℕ) → result ≡ Piece n → (piece : List ℕ) × Consumes (S.remaining stream.old) (S.remaining stream.new) piece
         × IsBrought piece now pane_input.old pane_input.new n (take n buf.new) }
     ensures none { result ≡ Nothing → pane_input.new ≡ pane_input.old }
@@ -136,7 +135,7 @@ impl Peer {
         Peer { stream: None }
     }
 
-    /// Whether a program came.
+    /// Returns true if a program is connected.
     pub(crate) fn is_there(&self) -> bool
         ensures there { result ≡ is_some self.now.stream }
     {
@@ -150,7 +149,7 @@ impl Peer {
         self.stream = None;
     }
 
-    /// Takes the next program that waits, where there is none.
+    /// Accepts the next program, if none is connected.
     pub(crate) fn accept(&mut self, listener: &UnixListener, registry: &Registry)
         ensures one { IfSome self.old.stream (λ _. self.new ≡ self.old) }
     {
@@ -191,7 +190,7 @@ impl Peer {
         None
     }
 
-    /// Reads what the program wrote, and returns how many bytes of `buf` go on to the pane's terminal. Lets a program go that is gone.
+    /// Reads from the program, and returns how many bytes of `buf` go on to the pane's terminal. Drops a closed stream.
     pub(crate) fn hear(
         &mut self,
         pane_input: &mut PaneInput,
@@ -217,7 +216,7 @@ impl Peer {
         }
     }
 
-    /// How many of the bytes the program took, 0 where none is there. One that has failed is let go.
+    /// Returns how many of the bytes the program took, 0 if there is none. Drops a failed stream.
     pub(crate) fn tell(&mut self, bytes: &[u8]) -> usize
         ensures within { result ≤ length bytes.now }
         ensures from { 0 < result → IsSome self.old.stream × (self.new ≡ self.old) }
@@ -234,7 +233,7 @@ impl Peer {
     }
 }
 
-// Reads what the program of a making wrote, and returns how many bytes of `buf` go on to the pane's terminal.
+// Reads from the program of a generation, and returns how many bytes of `buf` go on to the pane's terminal.
 fn hear(
     making: &mut Making,
     pane_input: &mut PaneInput,
@@ -259,8 +258,8 @@ fn hear(
         .take_next(pane_input, listener, registry, buf, now)
 }
 
-/// What goes on to a pane's terminal of what its program wrote: how many bytes of `buf` it fills from the front, which are none where all
-/// that came, or waited, waits. A pane that isn't there takes no peer, and is told nothing.
+/// Returns how many bytes of `buf`, from the front, go on to a pane's terminal: 0 if all arrived and queued bytes are kept back. A closed
+/// pane accepts no peer, and gets nothing.
 pub(crate) fn read(
     making: &mut Option<Making>,
     pane_input: &mut PaneInput,
@@ -286,7 +285,7 @@ pub(crate) fn read(
     hear(making, pane_input, listener, registry, buf, now)
 }
 
-/// How many of the bytes the program of a pane took, 0 where none is there.
+/// Returns how many of the bytes the program of a pane took, 0 if there is none.
 pub(crate) fn write(
     making: &mut Option<Making>,
     listener: &UnixListener,

@@ -1,13 +1,13 @@
-//! Where what goes on to a pane's terminal is cut.
+//! The cuts between the pieces that go on to a pane's terminal.
 ghost use Rattle.std.specs.Prelude.{◌≡◌, ◌≤◌, length};
 ghost use Rattle.roam_pane_sockets.specs.Pieces.{begun, frame_upto, piece_before};
 
 use crate::frames::{frame_with, has_no_mark, still_run};
 
-/// How many bytes tell that a frame begins: CSI ? 2026 h.
+/// The number of bytes in CSI ? 2026 h, which begins an update.
 const BEGINNING: usize = 8;
 
-// A frame that was open before stands for one that begins in front of all.
+// Returns the beginning of an update that was open before: in front of all bytes.
 fn begun(was_open: bool) -> Option<usize>
     ensures begun { result ≡ begun was_open }
 {
@@ -31,7 +31,7 @@ fn frame_upto(frame: Option<usize>, bytes: &[u8], count: usize) -> Option<usize>
     open
 }
 
-/// Where the frame begins that is open behind the first so many of what is ready, one that was open before in front of all.
+/// Returns the beginning of the update that is open after the first `count` ready bytes. One that was open before begins in front of all.
 pub(crate) fn left_open(was_open: bool, ready: &[u8], count: usize) -> Option<usize>
     requires count { count ≤ length ready.now }
     ensures frame { result ≡ frame_upto count (begun was_open) 0 ready.now }
@@ -43,8 +43,8 @@ pub(crate) fn left_open(was_open: bool, ready: &[u8], count: usize) -> Option<us
     }
 }
 
-/// How many of so many bytes go on as one piece, where this frame is open behind them: all where none is, or it was open before; else those
-/// that tell its beginning, and what comes before it. So the frame itself begins with a piece of its own.
+/// Returns the length of the next piece, given the update that is open after the bytes. It is all of them if none is, or if it was open
+/// before. Otherwise the piece ends behind the text that begins the update, so that the update has a piece of its own.
 pub(crate) fn piece_before(was_open: bool, frame: Option<usize>, most: usize) -> usize
     ensures piece { result ≡ piece_before was_open frame most }
 {

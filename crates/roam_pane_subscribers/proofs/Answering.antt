@@ -1,4 +1,4 @@
--- What holds of a call whatever it answers holds where that is well.
+-- A property of a call with any result holds if the call succeeds.
 use Rattle.std.specs.Prelude.{Result, Ok, Err, OnOk}
 
 pub on_ok : {A E P : Type 0} (r : Result A E) → P → OnOk r P

@@ -1,4 +1,4 @@
--- What lines come to, one after another, and what a close types.
+-- The results of lines, one after another, and the acts that a close types.
 use Rattle.roam_terminal_input.specs.Lines.{IsFirst}
 use Rattle.std.proofs.Common.{◌≡◌, ℕ, ◌+◌, drop, length, List, [], ◌∷◌, ◌++◌, Option, Some, None, true, false, Bool, refl, sym, subst, ap, ◌∙◌, append_assoc, append-nil}
 use Rattle.std.specs.Prelude.{◌↔◌, IfOk, IfSome, IsSome, Result, Ok, Err, Vec}
@@ -18,7 +18,7 @@ use Rattle.roam_pane_subscribers.specs.Asking.{host, metadata, clips, queries, A
 use Rattle.roam_pane_subscribers.specs.Closing.{TypesClose, closing_acts}
 use Rattle.roam_pane_subscribers.specs.declared.closing.Closer.{Closer}
 
--- ---- what a close types
+-- ---- the acts of a close
 
 fold_acts : (k : Kept) (acts : List Act) → (after_typed_all k acts).acts.acts ≡ k.acts.acts ++ acts
 fold_acts k [] = sym (append-nil k.acts.acts)
@@ -51,7 +51,7 @@ types_close start typed new pane after now (Ok texts) types sends = record {
   acts = acts_sent typed new now texts sends ∙ acts_typed start typed (closing_acts pane after) types;
 }
 
--- ---- what a line asks for
+-- ---- the request of a line
 
 pub asks_for : (r : Option Close) (line : List ℕ) (close : Close) → r ≡ Some close → IfSome r (λ c. IsClose c × (line ≡ close_text c)) → AsksFor line close
 asks_for r line close is found =
@@ -119,7 +119,7 @@ asked_more now moment old mid new p q = record {
         let same = q.busy (subst (λ o. IsSome o) (sym is) refl) in
         subst (λ (c : Closer). IfSome c.closing (λ m. IsClosing now moment c m)) (sym same) (p.asked none)
 
--- the line that stands first is taken
+-- the first line is taken
 pub taken : (kept line new : List ℕ) → IsFirst kept line (drop (length line + 1) kept) → ((l rest : List ℕ) → IsFirst kept l rest → new ≡ rest)
     → IsFirst kept line new
 taken kept line new first took = subst (λ rest. IsFirst kept line rest) (sym (took line (drop (length line + 1) kept) first)) first

@@ -1,4 +1,4 @@
--- The text of what is new beside the panes' terminals, a pane more after the others.
+-- The text of new metadata, extended pane by pane.
 use Rattle.std.proofs.Common.{◌≡◌, ℕ, zero, suc, ◌+◌, ◌-◌, ◌≤◌, List, ◌++◌, Option, sym, ap, ◌∙◌, arith}
 use Rattle.roam_pane_protocol.specs.declared.metadata_list.MetadataList.{MetadataList}
 use Rattle.roam_pane_protocol.specs.declared.metadata_list.MetadataPane.{MetadataPane}

@@ -1,4 +1,4 @@
--- Who keeps shells has his place, and each is told what is so none the less.
+-- A pty host takes its place, and each subscriber still gets the news.
 use Rattle.std.proofs.Common.{◌≡◌, ℕ, ◌-◌, Bool, eqb, List, [], ◌∷◌, Option, Some, None, sym, subst, inl, inr}
 use Rattle.std.proofs.lemmas.Bool.{cases_Bool}
 use Rattle.std.specs.List.{AllZip}
@@ -11,7 +11,7 @@ use Rattle.roam_pane_subscribers.specs.declared.seats.Role.{Role}
 use Rattle.roam_pane_subscribers.specs.declared.seats.Role.TheVariants.{Other, New, Host}
 
 module _ {S : Type 0} (contents : S → Option (List ℕ)) (now : PaneList) where
-  -- what one is to the server is nothing that it was told
+  -- the role of a subscriber isn't part of its news
   role_told : (old f : Subscriber S) (stream : Option S) → IfSome stream (λ _. WasTold contents now old f)
       → IfSome stream (λ _. WasTold contents now old (record f { role = Host }))
   role_told old f None t = tt

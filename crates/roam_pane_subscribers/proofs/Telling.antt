@@ -1,4 +1,4 @@
--- What programs are told, one after the other.
+-- The news to programs, one after another.
 use Rattle.std.proofs.Common.{◌≡◌, ◌≤◌, ℕ, List, [], ◌∷◌, ◌++◌, refl, sym, subst, ap, ◌∙◌, arith, append_assoc, append-nil, length, take, drop, Option, Some, None}
 use Rattle.std.specs.Prelude.{IfSome, Result, Ok, Err, is_ok, is_err, if◌then◌else◌, false}
 use Rattle.std.proofs.Math.Seq.{drop-length, take-length}
@@ -76,14 +76,14 @@ pub pushed : {S A B : Type 0} (r : Result A B) (items old : List (Subscriber S))
 pushed (Ok a) items old f is e = subst (λ l. HaveCome old l) (sym e) (one_came old f is)
 pushed (Err b) items old f is e = subst (λ l. HaveCome old l) (sym e) (none_came old)
 
--- what is put back into a list of as many is all of it
+-- a part put back into a list of its length is the whole list
 pub whole_back : {X : Type 0} (n : ℕ) (new old : List X) → length new ≡ length old → n ≡ length old
     → take n (new ++ drop (length new) old) ≡ new
 whole_back n new old len is =
     let rest : drop (length new) old ≡ [] = ap (λ k. drop k old) len ∙ drop-length old in
     ap (λ l. take n (new ++ l)) rest ∙ (ap (λ l. take n l) (append-nil new) ∙ (ap (λ k. take k new) (is ∙ sym len) ∙ take-length new))
 
--- of one or none the first stands last already
+-- a list of at most one element is its own rotation
 pub few_turned : {X : Type 0} (xs : List X) → length xs ≤ 1 → xs ≡ turned xs
 few_turned [] few = refl
 few_turned (x ∷ []) few = refl

@@ -1,4 +1,4 @@
--- What the line of a program comes to that follows the panes.
+-- The result of a line from a subscriber.
 use Rattle.std.specs.Prelude.{◌≡◌, ◌⊎◌, ◌++◌, ◌||◌, ℕ, true, false, List, [], ◌∷◌, None, IfSome, IsSome, codes}
 use Rattle.std.specs.List.{filter}
 use Rattle.roam_pane_protocol.specs.Closes.{IsAlone, IsClose, IsPane, close_text, focus_after, is_making}
@@ -19,9 +19,9 @@ pub record AsksFor (line : List ℕ) (close : Close) : Type 0 where
   pub is : IsClose close
   pub text : line ≡ close_text close
 
--- A line is done at a moment, where these panes are there, and this is said to it: it says that its program is the pty host; it
--- asks for what stands beside the panes' terminals, for texts for the clipboard, or for questions; it asks for no close; the pane is gone,
--- or no other is there; that pane's close is under way, and then the focus goes where the close says; or its start refused it.
+-- A line is done at a moment, with these panes, and gets this reply. It may declare the pty host, or ask for metadata, clips or questions.
+-- It may ask for no close, or for one of a pane that is gone or is the only one. Otherwise the close begins, and the focus goes to the pane
+-- that it names; or the server's start refused it.
 pub data DoesLine (now : PaneList) (line : List ℕ) (moment : ℕ) (old new : Closer) (said : List ℕ) : Type 0 where
   host : is_host_line line ≡ true → new ≡ old → said ≡ [] → DoesLine now line moment old new said
   metadata : is_metadata_line line ≡ true → new ≡ old → said ≡ [] → DoesLine now line moment old new said
@@ -38,7 +38,7 @@ pub data DoesLine (now : PaneList) (line : List ℕ) (moment : ℕ) (old new : C
   refused : (close : Close) → AsksFor line close → is_making now close.pane close.generation ≡ true → new.closing ≡ old.closing
       → said ≡ codes "out of memory\n" → DoesLine now line moment old new said
 
--- the line that stood first was done and goes, and what is said to it waits, or the program is let go
+-- the first line was done and removed, and its reply is queued; or the subscriber was disconnected
 pub record TakesLine {S : Type 0} (now : PaneList) (moment : ℕ) (closer closer' : Closer) (old new : Subscriber S) : Type 0 where
   pub line : List ℕ
   pub first : IsFirst old.lines.kept line new.lines.kept
@@ -50,7 +50,7 @@ pub record TakesLine {S : Type 0} (now : PaneList) (moment : ℕ) (closer closer
   pub queries : new.queries ≡ record old.queries { is_asked = old.queries.is_asked || is_queries_line line }
   pub waits : (new.program.stream ≡ None) ⊎ (new.waiting.items ≡ old.waiting.items ++ said)
 
--- a close under way is one that was asked for: its pane is there, of that making, and the focus goes where the close says
+-- A close in progress was asked for: its pane is there in that generation, and the focus goes to the pane that it names.
 abbrev pub IsClosing : PaneList → ℕ → Closer → ℕ × ℕ → Type 0
 IsClosing now moment new making =
     (close : Close) × (before : Closer) × IsClose close × (making ≡ (close.pane, close.generation))
@@ -61,7 +61,7 @@ pub record IsAsked (now : PaneList) (moment : ℕ) (old new : Closer) : Type 0 w
   pub busy : IsSome old.closing → new ≡ old
   pub asked : old.closing ≡ None → IfSome new.closing (λ making. IsClosing now moment new making)
 
--- A turn was taken: no close is under way once its datagram was given, and where its pane is still there its start is let go.
+-- A turn was taken: no close is in progress after its datagram was given. If the pane is still there, the start is dropped.
 pub record Settles (panes : PaneList) (old new : Closer) : Type 0 where
   pub waits : IsSome old.datagram → new ≡ old
   pub settled : old.datagram ≡ None → new.closing ≡ None
@@ -69,7 +69,7 @@ pub record Settles (panes : PaneList) (old new : Closer) : Type 0 where
   pub others : new ≡ record old { client = new.client; closing = new.closing }
   pub kept : (new.client ≡ old.client) ⊎ (new.client ≡ None)
 
--- ---- what is left
+-- ---- the lines that remain
 
 -- no whole line of it waits to be done
 abbrev pub HasNoLine : {S : Type 0} → Subscriber S → Type 0
@@ -79,8 +79,8 @@ abbrev pub HaveNoLine : {S : Type 0} → List (Subscriber S) → Type 0
 HaveNoLine [] = Unit {0}
 HaveNoLine (f ∷ fs) = HasNoLine f × HaveNoLine fs
 
--- Where no close is under way, no whole line of any of them waited once they were told; then the pty host has his place, those that left
--- go, and the first stands last.
+-- If no close is in progress, no subscriber had a whole line left after the news. Then the pty host takes its place, those that left are
+-- removed, and the first moves to the end.
 pub record HaveAsked {S : Type 0} (closer : Closer) (all : List (Subscriber S)) : Type 0 where
   pub told : List (Subscriber S)
   pub done : closer.closing ≡ None → HaveNoLine told

@@ -1,4 +1,4 @@
--- Which texts for the clipboard each program that follows the panes is told.
+-- The clips that each subscriber gets.
 use Rattle.std.specs.Prelude.{ℕ, ◌≡◌, ◌||◌, ◌&&◌, Bool, true, false, List, [], ◌∷◌, length, nat_lt, Option, Some, None}
 use Rattle.roam_pane_protocol.specs.declared.clip_list.ClipList.{ClipList}
 use Rattle.roam_pane_subscribers.specs.Clips.{clip_news}
@@ -20,8 +20,8 @@ pub record IsFree {S : Type 0} (f : Subscriber S) : Type 0 where
 abbrev pub notes_clips : {S : Type 0} → ClipList → Subscriber S → Subscriber S
 notes_clips now f = record f { clips = record f.clips { told = Some now } }
 
--- What is new of them waits for it, or nothing does: to who has just asked, none that was said before is told; it isn't time; something
--- else waits for it; or there is no memory.
+-- New clips are queued for a subscriber, or none are: it asked just now, and gets no earlier clip; it isn't time; other bytes are queued
+-- for it; or memory was refused.
 pub data GivesClips {S : Type 0} (may : Bool) (now : ClipList) (panes : List Pane) (gave : Bool) (old new : Subscriber S) : Type 0 where
   comes : old.clips.told ≡ None → gave ≡ false → new ≡ notes_clips now old → GivesClips may now panes gave old new
   paced : (told : ClipList) → old.clips.told ≡ Some told → may ≡ false → gave ≡ false → new ≡ old → GivesClips may now panes gave old new
@@ -33,7 +33,7 @@ pub data GivesClips {S : Type 0} (may : Bool) (now : ClipList) (panes : List Pan
       → new.metadata_event.text.items ≡ clip_news 9 told now panes → gave ≡ nat_lt 0 (length new.metadata_event.text.items)
       → new ≡ record (notes_clips now old) { metadata_event = record old.metadata_event { text = new.metadata_event.text } } → GivesClips may now panes gave old new
 
--- Who wants them is told what is new, and the first of what waits for it is written; of any other nothing changes.
+-- A subscriber that asked for clips gets the new ones, and its first queued bytes are written. Any other is unchanged.
 pub data TellsClips {S : Type 0} (contents : S → Option (List ℕ)) (may : Bool) (now : ClipList) (panes : List Pane) (gave : Bool)
     (old new : Subscriber S) : Type 0 where
   others : wants_clips old ≡ false → gave ≡ false → new ≡ old → TellsClips contents may now panes gave old new

@@ -1,4 +1,4 @@
--- What a program that follows the panes is told of texts for the clipboard (this project's profile).
+-- The lines that carry clips to a subscriber (this project's profile).
 use Rattle.std.specs.Prelude.{ℕ, zero, suc, ◌≡◌, ◌++◌, Bool, false, List, [], None, codes}
 use Rattle.std.specs.Str.{bytes_eq}
 use Rattle.roam_pane_protocol.specs.Clips.{clip_lines, clip_texts, clips_at}
@@ -16,9 +16,9 @@ pub record AreFreshClips (c : ClipsTold) : Type 0 where
   pub asked : c.is_asked ≡ false
   pub told : c.told ≡ None
 
--- ---- what is told
+-- ---- the news
 
--- the text of what is new of the first n panes, each with its own last text: the one that its count counts
+-- the text of the new clips of the first n panes, each with the last clip that its count includes
 unfoldable pub clip_news : ℕ → ClipList → ClipList → List Pane → List ℕ
 clip_news zero told now panes = []
 clip_news (suc n) told now panes =

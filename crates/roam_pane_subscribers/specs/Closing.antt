@@ -16,12 +16,12 @@ use Rattle.roam_pane_protocol.specs.declared.pane_list.ListedPane.{ListedPane}
 use Rattle.roam_pane_protocol.specs.declared.pane_list.PaneList.{PaneList}
 use Rattle.roam_pane_subscribers.specs.declared.closing.Closer.{Closer}
 
--- a pane gets the focus and is closed, and then another gets the focus, where one is named
+-- the acts that focus a pane and close it, and then focus another if one is named
 abbrev pub closing_acts : ℕ → Option ℕ → List Act
 closing_acts pane None = Focus pane ∷ Close ∷ []
 closing_acts pane (Some after) = Focus pane ∷ Close ∷ Focus after ∷ []
 
--- where the server's own start is
+-- the address of the server's own start
 abbrev pub own_address : Addr
 own_address = record { host = 0 ∷ 0 ∷ 0 ∷ 0 ∷ []; port = 0 }
 
@@ -34,7 +34,7 @@ GivesOwn datagram buf (Some came) = (came.0 ≡ own_address) × IsFilled datagra
 abbrev pub IsThere : PaneList → ℕ → ℕ → Type 0
 IsThere panes pane generation = (listed : ListedPane) × (pane_at panes pane ≡ Some listed) × (listed.generation ≡ generation)
 
--- The start that a closer has, or where it has none another one of its session and of its id, which the next one doesn't have.
+-- The start of a closer. If it has none, the start is a new one with the closer's session and id, and the next one gets another id.
 abbrev pub IsStartOf : Option ClientView → Closer → ℕ → ClientView → Type 0
 IsStartOf None old next start = Stands start old.session old.id (new_client Two false) × (next ≡ (old.id + 1) % 2 ^ 64)
 IsStartOf (Some client) old next start = (start ≡ client) × (next ≡ old.id)
@@ -60,7 +60,7 @@ pub record Closes (old new : Closer) (pane generation : ℕ) (after : Option ℕ
   pub closing : new.closing ≡ Some (pane, generation)
   pub session : new.session ≡ old.session
 
--- An answer came: the start that a closer has heard it, where it waits for one.
+-- An answer arrived: the closer's start got it, if there is one.
 abbrev pub HearsAnswer : Option ClientView → Closer → Closer → List ℕ → ℕ → Type 0
 HearsAnswer None old new bytes now = new ≡ old
 HearsAnswer (Some client) old new bytes now =

@@ -3,7 +3,7 @@ use Rattle.std.specs.Prelude.{ℕ, List, [], ◌∷◌, Option, Some, None}
 use Rattle.std.specs.Io.KnownBytes.{Appends}
 use Rattle.roam_stream_framing.specs.Streams.{Answer, Answered}
 
--- A stream was asked once, and is let go exactly where it answered so.
+-- A stream was asked once, and is dropped exactly if its answer asks for that.
 abbrev pub HasAsked : (Answer → Type 0) → {S : Type 0} → (S → Option (List Answer)) → S → Option S → Type 0
 HasAsked Ends {S} answers old None =
     (asked : S) × (answer : Answer) × Answered (answers old) (answers asked) (answer ∷ []) × Ends answer

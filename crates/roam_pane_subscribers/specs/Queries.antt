@@ -1,4 +1,4 @@
--- What a program that follows the panes is told of what their programs ask (this project's profile).
+-- The lines that carry questions of panes' programs to a subscriber (this project's profile).
 use Rattle.std.specs.Prelude.{ℕ, zero, suc, ◌≡◌, ◌++◌, Bool, false, List, [], None, codes}
 use Rattle.std.specs.Str.{bytes_eq}
 use Rattle.roam_pane_protocol.specs.Queries.{query_lines, queries_at}
@@ -7,7 +7,7 @@ use Rattle.roam_pane_subscribers.specs.declared.queries.QueriesTold.{QueriesTold
 use Rattle.roam_pane_sockets.specs.declared.panes.Pane.{Pane}
 use Rattle.roam_pane_sockets.specs.Queries.{last_of}
 
--- a line asks for what they ask
+-- a line asks for questions
 abbrev pub is_queries_line : List ℕ → Bool
 is_queries_line line = bytes_eq line (codes "queries")
 
@@ -16,9 +16,9 @@ pub record AreFreshQueries (a : QueriesTold) : Type 0 where
   pub asked : a.is_asked ≡ false
   pub told : a.told ≡ None
 
--- ---- what is told
+-- ---- the news
 
--- the text of what is new of the first n panes, each with its own last questions
+-- the text of the new questions of the first n panes, each with its last questions
 unfoldable pub query_news : ℕ → QueryList → QueryList → List Pane → List ℕ
 query_news zero told now panes = []
 query_news (suc n) told now panes =

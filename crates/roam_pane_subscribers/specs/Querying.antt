@@ -1,4 +1,4 @@
--- What each program that follows the panes is told of what their programs ask.
+-- The questions of panes' programs that each subscriber gets.
 use Rattle.std.specs.Prelude.{ℕ, ◌≡◌, true, false, List, [], Option, Some, None}
 use Rattle.roam_pane_protocol.specs.declared.query_list.QueryList.{QueryList}
 use Rattle.roam_pane_subscribers.specs.Queries.{query_news}
@@ -11,8 +11,8 @@ use Rattle.roam_pane_sockets.specs.declared.panes.Pane.{Pane}
 abbrev pub notes_queries : {S : Type 0} → QueryList → Subscriber S → Subscriber S
 notes_queries now f = record f { queries = record f.queries { told = Some now } }
 
--- What is new of them waits for it, or nothing does: to who has just asked for them, none that was asked before is told; something else
--- waits for it; or there is no memory.
+-- New questions are queued for a subscriber, or none are: it asked just now, and gets no earlier question; other bytes are queued for it;
+-- or memory was refused.
 pub data GivesQueries {S : Type 0} (now : QueryList) (panes : List Pane) (old new : Subscriber S) : Type 0 where
   comes : old.queries.told ≡ None → new ≡ notes_queries now old → GivesQueries now panes old new
   waits : (told : QueryList) → old.queries.told ≡ Some told → (IsFree old → ⊥) → new ≡ old → GivesQueries now panes old new
@@ -20,8 +20,7 @@ pub data GivesQueries {S : Type 0} (now : QueryList) (panes : List Pane) (old ne
   gives : (told : QueryList) → old.queries.told ≡ Some told → IsFree old → new.metadata_event.text.items ≡ query_news 9 told now panes
       → new ≡ record (notes_queries now old) { metadata_event = record old.metadata_event { text = new.metadata_event.text } } → GivesQueries now panes old new
 
--- Who asked for them is told what is new, and the first of what waits for it is written, where something does; of any other nothing
--- changes.
+-- A subscriber that asked for questions gets the new ones, and its first queued bytes are written. Any other is unchanged.
 pub data TellsQueries {S : Type 0} (contents : S → Option (List ℕ)) (now : QueryList) (panes : List Pane) (old new : Subscriber S) : Type 0 where
   others : old.queries.is_asked ≡ false → new ≡ old → TellsQueries contents now panes old new
   quiet : old.queries.is_asked ≡ true → GivesQueries now panes old new → new.metadata_event.text.items ≡ [] → TellsQueries contents now panes old new

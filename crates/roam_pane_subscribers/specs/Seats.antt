@@ -10,7 +10,7 @@ use Rattle.roam_pane_subscribers.specs.declared.seats.Role.TheVariants.{Other, N
 abbrev pub is_host_line : List ℕ → Bool
 is_host_line line = bytes_eq line (codes "host")
 
--- what a program is after a line
+-- the role of a program after a line
 abbrev pub role_after : List ℕ → Role → Role
 role_after line role = if is_host_line line then New else role
 
@@ -49,7 +49,7 @@ has_host (f ∷ fs) = is_seated f || has_host fs
 abbrev pub let_go : {S : Type 0} → Subscriber S → Subscriber S
 let_go f = record f { program = record { stream = None } }
 
--- what becomes of one, where some said so or none did, and one behind it did or none
+-- the subscriber after the pty host is chosen, given whether any declared itself, and whether a later one did
 abbrev pub seated_by : {S : Type 0} → Role → Bool → Bool → Subscriber S → Subscriber S
 seated_by Other any later f = f
 seated_by New any later f = if later then let_go f else record f { role = Host }
@@ -58,7 +58,7 @@ seated_by Host any later f = if any then let_go f else f
 abbrev pub seated_one : {S : Type 0} → Bool → Bool → Subscriber S → Subscriber S
 seated_one any later f = seated_by f.role any later f
 
--- the last one that said so is the pty host; whoever was or said so before is let go
+-- the last subscriber that declared itself is the pty host; an earlier host, or one that declared itself earlier, is disconnected
 abbrev pub seated : {S : Type 0} → Bool → List (Subscriber S) → List (Subscriber S)
 seated any [] = []
 seated any (f ∷ fs) = seated_one any (any_new fs) f ∷ seated any fs
@@ -69,11 +69,11 @@ first_stay n [] = []
 first_stay n (f ∷ fs) =
     if is_there f then (if n == 0 then let_go f else f) ∷ first_stay (n - 1) fs else f ∷ first_stay n fs
 
--- how many may stay: one place is the pty host's, who may come where he isn't there
+-- the places for subscribers: one is reserved for the pty host while there is none
 abbrev pub places_for : Bool → ℕ
 places_for true = most_subscribers
 places_for false = most_subscribers - 1
 
--- those that came last go where there is no place
+-- the newest subscribers are disconnected if there are too many
 abbrev pub kept_place : {S : Type 0} → List (Subscriber S) → List (Subscriber S)
 kept_place all = first_stay (places_for (has_host all)) all

@@ -1,4 +1,4 @@
--- The socket where a program follows which panes there are.
+-- The socket at which programs follow the panes.
 use Rattle.std.specs.Prelude.{true, false, Bool, is_some, ◌≡◌, ◌⊎◌, ◌++◌, ℕ, [], List, take, drop, Option, IfSome, codes, ◌||◌, ◌∷◌}
 use Rattle.std.specs.List.{All, AllZip, filter, flat_map}
 use Rattle.roam_pane_protocol.specs.Known.{nothing}
@@ -30,7 +30,7 @@ most_subscribers = 64
 abbrev pub most_taken : ℕ
 most_taken = 65
 
--- nothing was told yet, and nothing waits
+-- nothing was sent yet, and no bytes are queued
 pub record IsFresh {S : Type 0} (f : Subscriber S) : Type 0 where
   pub told : f.told ≡ nothing
   pub waiting : f.waiting.items ≡ []
@@ -40,14 +40,14 @@ pub record IsFresh {S : Type 0} (f : Subscriber S) : Type 0 where
   pub clips : AreFreshClips f.clips
   pub queries : AreFreshQueries f.queries
 
--- what is said to a line by which nothing is done; nothing is said to a close of a pane that is gone
+-- the reply to a line that changes nothing; a close of a pane that is gone gets none
 abbrev pub IsReply : List ℕ → Type 0
 IsReply text = (text ≡ []) ⊎ ((text ≡ codes "bad line\n") ⊎ ((text ≡ codes "last pane\n") ⊎ (text ≡ codes "out of memory\n")))
 
 abbrev pub joined : List (List ℕ) → List ℕ
 joined texts = flat_map (λ (text : List ℕ). text) texts
 
--- replies wait behind what waited, or none does; what waits of metadata events stays
+-- replies are queued behind the queued bytes, or none is; queued metadata stays
 pub record Replies {S : Type 0} (old new : Subscriber S) : Type 0 where
   pub told : new.told ≡ old.told
   pub beside : new.metadata_event.text ≡ old.metadata_event.text
@@ -55,12 +55,12 @@ pub record Replies {S : Type 0} (old new : Subscriber S) : Type 0 where
   pub each : All IsReply replies
   pub waiting : new.waiting.items ≡ old.waiting.items ++ joined replies
 
--- the text of what is new
+-- the text of the news
 abbrev pub news : PaneList → PaneList → List ℕ
 news told now = lines_text (lines_between told now)
 
--- The program that is there was told what is so: the first of what waited before and of the news was written to it, and the rest waits.
--- Nothing is written while a metadata event is unfinished, so a line stands in no record.
+-- A connected subscriber got the news: the first of the queued bytes and the news were written, and the rest stays queued. Nothing is
+-- written while metadata is unfinished, so no line begins inside a record.
 pub record Tells {S : Type 0} (contents : S → Option (List ℕ)) (now : PaneList) (old new : Subscriber S) : Type 0 where
   pub told : new.told ≡ now
   pub count : ℕ
@@ -74,18 +74,18 @@ pub record WasTold {S : Type 0} (contents : S → Option (List ℕ)) (now : Pane
   pub replies : Replies old mid
   pub tells : Tells contents now mid new
 
--- it asked for what stands beside the panes' terminals, and nothing waits for it
+-- it asked for metadata, and no bytes are queued for it
 pub record MayHear {S : Type 0} (f : Subscriber S) : Type 0 where
   pub asked : f.metadata_event.is_asked ≡ true
   pub clear : f.metadata_event.text.items ≡ []
   pub none : f.waiting.items ≡ []
 
--- what is new of that waits for it where it may be told, and only then; nothing else of it changes
+-- new metadata is queued for it exactly if it may be, and nothing else changes
 pub data RenewsMetadata {S : Type 0} (now : MetadataList) (panes : List Pane) (old new : Subscriber S) : Type 0 where
   waits : (MayHear old → ⊥) → new ≡ old → RenewsMetadata now panes old new
   renews : MayHear old → Renews now panes old.metadata_event new.metadata_event → new ≡ record old { metadata_event = new.metadata_event } → RenewsMetadata now panes old new
 
--- what else waits is handed to it, the first of it, once that is whole: a line stands in no other; nothing else of it changes
+-- the other queued bytes are written once the metadata is whole, so no line begins inside a record; nothing else changes
 pub record GoesOn {S : Type 0} (contents : S → Option (List ℕ)) (old new : Subscriber S) : Type 0 where
   pub count : ℕ
   pub whole : (count ≡ 0) ⊎ (old.metadata_event.text.items ≡ [])
@@ -93,7 +93,7 @@ pub record GoesOn {S : Type 0} (contents : S → Option (List ℕ)) (old new : S
   pub wrote : Wrote contents old.program.stream new.program.stream (take count old.waiting.items)
   pub others : new ≡ record old { program = new.program; waiting = new.waiting }
 
--- The first of what waits of that was written to the program, and the rest waits; once all was, what else waits goes on; nothing else of it
+-- The first queued bytes of the metadata were written, and the rest stays queued. Once all are, the other queued bytes follow. Nothing else
 -- changes.
 pub record HandsMetadataEvent {S : Type 0} (contents : S → Option (List ℕ)) (old new : Subscriber S) : Type 0 where
   pub count : ℕ
@@ -104,7 +104,7 @@ pub record HandsMetadataEvent {S : Type 0} (contents : S → Option (List ℕ)) 
   pub others : then ≡ record old { program = then.program; metadata_event = then.metadata_event }
   pub goes : GoesOn contents then new
 
--- the program was told what is new of that, where it might be, and handed what waits
+-- the subscriber got new metadata if it could, and queued bytes were written
 pub record TellsMetadata {S : Type 0} (contents : S → Option (List ℕ)) (now : MetadataList) (panes : List Pane)
     (old new : Subscriber S) : Type 0 where
   pub mid : Subscriber S
@@ -115,7 +115,7 @@ pub record TellsMetadata {S : Type 0} (contents : S → Option (List ℕ)) (now 
 abbrev pub IsTold : {S : Type 0} → (S → Option (List ℕ)) → PaneList → Subscriber S → Subscriber S → Type 0
 IsTold contents now old new = IfSome new.program.stream (λ _. WasTold contents now old new)
 
--- some came, and stand behind the others
+-- new subscribers are added behind the others
 pub record HaveCome {S : Type 0} (olds all : List (Subscriber S)) : Type 0 where
   pub came : List (Subscriber S)
   pub fresh : All IsFresh came
@@ -125,16 +125,16 @@ pub record HaveCome {S : Type 0} (olds all : List (Subscriber S)) : Type 0 where
 abbrev pub is_there : {S : Type 0} → Subscriber S → Bool
 is_there f = is_some f.program.stream
 
--- one of these asked for what stands beside the panes' terminals
+-- one of these subscribers asked for metadata
 abbrev pub any_asked : {S : Type 0} → List (Subscriber S) → Bool
 any_asked [] = false
 any_asked (f ∷ fs) = f.metadata_event.is_asked || any_asked fs
 
--- the first stands last
+-- the first element is moved to the end
 abbrev pub turned : {X : Type 0} → List X → List X
 turned xs = drop 1 xs ++ take 1 xs
 
--- Each program was told what is so, in its place; those that are still there stay, and the first of them stands last then.
+-- Each subscriber got the news, in order. The connected ones stay, and the first of them then moves to the end.
 pub record AreTold {S : Type 0} (contents : S → Option (List ℕ)) (now : PaneList) (all news : List (Subscriber S)) : Type 0 where
   pub told : List (Subscriber S)
   pub each : AllZip (IsTold contents now) all told

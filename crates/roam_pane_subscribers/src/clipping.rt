@@ -1,4 +1,4 @@
-//! Which texts for the clipboard the programs that follow the panes are told.
+//! The clips that subscribers get.
 ghost use Rattle.std.specs.Prelude.{◌≡◌, true, false, length, nat_lt, None};
 ghost use Rattle.roam_pane_subscribers.specs.Clipping.{GivesClips, IsFree, TellsClips, TellsEachClips, any_wants, notes_clips, wants_clips};
 
@@ -11,14 +11,14 @@ use roam_stream_framing::Stream;
 use std::alloc::Global;
 
 impl<S: Stream + Drop> Subscriber<S> {
-    // Whether it asked for them, and isn't the pty host.
+    // Returns true if the subscriber asked for clips and isn't the pty host.
     fn wants_clips(&self) -> bool
         ensures wants { result ≡ wants_clips self.now }
     {
         self.clips.is_asked() && self.role == Role::Other
     }
 
-    // Whether nothing waits for it.
+    // Returns true if no bytes are queued for the subscriber.
     pub(crate) fn is_free(&self) -> bool
         ensures free { result ≡ true → IsFree self.now }
         ensures busy { result ≡ false → IsFree self.now → ⊥ }
@@ -26,7 +26,7 @@ impl<S: Stream + Drop> Subscriber<S> {
         self.metadata_event.is_clear() && self.waiting.is_empty()
     }
 
-    // What is new waits for the program from now on, where it may be told; tells whether some does.
+    // Queues new clips for the subscriber, if it may get some, and returns true if there are any.
     fn renew_clips(&mut self, alloc: Global, now: &ClipList, may: bool, panes: &Panes) -> bool
         ensures gives { GivesClips may now.now panes.now.all.items result self.old self.new }
     {
@@ -46,7 +46,7 @@ impl<S: Stream + Drop> Subscriber<S> {
         }
     }
 
-    // This text of what is new waits for the program from now on; tells whether there is any.
+    // Queues this text of new clips, and returns true if it isn't empty.
     fn give_clips(&mut self, text: Vec<u8>, now: &ClipList) -> bool
         ensures text { self.new.metadata_event.text ≡ text }
         ensures some { result ≡ nat_lt 0 (length text.items) }
@@ -60,7 +60,7 @@ impl<S: Stream + Drop> Subscriber<S> {
         has_text
     }
 
-    // Tells the program what is new, where it wants that and may be told, and hands it what waits; tells whether some is new.
+    // Queues new clips for a subscriber that asked and may get some, and writes queued bytes. Returns true if there are new clips.
     fn tell_clips(&mut self, alloc: Global, now: &ClipList, may: bool, panes: &Panes) -> bool
         ensures tells { TellsClips S.contents may now.now panes.now.all.items result self.old self.new }
     {
@@ -73,7 +73,7 @@ impl<S: Stream + Drop> Subscriber<S> {
     }
 }
 
-/// Tells each program that wants them which texts for the clipboard are new, where one may be told, and tells whether one was for any.
+/// Sends each subscriber that wants clips the new ones, if that is allowed now. Returns true if one of them got some.
 pub(crate) fn tell_each_clips<S: Stream + Drop>(
     alloc: Global,
     all: &mut [Subscriber<S>],
@@ -90,7 +90,7 @@ pub(crate) fn tell_each_clips<S: Stream + Drop>(
     tell_each_clips(alloc, others, now, may, panes) || gave
 }
 
-/// Whether one of these wants them.
+/// Returns true if one of these subscribers wants clips.
 pub(crate) fn any_wants<S: Stream + Drop>(all: &[Subscriber<S>]) -> bool
     ensures any { result ≡ any_wants all.now }
 {

@@ -1,4 +1,4 @@
-//! What a program that follows the panes was told of texts for the clipboard.
+//! The clips that a subscriber has got.
 ghost use Rattle.std.specs.Prelude.{◌≡◌, ◌<◌, ◌||◌, IfOk, IsOkUnless, Some};
 ghost use Rattle.roam_pane_subscribers.specs.Clips.{AreFreshClips, clip_news, is_clips_line};
 
@@ -8,16 +8,16 @@ use roam_pane_protocol::{ClipList, push_clip};
 use roam_pane_sockets::Panes;
 use std::alloc::Global;
 
-/// What a program was told of them. The texts stand beside the panes' terminals, each once, and are lent where they are told.
+/// The clips that a subscriber has got. The texts are kept once, in the panes' metadata, and lent for each subscriber.
 #[derive(Drop)]
 pub(crate) struct ClipsTold {
-    // Whether it asked.
+    // True if it asked.
     is_asked: bool,
-    // How many had been said when it was told last, or when it came: none of those is told to it.
+    // The count of clips when it got some last, or when it came. It gets none of those.
     told: Option<ClipList>,
 }
 
-/// Whether a line asks for them.
+/// Returns true if a line asks for clips.
 pub(crate) fn is_clips(line: &[u8]) -> bool
     ensures clips { result ≡ is_clips_line line.now }
 {
@@ -54,28 +54,28 @@ impl ClipsTold {
         }
     }
 
-    /// They are asked for, where the line says so.
+    /// Notes the request if the line asks for clips.
     pub(crate) fn ask(&mut self, line: &[u8])
         ensures asked { self.new ≡ record self.old { is_asked = self.old.is_asked || is_clips_line line.now } }
     {
         self.is_asked = self.is_asked || is_clips(line);
     }
 
-    /// Whether they were asked for.
+    /// Returns true if clips were asked for.
     pub(crate) fn is_asked(&self) -> bool
         ensures asked { result ≡ self.now.is_asked }
     {
         self.is_asked
     }
 
-    /// How many had been said when it was told last, if it was.
+    /// Returns the count of clips when the subscriber got some last; `None` before that.
     pub(crate) fn told(&self) -> Option<ClipList>
         ensures told { result ≡ self.now.told }
     {
         self.told
     }
 
-    /// So many have been said now, and none of them is told any more.
+    /// Notes the count of clips so far: the subscriber gets none of these any more.
     pub(crate) fn note(&mut self, now: &ClipList)
         ensures noted { self.new ≡ record self.old { told = Some now.now } }
     {

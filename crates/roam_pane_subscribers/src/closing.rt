@@ -1,4 +1,4 @@
-//! The server's own client start, which closes a pane where a program asks for it that follows the panes.
+//! The server's own client start, which closes a pane if a subscriber asks for it.
 ghost use Rattle.std.specs.Prelude.{◌≡◌, ◌≤◌, ℕ, true, length, None, IfSome, IfOk, IsTrue, ◌↔◌, OnOk, OnErr};
 ghost use Rattle.roam_stream_framing.specs.Frames.{IsFilled};
 ghost use Rattle.roam_pane_protocol.specs.Closes.{IsPane};
@@ -18,8 +18,8 @@ pub const OWN: Addr = Addr {
     port: 0,
 };
 
-/// The server's own start, made when it is needed first: its one datagram is what the first receive of the next turn brings. Why a start
-/// closes a pane, and no call of its own: docs/DECISIONS.md, 97.
+/// The server's own start, made at its first use. The first receive of the next turn takes its one datagram. A close is typed by a start,
+/// not by a call of its own. So the server still only takes turns, and the clauses of turns cover the close.
 #[derive(Drop)]
 pub struct Closer {
     session: u64,
@@ -31,14 +31,14 @@ pub struct Closer {
     closing: Option<(u8, u64)>,
 }
 
-// Whether a number is that of a pane.
+// Returns true if a number is that of a pane.
 fn is_pane(pane: u8) -> bool
     ensures pane { IsTrue result ↔ IsPane pane }
 {
     1 <= pane && pane <= 9
 }
 
-// Whether this making of a pane is there.
+// Returns true if this generation of a pane is there.
 fn is_there(panes: &PaneList, pane: u8, generation: u64) -> bool
     requires pane { IsPane pane }
     ensures there { IsThere panes.now pane generation → result ≡ true }
@@ -49,7 +49,7 @@ fn is_there(panes: &PaneList, pane: u8, generation: u64) -> bool
     }
 }
 
-// Types the acts that close a pane and give the focus to another: they stand in one instruction. `NoPane` where one is none.
+// Types the acts that close a pane and focus another, in one instruction. `NoPane` if a number isn't that of a pane.
 fn type_close(client: &mut Client, pane: u8, after: Option<u8>) -> Result<(), Fault>
     ensures typed { OnOk result (TypesAll client.old (closing_acts pane after) result client.new) }
     ensures err { OnErr result (client.new ≡ client.old) }
@@ -95,14 +95,14 @@ impl Closer {
         }
     }
 
-    /// Whether no close is under way.
+    /// Returns true if no close is in progress.
     pub fn is_free(&self) -> bool
         ensures free { IsTrue result ↔ (self.now.closing ≡ None) }
     {
         self.closing.is_none()
     }
 
-    // The start, which is made where there is none.
+    // Returns the start, and makes it if there is none.
     fn taken(&mut self, alloc: Global) -> Result<Client, Fault>
         ensures start { IfOk result (λ start. IsStartOf self.old.client self.old self.new.id start) }
         ensures others { self.new ≡ record self.old { client = None; id = self.new.id } }
@@ -117,8 +117,8 @@ impl Closer {
         }
     }
 
-    /// Makes the datagram that closes a pane, and then gives the focus to another where one is named. Refuses want of memory, and what a
-    /// start refuses: then another is made for the next.
+    /// Makes the datagram that closes a pane, and then focuses another if one is named. `OutOfMemory`, and the errors of a start. After an
+    /// error the next close gets a new start.
     pub(crate) fn close(
         &mut self,
         alloc: Global,
@@ -160,14 +160,14 @@ impl Closer {
     {
         if let Some(client) = &mut self.client {
             if !client.is_settled() {
-                // What is refused is lost.
+                // A refused datagram is lost.
                 let _ = client.datagram(alloc, bytes, now);
             }
         }
     }
 
-    /// A turn was taken with the datagram, and these panes are there then. Where the pane still is, something was refused for want of
-    /// memory: that start is let go, so that none of its acts is ever taken later, where they might close another pane.
+    /// Settles the close after a turn took the datagram, given the panes then. If the pane is still there, memory was refused. The start is
+    /// then dropped, so that its acts can't close another pane later.
     pub(crate) fn settle(&mut self, panes: &PaneList)
         ensures settles { Settles panes.now self.old self.new }
     {

@@ -1,5 +1,5 @@
-//! Programs that follow the panes of a server: what each is told, which of them keeps the shells, and the closes that they ask for, which
-//! the server's own client start types.
+//! The subscribers of a server's panes: the news of each, the pty host among them, and the closes that they ask for. The server's own
+//! client start types a close.
 #![tactic(auto)]
 
 mod clipping;

@@ -1,4 +1,4 @@
-//! What a program that follows the panes is told of what stands beside their terminals.
+//! The metadata that a subscriber gets.
 ghost use Rattle.std.specs.Prelude.{◌≡◌, ◌≢◌, ◌<◌, ◌||◌, [], true, false, ℕ, take, drop, IfOk, IsOkUnless, Some, None, string_bytes};
 ghost use Rattle.roam_pane_protocol.specs.MetadataLists.{metadata_at};
 ghost use Rattle.roam_pane_subscribers.specs.MetadataEvents.{IsFreshMetadataEvent, Renews, metadata_news, is_metadata_line, told_at, told_before};
@@ -12,26 +12,26 @@ use roam_pane_sockets::Panes;
 use roam_stream_framing::Stream;
 use std::alloc::Global;
 
-/// What a program is told of that: nothing before it asks for it; then the newest, where nothing waits for it. So at most what is new of
-/// nine panes waits, and a program that reads nothing grows nothing.
+/// The metadata of a subscriber: none before it asks; then the newest, if no bytes are queued for it. So at most the news of nine panes is
+/// queued, and a program that reads nothing grows nothing.
 #[derive(Drop)]
 pub(crate) struct MetadataEvent {
-    // Whether it asked.
+    // True if it asked.
     is_asked: bool,
-    // What it was told, if anything yet.
+    // The metadata that was sent last, if any.
     told: Option<MetadataList>,
-    // What waits of it.
+    // The queued bytes.
     text: Vec<u8>,
 }
 
-/// Whether a line asks for it.
+/// Returns true if a line asks for metadata.
 pub(crate) fn is_metadata(line: &[u8]) -> bool
     ensures beside { result ≡ is_metadata_line line.now }
 {
     line == b"metadata".as_slice()
 }
 
-// What was told before of what stands beside a pane's terminal.
+// Returns the metadata of a pane that a program knows.
 fn told_before(now: Option<MetadataPane>) -> Option<MetadataPane>
     ensures told { result ≡ told_before now }
 {
@@ -41,7 +41,7 @@ fn told_before(now: Option<MetadataPane>) -> Option<MetadataPane>
     }
 }
 
-// What was told of a pane.
+// Returns the metadata of a pane that was sent.
 fn told_at(told: &Option<MetadataList>, now: Option<MetadataPane>, pane: u8) -> Option<MetadataPane>
     requires pane { pane < 10 }
     ensures told { result ≡ told_at told.now now pane }
@@ -52,7 +52,7 @@ fn told_at(told: &Option<MetadataList>, now: Option<MetadataPane>, pane: u8) -> 
     }
 }
 
-// The text of what is new. Refuses want of memory.
+// Returns the text of new metadata. `OutOfMemory`.
 fn news(
     alloc: Global,
     told: &Option<MetadataList>,
@@ -89,14 +89,14 @@ impl MetadataEvent {
         }
     }
 
-    /// It is asked for, where the line says so.
+    /// Notes the request if the line asks for metadata.
     pub(crate) fn heard(&mut self, line: &[u8])
         ensures asked { self.new ≡ record self.old { is_asked = self.old.is_asked || is_metadata_line line.now } }
     {
         self.is_asked = self.is_asked || is_metadata(line);
     }
 
-    /// Whether nothing of it waits.
+    /// Returns true if no metadata is queued.
     pub(crate) fn is_clear(&self) -> bool
         ensures clear { result ≡ true → self.now.text.items ≡ [] }
         ensures some { result ≡ false → self.now.text.items ≢ [] }
@@ -104,14 +104,14 @@ impl MetadataEvent {
         self.text.is_empty()
     }
 
-    /// Whether it was asked for.
+    /// Returns true if metadata was asked for.
     pub(crate) fn is_asked(&self) -> bool
         ensures asked { result ≡ self.now.is_asked }
     {
         self.is_asked
     }
 
-    /// What is new waits from now on; where there is no memory for it, it is told another time.
+    /// Queues new metadata. If memory is refused, a later call does.
     pub(crate) fn renew(&mut self, alloc: Global, now: &MetadataList, panes: &Panes)
         ensures renews { Renews now.now panes.now.all.items self.old self.new }
     {
@@ -128,7 +128,7 @@ impl MetadataEvent {
         self.text = text;
     }
 
-    /// Hands the program what waits; what it took goes.
+    /// Writes queued metadata to the program, and removes the written bytes.
     pub(crate) fn hand<S: Stream + Drop>(&mut self, program: &mut Program<S>)
         ensures took { (n : ℕ) × (self.new.text.items ≡ drop n self.old.text.items)
             × Wrote S.contents program.old.stream program.new.stream (take n self.old.text.items) }

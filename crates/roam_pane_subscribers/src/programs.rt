@@ -26,7 +26,7 @@ impl Program<UnixStream> {
 }
 
 impl<S: Stream + Drop> Program<S> {
-    /// Whether it is there.
+    /// Returns true if the program is connected.
     pub(crate) fn is_there(&self) -> bool
         ensures there { result ≡ is_some self.now.stream }
     {
@@ -40,7 +40,7 @@ impl<S: Stream + Drop> Program<S> {
         self.stream = None;
     }
 
-    /// What it wrote, or nothing. One that is gone is let go.
+    /// Returns the number of bytes that the program wrote into the buffer; `None` if it wrote none. Drops a closed stream.
     pub(crate) fn hear(&mut self, buf: &mut [u8]) -> Option<usize>
         ensures within { IfSome result (λ n. n ≤ length buf.new) }
         ensures asked { IfSome self.old.stream (λ old. HasAsked IsStreamEnd S.answers old self.new.stream) }
@@ -55,7 +55,7 @@ impl<S: Stream + Drop> Program<S> {
         answer.ok()
     }
 
-    /// How many of the bytes it took, 0 where it isn't there. One that has failed is let go.
+    /// Returns how many of the bytes the program took, 0 if it isn't connected. Drops a failed stream.
     pub(crate) fn tell(&mut self, bytes: &[u8]) -> usize
         ensures within { result ≤ length bytes.now }
         ensures asked { IfSome self.old.stream (λ old. HasAsked HasFailed S.answers old self.new.stream) }

@@ -1,4 +1,4 @@
-//! What a program that follows the panes was told of what their programs ask.
+//! The questions of panes' programs that a subscriber has got.
 ghost use Rattle.std.specs.Prelude.{◌≡◌, ◌<◌, ◌||◌, IfOk, IsOkUnless, Some};
 ghost use Rattle.roam_pane_subscribers.specs.Queries.{AreFreshQueries, query_news, is_queries_line};
 
@@ -8,16 +8,17 @@ use roam_pane_protocol::{QueryList, push_queries};
 use roam_pane_sockets::Panes;
 use std::alloc::Global;
 
-/// What a program was told of that. The questions stand beside the panes' terminals, the last of each, and are lent where they are told.
+/// The questions that a subscriber has got. The last questions of each program are kept once, in the panes' metadata, and lent for each
+/// subscriber.
 #[derive(Drop)]
 pub(crate) struct QueriesTold {
-    // Whether it asked for them.
+    // True if it asked for them.
     is_asked: bool,
-    // How many had been asked when it was told last, or when it came: none of those is told to it.
+    // The count of questions when it got some last, or when it came. It gets none of those.
     told: Option<QueryList>,
 }
 
-/// Whether a line asks for them.
+/// Returns true if a line asks for questions.
 pub(crate) fn is_queries(line: &[u8]) -> bool
     ensures asks { result ≡ is_queries_line line.now }
 {
@@ -54,28 +55,28 @@ impl QueriesTold {
         }
     }
 
-    /// They are asked for, where the line says so.
+    /// Notes the request if the line asks for questions.
     pub(crate) fn ask(&mut self, line: &[u8])
         ensures asked { self.new ≡ record self.old { is_asked = self.old.is_asked || is_queries_line line.now } }
     {
         self.is_asked = self.is_asked || is_queries(line);
     }
 
-    /// Whether they were asked for.
+    /// Returns true if questions were asked for.
     pub(crate) fn is_asked(&self) -> bool
         ensures asked { result ≡ self.now.is_asked }
     {
         self.is_asked
     }
 
-    /// How many had been asked when it was told last, if it was.
+    /// Returns the count of questions when the subscriber got some last; `None` before that.
     pub(crate) fn told(&self) -> Option<QueryList>
         ensures told { result ≡ self.now.told }
     {
         self.told
     }
 
-    /// So many have been asked now, and none of them is told any more.
+    /// Notes the count of questions so far: the subscriber gets none of these any more.
     pub(crate) fn note(&mut self, now: &QueryList)
         ensures noted { self.new ≡ record self.old { told = Some now.now } }
     {

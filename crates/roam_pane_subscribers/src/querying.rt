@@ -1,4 +1,4 @@
-//! What the programs that follow the panes are told of what the panes' programs ask.
+//! The questions of panes' programs that subscribers get.
 ghost use Rattle.std.specs.Prelude.{◌≡◌, None};
 ghost use Rattle.std.specs.List.{AllZip};
 ghost use Rattle.roam_pane_subscribers.specs.Querying.{GivesQueries, TellsQueries, notes_queries};
@@ -11,7 +11,7 @@ use roam_stream_framing::Stream;
 use std::alloc::Global;
 
 impl<S: Stream + Drop> Subscriber<S> {
-    // This text of what is new waits for the program from now on.
+    // Queues this text of new questions.
     fn give_queries(&mut self, text: Vec<u8>, now: &QueryList)
         ensures text { self.new.metadata_event.text ≡ text }
         ensures noted { self.new ≡ record (notes_queries now.now self.old) {
@@ -22,7 +22,7 @@ impl<S: Stream + Drop> Subscriber<S> {
         self.queries.note(now);
     }
 
-    // What is new waits for the program from now on, where nothing else does.
+    // Queues new questions for the subscriber, if no other bytes are queued.
     fn renew_queries(&mut self, alloc: Global, now: &QueryList, panes: &Panes)
         ensures gives { GivesQueries now.now panes.now.all.items self.old self.new }
     {
@@ -38,7 +38,7 @@ impl<S: Stream + Drop> Subscriber<S> {
         }
     }
 
-    // Tells the program what is new, where it asked for that, and hands it what waits.
+    // Queues new questions for a subscriber that asked for them, and writes queued bytes.
     fn tell_queries(&mut self, alloc: Global, now: &QueryList, panes: &Panes)
         ensures tells { TellsQueries S.contents now.now panes.now.all.items self.old self.new }
     {
@@ -53,7 +53,7 @@ impl<S: Stream + Drop> Subscriber<S> {
     }
 }
 
-/// Tells each program that asked for that what is new of what the panes' programs ask.
+/// Sends each subscriber that asked for questions the new ones.
 pub(crate) fn tell_each_queries<S: Stream + Drop>(
     alloc: Global,
     all: &mut [Subscriber<S>],

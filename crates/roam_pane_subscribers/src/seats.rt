@@ -5,7 +5,7 @@ ghost use Rattle.roam_pane_subscribers.specs.Seats.{any_new, first_stay, has_hos
 use crate::subscribing::{MOST_SUBSCRIBERS, Subscriber};
 use roam_stream_framing::Stream;
 
-/// What a program that follows the panes is to the server.
+/// The role of a subscriber at the server.
 #[derive(Clone, Copy, Debug, PartialEq, Eq)]
 pub(crate) enum Role {
     /// One of many.
@@ -18,21 +18,21 @@ pub(crate) enum Role {
     Host,
 }
 
-// Whether a line says that its program is the pty host.
+// Returns true if a line declares the pty host.
 pub(crate) fn is_host(line: &[u8]) -> bool
     ensures keeper { result ≡ is_host_line line.now }
 {
     line == b"host".as_slice()
 }
 
-// What a program is after a line of it.
+// Returns the role of a subscriber after a line.
 pub(crate) fn role_after(line: &[u8], role: Role) -> Role
     ensures role { result ≡ role_after line.now role }
 {
     if is_host(line) { Role::New } else { role }
 }
 
-// Whether one of these, which is there, said that it is the pty host.
+// Returns true if a connected one of these declared that it is the pty host.
 fn any_new<S: Stream + Drop>(all: &[Subscriber<S>]) -> bool
     ensures any { result ≡ any_new all.now }
 {
@@ -42,7 +42,7 @@ fn any_new<S: Stream + Drop>(all: &[Subscriber<S>]) -> bool
     first.is_new() || any_new(others)
 }
 
-// Whether one of these, which is there, is the pty host.
+// Returns true if a connected one of these is the pty host.
 fn has_host<S: Stream + Drop>(all: &[Subscriber<S>]) -> bool
     ensures has { result ≡ has_host all.now }
 {
@@ -53,21 +53,21 @@ fn has_host<S: Stream + Drop>(all: &[Subscriber<S>]) -> bool
 }
 
 impl<S: Stream + Drop> Subscriber<S> {
-    // Whether it is there and said that it is the pty host.
+    // Returns true if the subscriber is connected and declared that it is the pty host.
     fn is_new(&self) -> bool
         ensures new { result ≡ is_new self.now }
     {
         self.program.is_there() && self.role == Role::New
     }
 
-    // Whether it is there and is the pty host.
+    // Returns true if the subscriber is connected and is the pty host.
     fn is_seated(&self) -> bool
         ensures seated { result ≡ is_seated self.now }
     {
         self.program.is_there() && self.role == Role::Host
     }
 
-    // The last one that said so is the pty host, and whoever was or said so before is let go.
+    // Makes the last one that declared itself the pty host, and disconnects an earlier host or declaration.
     fn seat(&mut self, any: bool, later: bool)
         ensures seated { self.new ≡ seated_one any later self.old }
     {
@@ -121,8 +121,8 @@ fn places_for(has_host: bool) -> usize
     }
 }
 
-/// The last one that said that it is the pty host is so from then on, and who was or said so before is let go. Of the others 63
-/// stay, so that a pty host may come: those that came last go.
+/// Makes the last one that declared itself the pty host, and disconnects an earlier host or declaration. Of the others 63 stay, so that a
+/// pty host can connect; the newest are disconnected.
 pub(crate) fn seat_host<S: Stream + Drop>(all: &mut [Subscriber<S>])
     ensures seated { all.new ≡ kept_place (seated (any_new all.old) all.old) }
 {

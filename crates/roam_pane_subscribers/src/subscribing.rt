@@ -1,4 +1,4 @@
-//! The socket `panes`, where programs follow which panes there are, how large each is and which is in focus, and ask for one to be closed.
+//! The socket `panes`. Programs follow the panes there, their sizes and the focus, and ask for a pane to be closed.
 ghost use Rattle.std.specs.Prelude.{◌≡◌, ◌≢◌, ◌⊎◌, ◌++◌, ◌∷◌, ◌≤◌, ◌<◌, ℕ, List, [], length, is_some, take, drop, true, false, string_bytes, None, IfOk, IfErr, OnOk, IfSome, IsOkUnless, IsTrue, ◌↔◌};
 ghost use Rattle.std.specs.List.{AllZip, filter};
 ghost use Rattle.roam_terminal_input.specs.Lines.{IsFirst};
@@ -49,8 +49,8 @@ const MOST_READS: u32 = 4;
 /// How many lines of a program are taken after a turn at most.
 const MOST_LINES: u32 = 16;
 
-/// A program that follows the session's panes: what it was told, what waits for it, and the lines that came from it. It stands beside the
-/// turn, and not in it (docs/DECISIONS.md, 64).
+/// A subscriber of the session's panes: its news, its queued bytes, and its lines. It is outside the turn, so the clauses of turns don't
+/// depend on it.
 #[derive(Drop)]
 pub(crate) struct Subscriber<S> {
     pub(crate) program: Program<S>,
@@ -63,7 +63,7 @@ pub(crate) struct Subscriber<S> {
     pub(crate) queries: QueriesTold,
 }
 
-// Does what a line asks for, and answers what is said to it: nothing where its pane is gone, or is being closed.
+// Does the request of a line, and returns the reply: empty if its pane is gone, or is being closed.
 fn do_line(
     alloc: Global,
     line: &[u8],
@@ -91,7 +91,7 @@ fn do_line(
 }
 
 impl<S: Stream + Drop> Subscriber<S> {
-    // A program that came; it was told nothing yet.
+    // Returns a new subscriber, which got nothing yet.
     fn new(alloc: Global, program: Program<S>) -> Subscriber<S>
         ensures fresh { IsFresh result }
     {
@@ -107,7 +107,7 @@ impl<S: Stream + Drop> Subscriber<S> {
         }
     }
 
-    // What is new waits for the program.
+    // Queues the news for the subscriber.
     fn add(&mut self, alloc: Global, now: &PaneList) -> Result<(), Fault>
         ensures added { OnOk result (self.new.waiting.items ≡ self.old.waiting.items ++ news self.old.told now.now) }
         ensures told { OnOk result (self.new.told ≡ now.now) }
@@ -134,7 +134,7 @@ impl<S: Stream + Drop> Subscriber<S> {
         }
     }
 
-    // Hands the program what waits; what it took goes.
+    // Writes queued bytes to the program, and removes the written ones.
     fn hand_over(&mut self)
         ensures took { (n : ℕ) × (self.new.waiting.items ≡ drop n self.old.waiting.items)
             × Wrote S.contents self.old.program.stream self.new.program.stream (take n self.old.waiting.items) }
@@ -144,7 +144,7 @@ impl<S: Stream + Drop> Subscriber<S> {
         drop(self.waiting.drain(..count));
     }
 
-    // The same, where what was told to it beside is whole: a line stands in no other.
+    // Does the same if the queued metadata is finished, so that no line begins inside a record.
     fn hand_over_whole(&mut self)
         ensures took { (n : ℕ) × ((n ≡ 0) ⊎ (self.old.metadata_event.text.items ≡ []))
             × (self.new.waiting.items ≡ drop n self.old.waiting.items)
@@ -157,7 +157,7 @@ impl<S: Stream + Drop> Subscriber<S> {
         }
     }
 
-    // Reads until a line stands first or nothing more comes now. One that wrote more than a line has is let go.
+    // Reads until a line is whole or no more bytes are available. Disconnects a program whose line is too long.
     fn read_line(&mut self)
         ensures came { (bytes : List ℕ) × (self.new.lines.kept ≡ self.old.lines.kept ++ bytes) }
         ensures told { self.new.told ≡ self.old.told }
@@ -181,7 +181,7 @@ impl<S: Stream + Drop> Subscriber<S> {
         }
     }
 
-    // Does what the line that stands first asks for, where one does.
+    // Does the request of the first line, if there is one.
     fn do_first(&mut self, alloc: Global, now: &PaneList, closer: &mut Closer, moment: u64) -> bool
         requires free { closer.old.closing ≡ None }
         ensures takes { result ≡ true → TakesLine now.now moment closer.old closer.new self.old self.new }
@@ -203,7 +203,7 @@ impl<S: Stream + Drop> Subscriber<S> {
         true
     }
 
-    // Does what the next line asks for, and tells whether one did.
+    // Does the request of the next line, and returns true if there was one.
     fn take_line(&mut self, alloc: Global, now: &PaneList, closer: &mut Closer, moment: u64) -> bool
         requires free { closer.old.closing ≡ None }
         ensures takes { result ≡ true → (mid : SubscriberOf S) × (bytes : List ℕ) × (mid.lines.kept ≡ self.old.lines.kept ++ bytes)
@@ -217,7 +217,7 @@ impl<S: Stream + Drop> Subscriber<S> {
         self.do_first(alloc, now, closer, moment)
     }
 
-    // Does what its lines ask for, while no close is under way, and tells whether more of them may be there.
+    // Does the requests of the lines until a close begins, and returns true if more lines may be there.
     fn take_lines(
         &mut self,
         alloc: Global,
@@ -237,15 +237,15 @@ impl<S: Stream + Drop> Subscriber<S> {
         true
     }
 
-    // Whether more than 65,536 bytes wait for the program.
+    // Returns true if more than 65,536 bytes are queued.
     fn is_over_room(&self) -> bool
         ensures over { IsTrue result ↔ (room < length self.now.waiting.items) }
     {
         self.waiting.len() > ROOM
     }
 
-    // Tells the program what is new of the panes. One that leaves more than 65,536 bytes waiting is let go, and so is one for which there
-    // is no memory: it may come again, and is told all then.
+    // Sends the subscriber the news of the panes. Disconnects it if more than 65,536 bytes are queued or memory is refused. It may connect
+    // again, and gets everything then.
     fn tell(&mut self, alloc: Global, now: &PaneList)
         ensures tells { IfSome self.new.program.stream (λ _. Tells S.contents now.now self.old self.new) }
         ensures room { length self.new.waiting.items ≤ room }
@@ -259,7 +259,7 @@ impl<S: Stream + Drop> Subscriber<S> {
         }
     }
 
-    // Whether it may be told now what stands beside the panes' terminals: it asked for it, and nothing waits for it.
+    // Returns true if the subscriber can get metadata now: it asked, and no bytes are queued.
     fn may_hear(&self) -> bool
         ensures may { result ≡ true → MayHear self.now }
         ensures busy { result ≡ false → MayHear self.now → ⊥ }
@@ -267,7 +267,7 @@ impl<S: Stream + Drop> Subscriber<S> {
         self.metadata_event.is_asked() && self.metadata_event.is_clear() && self.waiting.is_empty()
     }
 
-    // What is new of that waits for the program, where it may be told.
+    // Queues new metadata for the subscriber, if it can get some.
     fn renew_metadata(&mut self, alloc: Global, now: &MetadataList, panes: &Panes)
         ensures renews { RenewsMetadata now.now panes.now.all.items self.old self.new }
     {
@@ -276,7 +276,7 @@ impl<S: Stream + Drop> Subscriber<S> {
         }
     }
 
-    // Once what was told to it beside is whole, hands the program what else waits.
+    // Writes the other queued bytes once the metadata is finished.
     fn go_on(&mut self, had_more: bool)
         ensures goes { GoesOn S.contents self.old self.new }
     {
@@ -285,7 +285,7 @@ impl<S: Stream + Drop> Subscriber<S> {
         }
     }
 
-    // Hands the program what waits of what is told to it beside, and then what else does.
+    // Writes queued metadata, and then the other queued bytes.
     pub(crate) fn hand_metadata_event(&mut self)
         ensures hands { HandsMetadataEvent S.contents self.old self.new }
     {
@@ -294,7 +294,7 @@ impl<S: Stream + Drop> Subscriber<S> {
         self.go_on(had_more);
     }
 
-    // Tells the program what is new of that, where it may be told, and hands it what waits of it.
+    // Queues new metadata for the subscriber, if it can get some, and writes queued bytes.
     fn tell_metadata(&mut self, alloc: Global, now: &MetadataList, panes: &Panes)
         ensures tells { TellsMetadata S.contents now.now panes.now.all.items self.old self.new }
     {
@@ -302,7 +302,7 @@ impl<S: Stream + Drop> Subscriber<S> {
         self.hand_metadata_event();
     }
 
-    // Whether it is there.
+    // Returns true if the subscriber is connected.
     fn is_there(&self) -> bool
         ensures there { result ≡ is_there self.now }
     {
@@ -310,7 +310,7 @@ impl<S: Stream + Drop> Subscriber<S> {
     }
 }
 
-// Adds a program where fewer than 65 are there; one for which there is no memory may come again.
+// Adds a program if fewer than 65 are there. If memory is refused, it may connect again.
 fn add(alloc: Global, all: &mut Vec<Subscriber<UnixStream>>, program: Program<UnixStream>)
     ensures came { HaveCome all.old.items all.new.items }
     ensures few { length all.old.items ≤ most_taken → length all.new.items ≤ most_taken }
@@ -339,7 +339,7 @@ fn accept_all(
     }
 }
 
-// Does what the lines of each program ask for, and tells it what is new of the panes. Tells whether more may be asked for already.
+// Does the requests of each subscriber, and sends it the news of the panes. Returns true if more requests may be there.
 fn tell_each<S: Stream + Drop>(
     alloc: Global,
     all: &mut [Subscriber<S>],
@@ -359,8 +359,8 @@ fn tell_each<S: Stream + Drop>(
     tell_each(alloc, others, now, closer, moment) || may_ask
 }
 
-// Does what the lines of each program ask for, and tells it what is new of the panes; then the pty host has his place. Tells
-// whether more may be asked for already.
+// Does the requests of each subscriber, and sends it the news of the panes; then seats the pty host. Returns true if more requests may be
+// there.
 fn tell_seated<S: Stream + Drop>(
     alloc: Global,
     all: &mut [Subscriber<S>],
@@ -388,8 +388,8 @@ fn turn<S: Stream + Drop>(all: &mut Vec<Subscriber<S>>)
     }
 }
 
-// Does what the lines of the programs ask for, tells each what is new of the panes, and lets those go that left; the next is asked first
-// another time. Tells whether more may be asked for already.
+// Does the requests of the subscribers, sends each the news of the panes, and removes those that left. The next call begins with the next
+// one. Returns true if more requests may be there.
 fn tell_all<S: Stream + Drop>(
     alloc: Global,
     all: &mut Vec<Subscriber<S>>,
@@ -406,7 +406,7 @@ fn tell_all<S: Stream + Drop>(
     may_ask
 }
 
-// Tells each program that asked what is new of what stands beside the panes' terminals.
+// Sends each subscriber that asked for metadata the new one.
 fn tell_each_metadata<S: Stream + Drop>(
     alloc: Global,
     all: &mut [Subscriber<S>],
@@ -422,7 +422,7 @@ fn tell_each_metadata<S: Stream + Drop>(
     tell_each_metadata(alloc, others, now, panes);
 }
 
-// Whether one of these asked for that.
+// Returns true if one of these asked for metadata.
 fn any_asked<S: Stream + Drop>(all: &[Subscriber<S>]) -> bool
     ensures any { result ≡ any_asked all.now }
 {
@@ -438,12 +438,12 @@ pub struct Subscribers {
     path: String,
     listener: UnixListener,
     all: Vec<Subscriber<UnixStream>>,
-    // Whether more may be asked for already than was done after the last turn.
+    // True if more requests may be there than were done after the last turn.
     may_ask: bool,
 }
 
 impl Subscribers {
-    /// Binds the socket of a folder. `Bind` where it can't be bound, `OutOfMemory`.
+    /// Binds the socket of a folder. `Bind` if it can't be bound, `OutOfMemory`.
     pub fn bind<R: Files + Net>(
         rt: &R,
         alloc: Global,
@@ -491,8 +491,8 @@ impl Subscribers {
         accept_all(alloc, &self.listener, registry, &mut self.all);
     }
 
-    /// Does what the lines of the programs ask for, a close each time, and tells them what is new of the panes, one that came all. Those
-    /// that left are let go. Tells whether more may be asked for already.
+    /// Does the requests of the subscribers, at most one close a call, and sends them the news of the panes. A new subscriber gets
+    /// everything. Removes those that left. Returns true if more requests may be there.
     pub fn tell(&mut self, alloc: Global, now: &PaneList, closer: &mut Closer, moment: u64) -> bool
         ensures path { self.new.path ≡ self.old.path }
         ensures others { self.new ≡ record self.old { all = self.new.all; may_ask = self.new.may_ask } }
@@ -506,7 +506,7 @@ impl Subscribers {
         self.may_ask
     }
 
-    /// Tells the programs that asked what is new of what stands beside the panes' terminals.
+    /// Sends the subscribers that asked for metadata the new one.
     pub fn tell_metadata(&mut self, alloc: Global, now: &MetadataList, panes: &Panes)
         ensures path { self.new.path ≡ self.old.path }
         ensures noted { self.new.may_ask ≡ self.old.may_ask }
@@ -517,7 +517,7 @@ impl Subscribers {
         tell_each_metadata(alloc, &mut self.all, now, panes);
     }
 
-    /// Tells the programs that want them which texts for the clipboard are new, where one may be told. Tells whether one was for any.
+    /// Sends the subscribers that want clips the new ones, if that is allowed now. Returns true if one of them got some.
     pub fn tell_clips(&mut self, alloc: Global, now: &ClipList, may: bool, panes: &Panes) -> bool
         ensures path { self.new.path ≡ self.old.path }
         ensures noted { self.new.may_ask ≡ self.old.may_ask }
@@ -528,7 +528,7 @@ impl Subscribers {
         tell_each_clips(alloc, &mut self.all, now, may, panes)
     }
 
-    /// Tells the programs that asked for that what is new of what the panes' programs ask.
+    /// Sends the subscribers that asked for questions the new ones.
     pub fn tell_queries(&mut self, alloc: Global, now: &QueryList, panes: &Panes)
         ensures path { self.new.path ≡ self.old.path }
         ensures noted { self.new.may_ask ≡ self.old.may_ask }
@@ -539,14 +539,14 @@ impl Subscribers {
         tell_each_queries(alloc, &mut self.all, now, panes);
     }
 
-    /// Whether a program wants texts for the clipboard.
+    /// Returns true if a subscriber wants clips.
     pub fn want_clips(&self) -> bool
         ensures wants { result ≡ any_wants self.now.all.items }
     {
         any_wants(&self.all)
     }
 
-    /// Whether a program asked for that.
+    /// Returns true if a subscriber asked for metadata.
     pub fn is_metadata_asked(&self) -> bool
         ensures asked { result ≡ any_asked self.now.all.items }
     {

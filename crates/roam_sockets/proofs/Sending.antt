@@ -1,4 +1,4 @@
--- What goes to addresses, one datagram and one lane after another.
+-- The datagrams to addresses, one datagram and one lane after another.
 use Rattle.std.proofs.Common.{◌≡◌, ◌≢◌, ℕ, get_or, take, drop, ◌+◌, ◌≤◌, ◌<◌, Bool, true, false, List, [], ◌∷◌, ◌++◌, length, Option, Some, None, refl, sym, ap, subst, ◌∙◌, append_assoc, append-nil, length-append, inl, inr, arith}
 use Rattle.std.specs.Prelude.{◌↔◌, ◌==◌, ◌&&◌, ◌||◌, IsTrue, cond, nat_lt, not}
 use Rattle.std.specs.List.{All, filter, list_any}
@@ -78,14 +78,14 @@ one_other lanes to at others one k d lt less = elim (cases_lt k at) [
 pub all_other : (lanes : List Lane) (to : Addr) → AreOthers lanes to (length lanes) → All (λ (lane : Lane). lane.to ≢ to) lanes
 all_other lanes to others k d lt = others k d lt lt
 
--- what is put back into a list of as many is all of it
+-- a part put back into a list of its length is the whole list
 pub whole_back : {X : Type 0} (n : ℕ) (new old : List X) → length new ≡ length old → n ≡ length old
     → take n (new ++ drop (length new) old) ≡ new
 whole_back n new old len is =
     let rest : drop (length new) old ≡ [] = ap (λ k. drop k old) len ∙ drop-length old in
     ap (λ l. take n (new ++ l)) rest ∙ (ap (λ l. take n l) (append-nil new) ∙ (ap (λ k. take k new) (is ∙ sym len) ∙ take-length new))
 
--- ---- what waits in no lane
+-- ---- a lane without queued datagrams
 
 all_by : (waiting : List ℕ) (is_all : Bool) → (IsTrue is_all ↔ (waiting ≡ [])) → is_all ≡ not (nat_lt 0 (length waiting))
 all_by [] true h = refl
@@ -103,7 +103,7 @@ both : (others is_all waits any : Bool) → others ≡ not any → is_all ≡ no
 both others is_all true any p q = rw q (and-false others)
 both others is_all false any p q = rw (p, q) (and-true (not any))
 
--- all was sent exactly where nothing waits in those that are kept
+-- all was sent exactly if the lanes that stay have no queued datagrams
 pub none_waits : (now : ℕ) (olds mids : List Lane) (before after : Option (List Handed)) (are_all : Bool) → SendsEach now olds mids before after are_all
     → are_all ≡ not (is_any_waiting (filter (is_kept now) mids))
 none_waits now [] [] before after are_all h = h.1

@@ -1,4 +1,4 @@
--- The addresses of what comes over streams: they are of network 0, from which nothing comes over a network (RFC 1122, section 3.2.1.3).
+-- The addresses of streams: they belong to network 0, from which no network packet comes (RFC 1122, section 3.2.1.3).
 use Rattle.std.specs.Prelude.{◌≡◌, ℕ, ◌+◌, ◌*◌, ◌/◌, ◌%◌, ◌^◌, ◌<◌, ◌==◌, [], ◌∷◌, slice_index, Option, Some, None, if◌then◌else◌}
 use Rattle.roam_cells.specs.declared.addresses.Addr.{Addr}
 
@@ -13,7 +13,7 @@ address_of number = record {
   port = number % 65536;
 }
 
--- the number of the peer at an address, where it is of network 0
+-- the number of the peer at an address of network 0
 abbrev pub number_of : Addr → Option ℕ
 number_of addr =
     if slice_index addr.host 0 == 0

@@ -19,7 +19,7 @@ most_peers = 96
 abbrev pub numbers_of : {S : Type 0} → List (ClientPeer S) → List ℕ
 numbers_of peers = map (λ peer. peer.number) peers
 
--- what waits for each of those that are there
+-- the queues of the connected peers
 abbrev pub queues_of : {S : Type 0} → List (ClientPeer S) → List Queued
 queues_of peers = map (λ peer. peer.carrier.queue) peers
 
@@ -27,7 +27,7 @@ queues_of peers = map (λ peer. peer.carrier.queue) peers
 abbrev pub IsFresh : {S : Type 0} → ClientPeer S → Type 0
 IsFresh peer = (peer.carrier.frames ≡ []) × (peer.carrier.queue ≡ nothing_queued) × (peer.carrier.over ≡ false)
 
--- those that came now stand behind the others under the numbers after the last that was given
+-- new peers are added behind the others, with numbers after the last given one
 pub record Accepts (old new : Clients) : Type 0 where
   pub rises : old.last ≤ new.last
   pub numbers : numbers_of new.all.items ≡ numbers_of old.all.items ++ range_with_len (old.last + 1) (new.last - old.last)
@@ -75,7 +75,7 @@ HasNoneAt all at = IfSome (slice_get all at) HasNone
 abbrev pub place_behind : ℕ → ℕ → ℕ → ℕ
 place_behind count first step = (first % count + step) % count
 
--- each of those that are there was asked, from the one in its turn on, and has none; another time that one is asked first again
+-- each peer was asked, from the next one on, and has none; the next call begins with the same one
 abbrev pub HaveNone : Clients → Clients → Type 0
 HaveNone old new =
     ((k : ℕ) → k < length old.all.items → HasNoneAt new.all.items (place_behind (length old.all.items) old.turn k)) × (new.turn ≡ old.turn)
@@ -107,7 +107,7 @@ pub record IsQueuedAt {S : Type 0} (olds news : List (ClientPeer S)) (at : ℕ) 
   pub queued : IsQueued old.carrier.queue datagram new.carrier.queue
   pub others : (k : ℕ) → k ≢ at → slice_get news k ≡ slice_get olds k
 
--- a datagram was lost for the one at a place, with those of its instruction that follow it, or its stream is over; and no other changed
+-- for the peer at a place, a datagram was lost, with the later ones of its instruction, or its stream is closed; no other peer changed
 pub record IsLostAt {S : Type 0} (olds news : List (ClientPeer S)) (at : ℕ) : Type 0 where
   pub old : ClientPeer S
   pub new : ClientPeer S
@@ -127,16 +127,16 @@ IsLostFor olds news None = news ≡ olds
 IsLostFor olds news (Some number) =
     (All (λ peer. peer.number ≢ number) olds × (news ≡ olds)) ⊎ ((at : ℕ) × IsPlaceOf olds at number × IsLostAt olds news at)
 
--- what a stream answers to reads and writes, where that is known
+-- the results of a stream's reads and writes, if they are known
 abbrev pub AnswersOf : Type 0 → Type 0
 AnswersOf S = S → Option (List Answer)
 
--- as much was written of what waits for a client start as goes at this moment
+-- as many queued bytes of a client start were written as go at this moment
 abbrev pub IsDone : {S : Type 0} → AnswersOf S → ClientPeer S → ClientPeer S → Type 0
 IsDone answers old new =
     HasStopped new.carrier.over new.carrier.queue.waiting (answers old.carrier.stream) (answers new.carrier.stream)
 
--- it was, or some was written, from the front on; what came of it stays
+-- all of them were, or some were, from the front; the bytes from it stay
 pub record IsFlushed {S : Type 0} (answers : AnswersOf S) (old new : ClientPeer S) : Type 0 where
   pub number : new.number ≡ old.number
   pub left : (count : ℕ) × (new.carrier.queue.waiting ≡ drop count old.carrier.queue.waiting)
@@ -147,7 +147,7 @@ pub record IsFlushed {S : Type 0} (answers : AnswersOf S) (old new : ClientPeer 
 abbrev pub is_open : {S : Type 0} → ClientPeer S → Bool
 is_open peer = not peer.carrier.over
 
--- What waited for each was written, some of it, or as much as goes of each where that was all; and those stay whose stream isn't over.
+-- The queued bytes of each were written, in part or as far as possible, and the peers stay whose stream isn't closed.
 pub record KeepsOpen {S : Type 0} (answers : AnswersOf S) (olds news : List (ClientPeer S)) (is_all : Bool) : Type 0 where
   pub mids : List (ClientPeer S)
   pub each : AllZip (IsFlushed answers) olds mids

@@ -7,7 +7,7 @@ use Rattle.std.specs.declared.fs.FileType.{FileType}
 abbrev pub of_others : ℕ
 of_others = 0x3F
 
--- A folder may hold a server's sockets: it is one, and the user's own, and where it has to be theirs alone nobody else has any permission.
+-- The folder is fit for a server's sockets: a folder of the user's own. If it has to be private, nobody else has any permission.
 pub record MayHold (kind : FileType) (owner own mode : ℕ) (is_alone : Bool) : Type 0 where
   pub folder : IsDir kind
   pub own_folder : owner ≡ own

@@ -1,4 +1,4 @@
--- What waits for an address, and goes there at a pace.
+-- The queue of an address, and its pace.
 use Rattle.std.specs.Prelude.{◌≡◌, ◌≢◌, ◌⊎◌, ◌↔◌, ℕ, ◌+◌, ◌≤◌, ◌<◌, ◌==◌, ◌||◌, ◌&&◌, Bool, true, false, List, [], ◌∷◌, ◌++◌, length, map, slice_get, slice_set, nat_lt, Option, Some, None, IsTrue}
 use Rattle.std.specs.List.{All, filter, list_any}
 use Rattle.roam_cells.specs.declared.addresses.Addr.{Addr}
@@ -8,12 +8,12 @@ use Rattle.roam_stream_framing.specs.Queues.{IsLost, IsQueued, Queued, nothing_q
 use Rattle.roam_sockets.specs.Pace.{gone_at, may_go, most_a_moment}
 use Rattle.roam_sockets.specs.declared.lanes.Lane.{Lane}
 
--- a datagram that was handed to a socket, and where it is to go
+-- a datagram that a socket was given, and its address
 pub record Handed : Type 0 where
   pub to : Addr
   pub datagram : List ℕ
 
--- these were handed to a socket, one after another, where that is known
+-- a socket was given these, one after another, if that is known
 abbrev pub Hands : Option (List Handed) → Option (List Handed) → List Handed → Type 0
 Hands None after handed = Unit {0}
 Hands (Some before) None handed = ⊥
@@ -34,7 +34,8 @@ pub record GoesOne (now : ℕ) (old new : Lane) (before after : Option (List Han
   pub to : new.to ≡ old.to
   pub takes : new.queue.takes ≡ old.queue.takes
 
--- The first that waited in a lane went to its address at a moment, in order, each once, and no more than may go at one; the others wait.
+-- The first queued datagrams of a lane went to its address at a moment, in order, each once, and no more than allowed. The others stay
+-- queued.
 pub record Goes (now : ℕ) (old new : Lane) (before after : Option (List Handed)) : Type 0 where
   pub datagrams : List (List ℕ)
   pub carried : All IsCarried datagrams
@@ -45,7 +46,7 @@ pub record Goes (now : ℕ) (old new : Lane) (before after : Option (List Handed
   pub to : new.to ≡ old.to
   pub takes : new.queue.takes ≡ old.queue.takes
 
--- no datagram stands first of what waits, in the bytes that are looked at at once, of which there are some where any wait
+-- no datagram is whole in the bytes that are looked at; there are such bytes if any are queued
 pub record HasNoFirst (waiting : List ℕ) : Type 0 where
   pub front : List ℕ
   pub rest : List ℕ
@@ -57,7 +58,7 @@ pub record HasNoFirst (waiting : List ℕ) : Type 0 where
 abbrev pub IsDone : ℕ → Lane → Type 0
 IsDone now lane = (may_go lane.pace now ≡ false) ⊎ HasNoFirst lane.queue.waiting
 
--- what waits in a lane was sent, as much as may go; that was all, or it wasn't
+-- a lane's queued datagrams were sent, as many as may go, and the result is true if that was all
 pub record Sends (now : ℕ) (old new : Lane) (before after : Option (List Handed)) (is_all : Bool) : Type 0 where
   pub goes : Goes now old new before after
   pub done : IsDone now new
@@ -84,7 +85,7 @@ is_any_waiting lanes = list_any is_waiting lanes
 abbrev pub is_kept : ℕ → Lane → Bool
 is_kept now lane = is_waiting lane || (lane.pace.moment == now)
 
--- what waits in all lanes was sent, as much as may go, and those are kept that are needed
+-- the queued datagrams of all lanes were sent, as many as may go, and the lanes in use stay
 pub record Flushes (now : ℕ) (olds news : List Lane) (before after : Option (List Handed)) (are_all : Bool) : Type 0 where
   pub mids : List Lane
   pub each : SendsEach now olds mids before after are_all
@@ -94,7 +95,7 @@ pub record Flushes (now : ℕ) (olds news : List Lane) (before after : Option (L
 abbrev pub IsFresh : Addr → Lane → Type 0
 IsFresh to lane = (lane.to ≡ to) × (lane.queue ≡ nothing_queued)
 
--- A datagram was queued in a lane, or lost, and what waits there was sent, as much as may go.
+-- A datagram was queued in a lane or lost, and queued datagrams were sent, as many as may go.
 pub record Takes (now : ℕ) (old new : Lane) (datagram : List ℕ) (is_queued : Bool) (before after : Option (List Handed)) : Type 0 where
   pub mid : Queued
   pub queued : is_queued ≡ true → IsQueued old.queue datagram mid
@@ -108,7 +109,7 @@ pub record IsLaneAt (lanes : List Lane) (at : ℕ) (to : Addr) : Type 0 where
   pub there : slice_get lanes at ≡ Some lane
   pub to_it : lane.to ≡ to
 
--- these lanes, or, where none of them is that of an address, those with a fresh one for it behind them
+-- these lanes, with a new one behind them if none had the address
 abbrev pub AreReady : Addr → List Lane → List Lane → Type 0
 AreReady to olds lanes =
     (lanes ≡ olds) ⊎ (All (λ (lane : Lane). lane.to ≢ to) olds × ((lane : Lane) × IsFresh to lane × (lanes ≡ olds ++ lane ∷ [])))
@@ -126,7 +127,7 @@ pub record TakesAt (now : ℕ) (to : Addr) (olds news : List Lane) (datagram : L
   pub takes : Takes now old new datagram is_queued before after
   pub set : news ≡ slice_set lanes at new
 
--- or, where none is that of its address and there is no memory for one, it was handed over at once
+-- or the datagram was sent at once, if there is no lane for its address and no memory for one
 abbrev pub SendsTo : ℕ → Addr → List Lane → List Lane → List ℕ → Bool → Option (List Handed) → Option (List Handed) → Type 0
 SendsTo now to olds news datagram result before after =
     TakesAt now to olds news datagram result before after

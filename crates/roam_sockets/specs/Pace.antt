@@ -2,7 +2,7 @@
 use Rattle.std.specs.Prelude.{ℕ, ◌==◌, Bool, nat_lt, if◌then◌else◌}
 use Rattle.roam_sockets.specs.declared.pace.Pace.{Pace}
 
--- a socket of loopback holds some 90 datagrams that wait to be read: so many go to one address in a millisecond
+-- the most datagrams to one address in a millisecond; a loopback socket has room for some 90 unread ones
 abbrev pub most_a_moment : ℕ
 most_a_moment = 48
 

@@ -1,26 +1,26 @@
-//! What comes from two, each of which is asked first in its turn, so that neither keeps the other waiting.
+//! The datagrams from two sources. They take turns to be asked first, so that neither delays the other.
 ghost use Rattle.std.specs.Prelude.{◌≡◌, ◌⊎◌, ◌≤◌, List, Option, None, IfSome, length, not, true, false};
 ghost use Rattle.roam_cells.specs.declared.addresses.Addr.{Addr as AddrOf};
 ghost use Rattle.roam_sockets.specs.Arrivals.{Arrived, Gives, GivesFirst};
 
 use roam_cells::Addr;
 
-/// What datagrams come from.
+/// A source of datagrams.
 pub trait Arrivals {
-    // Those that came and weren't given yet, in order, where that is known.
+    // The datagrams that arrived and weren't given yet, in order, if they are known.
     ghost arrived: { Self → Option (List Arrived) } = { λ _. None };
 
     // Where they may come from.
     ghost comes_from: { Self → AddrOf → Type 0 } = { λ _ _. Unit {0} };
 
-    /// The next that came: from where, and how many bytes of `buf` it fills from the front.
+    /// Returns the next datagram's sender, and how many bytes of `buf` it fills from the front; `None` if there is none.
     fn next_arrival(&mut self, buf: &mut [u8]) -> Option<(Addr, usize)>
         ensures within { IfSome result (λ r. r.1 ≤ length buf.new) }
         ensures from { IfSome result (λ r. comes_from self.old r.0) }
         ensures gives { Gives (arrived self.old) (arrived self.new) buf.new result };
 }
 
-// What came to one, or else to the other.
+// Returns the next datagram of one source, or else of the other.
 fn next_of<A: Arrivals, B: Arrivals>(
     one: &mut A,
     other: &mut B,
@@ -36,7 +36,7 @@ fn next_of<A: Arrivals, B: Arrivals>(
     other.next_arrival(buf)
 }
 
-/// A datagram that came to one of two, to the other where nothing came to the one that is asked first: which that is changes each time.
+/// Returns the next datagram of two sources. The source that is asked first changes with each call.
 pub fn next_by_turns<A: Arrivals, B: Arrivals>(
     one: &mut A,
     other: &mut B,

@@ -4,7 +4,7 @@ ghost use Rattle.std.specs.Prelude.{◌≡◌, IsOkUnless};
 use roam_faults::RunFault;
 use std::random::RandomSource;
 
-/// An id by chance. `Read` where the system has none to offer.
+/// Returns a random id. `Read` if the system has no randomness to give.
 pub fn random_id(chance: &impl RandomSource) -> Result<u64, RunFault>
     ensures fault { IsOkUnless result RunFault.Read }
 {

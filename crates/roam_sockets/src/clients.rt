@@ -37,7 +37,7 @@ pub struct Clients {
     all: Vec<ClientPeer<UnixStream>>,
     last: u64,
     turn: usize,
-    // Whether all that went at that moment was written when it was written last.
+    // True if the last write left nothing that could go at its moment.
     is_flushed: bool,
 }
 
@@ -56,7 +56,7 @@ pub fn address_of(number: u64) -> Addr
     }
 }
 
-// The number of the peer at an address, where it is of network 0.
+// Returns the number of the peer at an address of network 0.
 fn number_of(addr: Addr) -> Option<u64>
     ensures number { result ≡ number_of addr }
 {
@@ -72,7 +72,7 @@ fn number_of(addr: Addr) -> Option<u64>
     )
 }
 
-// A datagram that came from one of them, each asked once from a place on: whose place it is, from where, and how many bytes of `buf` it
+// Returns a datagram from one of the peers, each asked once from a place on: the peer's place, its address, and how many bytes of `buf` it
 // fills from the front.
 fn receive_from(
     all: &mut [ClientPeer<UnixStream>],
@@ -117,7 +117,7 @@ fn receive_at(
     Some((address_of(peer.number), len))
 }
 
-// Queues a datagram for the one at a place, and tells whether it did.
+// Queues a datagram for the peer at a place, and returns true if it was queued.
 fn send_at(all: &mut [ClientPeer<UnixStream>], at: usize, bytes: &[u8]) -> bool
     requires within { at < length all.old }
     ensures queued { result ≡ true → IsQueuedAt all.old all.new at bytes.now }
@@ -128,7 +128,7 @@ fn send_at(all: &mut [ClientPeer<UnixStream>], at: usize, bytes: &[u8]) -> bool
     peer.carrier.send(bytes)
 }
 
-// Writes what waits for each, and tells whether that was all that goes at this moment.
+// Writes the queued bytes of each, and returns true if that was all that goes at this moment.
 fn flush_all<S: Stream>(all: &mut [ClientPeer<S>]) -> bool
     ensures each { AllZip (λ old new. IsFlushed S.answers old new) all.old all.new }
     ensures done { result ≡ true → AllZip (λ old new. IsDone S.answers old new) all.old all.new }
@@ -140,7 +140,7 @@ fn flush_all<S: Stream>(all: &mut [ClientPeer<S>]) -> bool
     flush_all(others) && is_done
 }
 
-// Writes what waits for each, lets those go whose stream is over, and tells whether that was all that goes at this moment.
+// Writes the queued bytes of each, drops those whose stream is closed, and returns true if that was all that goes at this moment.
 fn flush_open<S: Stream + Drop>(all: &mut Vec<ClientPeer<S>>) -> bool
     ensures keeps { KeepsOpen S.answers all.old.items all.new.items result }
 {
@@ -178,7 +178,7 @@ impl Arrivals for Clients {
 }
 
 impl Clients {
-    /// Binds the socket at a path; nobody is there yet. `Bind` where it can't be bound.
+    /// Binds the socket at a path; no peer is connected yet. `Bind` if it can't be bound.
     pub fn bind<R: Files + Net>(
         rt: &R,
         alloc: Global,
@@ -230,7 +230,7 @@ impl Clients {
         Ok(())
     }
 
-    // Takes one that came; where 96 are there, or 2^40 numbers were given, or memory is wanting, it is closed.
+    // Adds a new peer. Its stream is closed if 96 are there, 2^40 numbers were given, or memory is refused.
     fn take(&mut self, alloc: Global, waits: &Waits, mut stream: UnixStream)
         ensures one { AcceptsOne self.old self.new }
         ensures flushed { self.new.is_flushed ≡ self.old.is_flushed }
@@ -246,7 +246,7 @@ impl Clients {
         let _ = self.add(alloc, stream);
     }
 
-    /// Takes those that wait at the socket; where 96 are there, or 2^40 numbers were given, or memory is wanting, they are closed.
+    /// Accepts the peers at the socket. Their streams are closed if 96 are there, 2^40 numbers were given, or memory is refused.
     pub fn accept(&mut self, alloc: Global, waits: &Waits)
         ensures accepts { Accepts self.old self.new }
         ensures came { HaveCome self.old self.new }
@@ -263,7 +263,7 @@ impl Clients {
         }
     }
 
-    /// A datagram that came from one of them, each in its turn: from where, and how many bytes of `buf` it fills from the front.
+    /// Returns a datagram from one of the peers, which take turns: the sender, and how many bytes of `buf` it fills from the front.
     pub fn receive(&mut self, buf: &mut [u8]) -> Option<(Addr, usize)>
         ensures within { IfSome result (λ r. r.1 ≤ length buf.new) }
         ensures from { IfSome result (λ r. IsOf self.old r.0) }
@@ -278,8 +278,8 @@ impl Clients {
         Some((from, len))
     }
 
-    /// Queues a datagram for the one at an address, and tells whether it did: it is lost where nobody is there any more, and where much
-    /// waits for who is.
+    /// Queues a datagram for the peer at an address, and returns true if it was queued. It is lost if the peer has left, or has much
+    /// queued.
     pub fn send(&mut self, to: Addr, bytes: &[u8]) -> bool
         ensures queued { result ≡ true → IsQueuedFor self.old.all.items self.new.all.items (number_of to) bytes.now }
         ensures lost { result ≡ false → IsLostFor self.old.all.items self.new.all.items (number_of to) }
@@ -295,7 +295,8 @@ impl Clients {
         }
     }
 
-    /// Writes what waits for them, as much as goes now, and lets those go that left. Tells whether that was all that goes at this moment.
+    /// Writes the queued bytes of the peers, as many as go now, and drops those that left. Returns true if that was all that goes at this
+    /// moment.
     pub fn flush(&mut self) -> bool
         ensures last { self.new.last ≡ self.old.last }
         ensures keeps { KeepsOpen ⟦<UnixStream as Stream>⟧.answers self.old.all.items self.new.all.items result }

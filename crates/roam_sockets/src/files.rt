@@ -1,4 +1,4 @@
-//! The files of sockets, the folder that they lie in, and what its user alone may read.
+//! Socket files, their folder, and files private to the user.
 ghost use Rattle.std.specs.Prelude.{◌≡◌, ◌≢◌, ◌↔◌, IsOk, Err};
 ghost use Rattle.std.specs.Fs.{IsDir};
 ghost use Rattle.roam_sockets.specs.Folders.{MayHold};
@@ -11,7 +11,7 @@ use std::net::Net;
 use std::os::unix::fs::{FileTypeExt, MetadataExt, OpenOptionsExt};
 use thiserror::Error;
 
-/// What the system tells of this process, whose owner its user is.
+/// The system's folder on this process, whose owner is the user.
 const PROCESS: &str = "/proc/self";
 
 /// The permissions of a file that its owner alone may read and write, and those of a folder that concern others.
@@ -19,7 +19,7 @@ const OWN_FILE: u32 = 0o600;
 
 const OTHERS: u32 = 0o077;
 
-// Whether nobody listens at a socket's file.
+// Returns true if a socket file has no listener.
 fn is_refused(net: &impl Net, path: &str) -> bool {
     match UnixStream::connect(net, path) {
         Ok(_) => false,
@@ -27,7 +27,7 @@ fn is_refused(net: &impl Net, path: &str) -> bool {
     }
 }
 
-// Whether a file is a socket's to which nobody listens. A file of any other kind is none, though a call to it is refused too.
+// Returns true if a file is a socket without a listener. A file of another kind is not, though a connection to it is refused too.
 fn is_left_behind<R: Files + Net>(rt: &R, path: &str) -> bool {
     match symlink_metadata(rt, path) {
         Ok(metadata) => metadata.file_type().is_socket() && is_refused(rt, path),
@@ -35,8 +35,8 @@ fn is_left_behind<R: Files + Net>(rt: &R, path: &str) -> bool {
     }
 }
 
-/// A listener at a path, where one can be bound. A socket's file to which nobody listens, as a server leaves it that was ended from
-/// outside, is removed first; any other file stays, and nothing is bound.
+/// Returns a listener at a path, if it can be bound. It first removes a socket file without a listener, as a killed server leaves it. Any
+/// other file stays, and nothing is bound.
 pub fn listen<R: Files + Net>(rt: &R, path: &str) -> Option<UnixListener> {
     if let Ok(listener) = UnixListener::bind(rt, path) {
         return Some(listener);
@@ -48,8 +48,8 @@ pub fn listen<R: Files + Net>(rt: &R, path: &str) -> Option<UnixListener> {
     UnixListener::bind(rt, path).ok()
 }
 
-/// Binds a path anew if its file is gone, as a cleaner of old files leaves it, and returns true if it is another listener then. A file that
-/// is there stays.
+/// Binds a path anew if its file is gone, as a cleaner of old files leaves it, and returns true if the listener is new. A file in its place
+/// stays.
 pub fn listen_again<R: Files + Net>(rt: &R, path: &str, listener: &mut UnixListener) -> bool {
     match symlink_metadata(rt, path) {
         Err(error) if error.kind() == ErrorKind::NotFound => (),
@@ -64,10 +64,10 @@ pub fn listen_again<R: Files + Net>(rt: &R, path: &str, listener: &mut UnixListe
     }
 }
 
-/// Why a folder can't hold a server's sockets.
+/// The reason for which a folder isn't fit for a server's sockets.
 #[derive(Clone, Copy, Debug, PartialEq, Eq, Error)]
 pub enum FolderFault {
-    /// Nothing is there, or it can't be looked at.
+    /// There is no such file, or its state can't be read.
     #[error("no such folder")]
     Missing,
 
@@ -84,8 +84,8 @@ pub enum FolderFault {
     Open,
 }
 
-/// Whether what is there may hold a server's sockets, by its kind, whose it is, whose this process is, and its permissions; where it has to
-/// be the user's alone, nobody else may have any.
+/// Returns true if a file is fit for a server's sockets, by its kind, its owner, this process's owner, and its permissions. A private
+/// folder has none for other users.
 pub fn may_hold(
     kind: &FileType,
     owner: u32,
@@ -110,7 +110,7 @@ pub fn may_hold(
     Ok(())
 }
 
-/// Whether a folder is this user's own, and no link to one; where it has to be theirs alone, whether nobody else may enter it.
+/// Checks that a folder is the user's own, and no link to one. If it has to be private, no other user may enter it.
 pub fn own_folder(files: &impl Files, folder: &str, is_alone: bool) -> Result<(), FolderFault> {
     let (Ok(found), Ok(process)) = (symlink_metadata(files, folder), metadata(files, PROCESS))
     else {
@@ -125,7 +125,7 @@ pub fn own_folder(files: &impl Files, folder: &str, is_alone: bool) -> Result<()
     )
 }
 
-/// Binds a path once more, to see why it can't be, and leaves nothing there.
+/// Tries to bind a path, to get the reason for which it can't be, and leaves no file there.
 pub fn try_listen<R: Files + Net>(rt: &R, path: &str) -> io::Result<()> {
     let listener = UnixListener::bind(rt, path)?;
     drop(listener);
@@ -134,7 +134,7 @@ pub fn try_listen<R: Files + Net>(rt: &R, path: &str) -> io::Result<()> {
 
 /// Writes a file that this user alone may read, whole or not at all: it is written under another name beside, and renamed.
 pub fn write_alone(files: &impl Files, beside: &str, path: &str, text: &[u8]) -> io::Result<()> {
-    // What an earlier run left there is no matter.
+    // A file left by an earlier run doesn't matter.
     let _ = remove_file(files, beside);
     let mut options = OpenOptions::new();
     options.write(true).create_new(true).mode(OWN_FILE);

@@ -1,4 +1,4 @@
-//! What waits for an address, and goes there at a pace: over any socket that takes datagrams.
+//! The queue of an address, and its pace, over any datagram socket.
 ghost use Rattle.std.specs.Prelude.{◌≡◌, ◌≢◌, ◌↔◌, ◌∷◌, [], List, Option, None, IfSome, IsTrue, not, true, false};
 ghost use Rattle.std.specs.List.{All};
 ghost use Rattle.roam_sockets.specs.Lanes.{AreReady, Flushes, GoesOne, Handed, Hands, IsDone, IsFresh, IsLaneAt, Sends, SendsEach, SendsTo, Takes, is_any_waiting, is_kept};
@@ -10,15 +10,15 @@ use std::alloc::Global;
 
 /// A socket that takes datagrams to addresses.
 pub(crate) trait DatagramSocket {
-    // The datagrams that were handed to it, in order, where that is known.
+    // The datagrams that it was given, in order, if they are known.
     ghost handed: { Self → Option (List Handed) } = { λ _. None };
 
-    /// Hands it a datagram, and tells whether it went.
+    /// Sends a datagram, and returns true if it went.
     fn send_once(&mut self, to: Addr, datagram: &[u8]) -> bool
         ensures handed { Hands (handed self.old) (handed self.new) (record { to = to; datagram = datagram.now } ∷ []) };
 }
 
-/// What waits for an address, and how fast it goes there.
+/// The queue of an address, and its pace.
 #[derive(Drop)]
 pub(crate) struct Lane {
     to: Addr,
@@ -38,14 +38,14 @@ impl Lane {
         }
     }
 
-    // Whether it is that of an address.
+    // Returns true if the lane has this address.
     fn is_to(&self, to: Addr) -> bool
         ensures to { IsTrue result ↔ (self.now.to ≡ to) }
     {
         self.to == to
     }
 
-    // Sends the datagram that waits longest, where one does and may go at this moment, and tells whether it did.
+    // Sends the oldest queued datagram, if there is one and it may go at this moment, and returns true if it did.
     fn send_first<D: DatagramSocket>(&mut self, socket: &mut D, now: u64) -> bool
         ensures went { result ≡ true → GoesOne now self.old self.new (D.handed socket.old) (D.handed socket.new) }
         ensures done { result ≡ false → IsDone now self.new }
@@ -65,7 +65,7 @@ impl Lane {
         true
     }
 
-    // Sends what waits, as much as may go at this moment, and tells whether that was all.
+    // Sends queued datagrams, as many as may go at this moment, and returns true if that was all.
     fn send_waiting<D: DatagramSocket>(&mut self, socket: &mut D, now: u64) -> bool
         ensures sends { Sends now self.old self.new (D.handed socket.old) (D.handed socket.new) result }
     {
@@ -73,8 +73,8 @@ impl Lane {
         self.queue.front().is_empty()
     }
 
-    // Queues a datagram, and sends what may go at this moment; tells whether it was queued. The queue has to see each, also one that goes
-    // at once: it takes the later ones of an instruction where it took those before.
+    // Queues a datagram, sends those that may go at this moment, and returns true if it was queued. Each datagram passes the queue, which
+    // takes later ones of an instruction only after the earlier ones.
     fn send<D: DatagramSocket>(&mut self, socket: &mut D, datagram: &[u8], now: u64) -> bool
         ensures takes { Takes now self.old self.new datagram.now result (D.handed socket.old) (D.handed socket.new) }
     {
@@ -83,7 +83,7 @@ impl Lane {
         is_queued
     }
 
-    // Whether something waits there, or went at this moment.
+    // Returns true if datagrams are queued, or one went at this moment.
     fn is_kept(&self, now: u64) -> bool
         ensures kept { result ≡ is_kept now self.now }
     {
@@ -91,7 +91,7 @@ impl Lane {
     }
 }
 
-// Sends what waits in each, as much as may go at this moment, and tells whether that was all.
+// Sends the queued datagrams of each lane, as many as may go at this moment, and returns true if that was all.
 fn send_each<D: DatagramSocket>(lanes: &mut [Lane], socket: &mut D, now: u64) -> bool
     ensures each { SendsEach now lanes.old lanes.new (D.handed socket.old) (D.handed socket.new) result }
 {
@@ -142,7 +142,7 @@ impl<D: DatagramSocket> Paced<D> {
         &self.socket
     }
 
-    // The place of an address's lane, which is made where there is none; none where there is no memory for it.
+    // Returns the place of an address's lane, and makes one if there is none; `None` if memory is refused.
     fn lane(&mut self, to: Addr) -> Option<usize>
         ensures ready { AreReady to self.old.lanes.items self.new.lanes.items }
         ensures found { IfSome result (λ at. IsLaneAt self.new.lanes.items at to) }
@@ -158,7 +158,7 @@ impl<D: DatagramSocket> Paced<D> {
         Some(at)
     }
 
-    /// Sends a datagram at a moment, or queues it where enough went to this address then; tells whether either was done.
+    /// Sends a datagram at a moment, or queues it if the address got enough then. Returns true if it was sent or queued.
     pub(crate) fn send(&mut self, to: Addr, datagram: &[u8], now: u64) -> bool
         ensures sends { SendsTo now to self.old.lanes.items self.new.lanes.items datagram.now result
             (D.handed self.old.socket) (D.handed self.new.socket) }
@@ -169,8 +169,8 @@ impl<D: DatagramSocket> Paced<D> {
         }
     }
 
-    /// Sends what waits, as much as may go at this moment, and tells whether that was all. An address to which nothing waits, and nothing
-    /// went at this moment, is forgotten.
+    /// Sends queued datagrams, as many as may go at this moment, and returns true if that was all. It drops the lane of an address without
+    /// queued datagrams that got none at this moment.
     pub(crate) fn flush(&mut self, now: u64) -> bool
         ensures flushes { Flushes now self.old.lanes.items self.new.lanes.items
             (D.handed self.old.socket) (D.handed self.new.socket) result }

@@ -3,7 +3,7 @@ ghost use Rattle.std.specs.Prelude.{◌≡◌, ◌≤◌, ℕ, Option, None, tru
 
 use std::time::{Clock, Instant};
 
-/// Where moments come from: a clock, or a caller who sets them.
+/// The source of moments: a clock, or a caller who sets them.
 #[derive(Drop)]
 pub enum Moments<R> {
     Real {
@@ -15,7 +15,7 @@ pub enum Moments<R> {
 }
 
 impl<R: Clock + Drop> Moments<R> {
-    /// Moments of a clock, from 0 where it is asked first on.
+    /// Returns the moments of a clock, from 0 at its first use.
     pub fn real(clock: R) -> Moments<R>
         ensures real { result ≡ Moments.Real clock None 0 }
     {
@@ -37,7 +37,7 @@ impl<R: Clock + Drop> Moments<R> {
         }
     }
 
-    /// The moment now, or the one before where the clock fails. A clock's moments never fall.
+    /// Returns the moment now, or the one before if the clock fails. Moments never fall.
     pub fn now(&mut self) -> u64
         ensures set { (moment : ℕ) → self.old ≡ Moments.Set moment → result ≡ moment }
         ensures stays { (moment : ℕ) → self.old ≡ Moments.Set moment → self.new ≡ self.old }
@@ -59,7 +59,7 @@ impl<R: Clock + Drop> Moments<R> {
     }
 }
 
-// How many milliseconds passed since the start, where the clock tells.
+// Returns the milliseconds since the start; `None` if the clock fails.
 fn passed<R: Clock>(clock: &R, start: &Option<Instant>) -> Option<u64> {
     let passed = start.as_ref()?.elapsed(clock).ok()?;
     u64::try_from(passed.as_millis()).ok()

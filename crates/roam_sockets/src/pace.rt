@@ -1,4 +1,4 @@
-//! How fast datagrams go to one address: a socket of loopback holds few that wait to be read, and what comes above them is lost.
+//! The pace of datagrams to one address. A loopback socket has room for few unread ones, and the others are lost.
 ghost use Rattle.std.specs.Prelude.{◌≡◌, ◌+◌, ◌<◌, ◌==◌};
 ghost use Rattle.roam_sockets.specs.Pace.{gone_at, may_go, most_a_moment};
 
@@ -27,14 +27,14 @@ impl Pace {
         if self.moment == now { self.gone } else { 0 }
     }
 
-    /// Whether one more may go at this moment.
+    /// Returns true if one more may go at this moment.
     pub(crate) fn may_go(&self, now: u64) -> bool
         ensures may { result ≡ may_go self.now now }
     {
         self.gone_at(now) < MOST_A_MOMENT
     }
 
-    /// Whether the last that went did so at this moment.
+    /// Returns true if the last one went at this moment.
     pub(crate) fn is_at(&self, now: u64) -> bool
         ensures at { result ≡ (self.now.moment == now) }
     {

@@ -13,7 +13,7 @@ use std::alloc::Global;
 use std::io;
 use std::net::{IpAddr, Ipv4Addr, Net, SocketAddr};
 
-/// A UDP socket on loopback. What goes to one address is paced: 48 datagrams in a millisecond, of an instruction all or none.
+/// A UDP socket on loopback. Each address gets at most 48 datagrams in a millisecond; of an instruction, all or none.
 #[derive(Drop)]
 pub struct Udp {
     paced: Paced<UdpSocket>,
@@ -57,14 +57,14 @@ impl Arrivals for Udp {
     }
 }
 
-/// Binds a port of this machine once more, to see why it can't be.
+/// Tries to bind a port of this machine, to get the reason for which it can't be.
 pub fn try_port(net: &impl Net, port: u16) -> io::Result<()> {
     UdpSocket::bind(net, socket_addr(loopback(port)))?;
     Ok(())
 }
 
 impl Udp {
-    /// Binds a port of this machine, any that is free where it is 0. `Bind` where it can't be bound.
+    /// Binds a port of this machine; 0 asks for any free one. `Bind` if it can't be bound.
     pub fn bind(net: &impl Net, alloc: Global, waits: &Waits, port: u16) -> Result<Udp, RunFault>
         ensures port { IfOk result (λ udp. (port ≡ 0) ⊎ (udp.port ≡ port)) }
         ensures none { IfOk result (λ udp. udp.paced.lanes.items ≡ []) }
@@ -91,8 +91,8 @@ impl Udp {
         self.port
     }
 
-    /// A datagram that came: from where, and how many bytes of `buf` it fills from the front. What claims to come from network 0 is
-    /// dropped: its addresses are those of streams.
+    /// Returns the next datagram's sender, and how many bytes of `buf` it fills from the front. It drops a datagram from network 0, whose
+    /// addresses are those of streams.
     pub fn receive(&mut self, buf: &mut [u8]) -> Option<(Addr, usize)>
         ensures within { IfSome result (λ r. r.1 ≤ length buf.new) }
         ensures far { IfSome result (λ r. number_of r.0 ≡ None) }
@@ -111,7 +111,7 @@ impl Udp {
         }
     }
 
-    /// Sends a datagram at a moment, or queues it where enough went to this address then; tells whether either was done.
+    /// Sends a datagram at a moment, or queues it if the address got enough then. Returns true if it was sent or queued.
     pub fn send(&mut self, to: Addr, bytes: &[u8], now: u64) -> bool
         ensures port { self.new.port ≡ self.old.port }
         ensures sends { SendsTo now to self.old.paced.lanes.items self.new.paced.lanes.items bytes.now result None None }
@@ -119,7 +119,7 @@ impl Udp {
         self.paced.send(to, bytes, now)
     }
 
-    /// Sends what waits, as much as may go at this moment, and tells whether that was all.
+    /// Sends queued datagrams, as many as may go at this moment, and returns true if that was all.
     pub fn flush(&mut self, now: u64) -> bool
         ensures port { self.new.port ≡ self.old.port }
         ensures flushes { Flushes now self.old.paced.lanes.items self.new.paced.lanes.items None None result }

@@ -1,4 +1,4 @@
-//! The wait for what comes.
+//! The wait for input.
 ghost use Rattle.std.specs.Prelude.{◌≡◌, ◌⊎◌, ◌&&◌, ◌||◌, true, false, Some, None, IfErr, IfOk, if◌then◌else◌};
 ghost use Rattle.mio.specs.Events.{items};
 ghost use Rattle.roam_sockets.specs.Waits.{tell_of_no_reader, wait_for, wait_until};
@@ -13,7 +13,7 @@ use std::net::Net;
 use std::os::fd::RawFd;
 use std::time::Duration;
 
-/// How many milliseconds a program waits where something was refused that was due: there may be memory for it then.
+/// The milliseconds that a program waits if due work was refused memory. There may be memory for it then.
 pub const SHORT_WAIT: u64 = 10;
 
 /// How many milliseconds it waits at most.
@@ -22,26 +22,25 @@ const LONGEST_WAIT: u64 = 3_600_000;
 /// How many sources a wait reports at most; more are reported by the next.
 const MOST_EVENTS: usize = 32;
 
-/// What a descriptor that is watched is reported under; all else is under another.
+/// The token of the watched descriptor; all other sources have another.
 const WATCHED: Token = Token(1);
 
-/// The wait for what comes: which sources report to it, and whether anything came since the last one. A source reports once, so a program
-/// waits only where each has answered that it brings nothing at this moment.
+/// The wait for input: the sources that report to it, and whether any input arrived since the last wait. A source reports once, so a
+/// program waits only if each source has no input at this moment.
 #[derive(Drop)]
 pub struct Waits {
     poll: Poll,
     events: Events<Global>,
     quiet: bool,
     unread: bool,
-    // How many milliseconds the last call might wait, where it waited.
+    // The longest time of the last call in milliseconds, if it waited.
     longest: Option<u64>,
 }
 
-/// How many milliseconds a program waits where datagrams are kept back so that they go at a pace.
+/// The milliseconds that a program waits if datagrams are kept back by their pace.
 const PACE_WAIT: u64 = 1;
 
-/// How many milliseconds may be waited where datagrams may be kept back so that they go at a pace: one where they are, else until what is
-/// due.
+/// Returns the milliseconds to wait: one if datagrams are kept back by their pace, else until the due moment.
 pub fn wait_for(due: Option<u64>, now: u64, is_paced: bool) -> u64
     ensures wait { result ≡ wait_for due now is_paced }
 {
@@ -52,8 +51,7 @@ pub fn wait_for(due: Option<u64>, now: u64, is_paced: bool) -> u64
     }
 }
 
-/// How many milliseconds may be waited from a moment on for what is due at another, if ever, after all that was due before was done: ten
-/// where it is due already, an hour at most.
+/// Returns the milliseconds from a moment to the due one, if any, after all work due before is done: ten if it is past, an hour at most.
 pub fn wait_until(due: Option<u64>, now: u64) -> u64
     ensures wait { result ≡ wait_until due now }
 {
@@ -64,7 +62,7 @@ pub fn wait_until(due: Option<u64>, now: u64) -> u64
     }
 }
 
-// Whether a wait reported that nobody reads the descriptor any more that is watched.
+// Returns true if a wait reported that nobody reads the watched descriptor.
 fn tell_of_no_reader(events: &Events<Global>) -> bool
     ensures told { result ≡ tell_of_no_reader (items events.now) }
 {
@@ -72,7 +70,7 @@ fn tell_of_no_reader(events: &Events<Global>) -> bool
 }
 
 impl Waits {
-    /// No source reports yet, and nothing came. `Bind` where the system has none to offer, `OutOfMemory`.
+    /// Returns a wait without sources and input. `Bind` if the system has none to give, `OutOfMemory`.
     pub fn new(net: &impl Net, alloc: Global) -> Result<Waits, RunFault>
         ensures quiet { IfOk result (λ waits. waits.quiet ≡ true) }
         ensures unread { IfOk result (λ waits. waits.unread ≡ false) }
@@ -93,12 +91,12 @@ impl Waits {
         })
     }
 
-    /// What sources report to.
+    /// Returns the registry for sources.
     pub fn registry(&self) -> &Registry {
         self.poll.registry()
     }
 
-    /// Lets a wait end where a source brings something, and, of one that is written to, where it takes something again.
+    /// Ends a wait if a source has input, or, for one that is written to, if it accepts bytes again.
     pub fn report<S: Source>(&self, source: &mut S, is_written: bool)
         ensures kept { S.keeps source.old source.new ⊎ (source.new ≡ source.old) }
     {
@@ -111,25 +109,25 @@ impl Waits {
         let _ = self.poll.registry().register(source, Token(0), interests);
     }
 
-    /// Watches a descriptor that is written to: a wait ends where nobody reads it any more.
+    /// Watches a descriptor that is written to: a wait ends if nobody reads it any more.
     pub fn watch(&mut self, descriptor: RawFd)
         ensures same { self.new ≡ self.old }
     {
-        // What can't be watched, as a file, is never without a reader.
+        // A descriptor that can't be watched, such as a file, always counts as read.
         let _ = self
             .poll
             .registry()
             .register(&mut SourceFd(&descriptor), WATCHED, Interest::PRIORITY);
     }
 
-    /// Whether nobody reads the descriptor any more that is watched.
+    /// Returns true if nobody reads the watched descriptor any more.
     pub fn is_unread(&self) -> bool
         ensures unread { result ≡ self.now.unread }
     {
         self.unread
     }
 
-    /// Whether nothing came since the last wait.
+    /// Returns true if no input arrived since the last wait.
     pub fn is_quiet(&self) -> bool
         ensures quiet { result ≡ self.now.quiet }
     {
@@ -143,7 +141,7 @@ impl Waits {
         self.quiet = false;
     }
 
-    /// Waits until something comes, so many milliseconds at most, where nothing came since the last call.
+    /// Waits for input, at most so many milliseconds, unless some arrived since the last call.
     pub fn rest(&mut self, longest: u64)
         ensures quiet { self.new.quiet ≡ true }
         ensures unread { self.new.unread ≡ (self.old.unread || (self.old.quiet && tell_of_no_reader (items self.new.events))) }
