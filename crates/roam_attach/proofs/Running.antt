@@ -1,4 +1,4 @@
--- What turns take of the acts that wait.
+-- The waiting acts that turns take.
 use Rattle.std.proofs.Common.{◌≡◌, ℕ, ◌+◌, ◌≤◌, ◌<◌, ◌-◌, arith, Bool, true, false, List, [], ◌∷◌, ◌++◌, length, drop, Option, Some, None, refl, sym, ap, subst, ◌∙◌, Result, Ok, Err, ◌⊎◌, inl, inr, append_assoc, append-nil, length-append}
 use Rattle.std.proofs.KnownBytes.{Consumes-nil, Consumes-trans}
 use Rattle.std.specs.Prelude.{IfOk, IfErr, IsErrAnd, IsTrue, ◌↔◌}
@@ -141,7 +141,7 @@ takes_first to known mid new o o' o'' client client' (Some act) turn tells waits
       counts = refl;
     }
 
--- what a turn was handed
+-- ---- the act offered to a turn
 pub handed_still : (next : Option Act) (waiting : List Act) → ((act : Act) → next ≡ Some act → (rest : List Act) × (waiting ≡ act ∷ rest))
     → (next ≡ None → waiting ≡ []) → IsHanded next false waiting
 handed_still None waiting some none = none refl
@@ -186,7 +186,7 @@ module _ (to to' : Addr) (before between after : Option (List ℕ)) (old mid new
   ends_well (Ok a) Gone all since moment noted one over = (m + 1, noted, more_runs (last noted) one, inr (inl (since, over)))
   ends_well (Err e) Gone all since moment noted one over = tt
 
-  -- the same where the server has ended
+  -- the same after the server has ended
   pub ends_with_server : {A : Type 0} (r : Result A RunFault) (Gone : Type 0) (all moment : ℕ) (noted : Option Noted)
       → RunsOn to between after mid new o' (last noted) client' client'' 1 → Gone
       → IfOk r (λ _. (turns : ℕ) × (noted : Option Noted) × RunsOn to' before after old new o (last noted) client client'' turns
@@ -215,7 +215,7 @@ module _ (to to' : Addr) (before between after : Option (List ℕ)) (old mid new
         (runs_both to before between after old mid new o o' (last noted) client client' client'' m 0 so_far none),
   )
 
--- ---- what a run tells
+-- ---- the result of a run
 
 -- the line that is no act has a number, from 1
 numbered : (lines : ActLines) (first : List Act) (log : List ℕ) (taken : List Act) (k : ℕ) → Stands lines first log taken
@@ -260,7 +260,7 @@ not_passed lines client since moment is_late never when pending =
     let short : 1000 ≤ moment - since → ⊥ = λ long. let late = when.1 long in cc in
     (since, refl, omega (arith, short), pending)
 
--- what a terminal is known by after a silence was told there, or none
+-- the known screen of a terminal after a notice of silence, or none
 pub still_known : {R W : Type 0} (contents : W → Option (List ℕ)) (noted : Option Noted) (old new : ClientPorts R W)
     → (new ≡ old) ⊎ ((seconds : ℕ) × (due_of old.silence ≡ Some seconds) × (new.silence.told ≡ Some seconds)
     × Appends (contents old.outer) (contents new.outer) (notice_of seconds))

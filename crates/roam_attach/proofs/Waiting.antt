@@ -2,7 +2,7 @@
 use Rattle.std.proofs.Common.{◌≡◌, ℕ, Bool, true, false, Option, None, Some}
 use Rattle.std.specs.Prelude.{◌≢◌, IfSome}
 
--- where it waited, it was as long as was asked for, and a wait was asked for
+-- a wait lasted as long as was asked for, and a wait was asked for
 pub waits_no_longer : (longest asked : ℕ) (quiet : Bool) (waited : Option ℕ) (Went : Type 0)
     → IfSome waited (λ long. (quiet ≡ true) × (long ≡ asked) × Went) → (longest ≡ 0 → quiet ≡ false)
     → IfSome waited (λ long. (longest ≢ 0) × (long ≡ asked))

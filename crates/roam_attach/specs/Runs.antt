@@ -1,4 +1,4 @@
--- What a run of a client start types: the acts that its turns take.
+-- The acts that a run of a client start types: those that its turns take.
 use Rattle.std.specs.Prelude.{◌≡◌, ℕ, ◌-◌, ◌≤◌, Bool, true, false, List, [], ◌∷◌, ◌++◌, length, Option, Some, None}
 use Rattle.std.specs.Io.KnownBytes.{Appends, Consumes}
 use Rattle.roam_acts.specs.declared.acts.Act.{Act}
@@ -20,7 +20,7 @@ use Rattle.roam_terminal_input.specs.declared.typing.Stream.{Stream}
 use Rattle.roam_terminal_input.specs.declared.typing.Stream.TheVariants.{Absent, Open, Ended, Spoiled, SpoiledLast}
 use Rattle.roam_terminal_input.specs.Typing.{Stands}
 
--- where a server is reached: at a port of this machine, or at the other end of a stream
+-- the address of a server: a port of this machine, or the other end of a stream
 abbrev pub home_of : Home → Addr
 home_of (Port port) = record { host = 127 ∷ 0 ∷ 0 ∷ 1 ∷ []; port = port }
 home_of (Folder folder) = record { host = 0 ∷ 0 ∷ 0 ∷ 0 ∷ []; port = 0 }
@@ -46,13 +46,13 @@ abbrev pub taken_in : List Turn → List Act
 taken_in [] = []
 taken_in (turn ∷ turns) = taken_of turn.next turn.took ++ taken_in turns
 
--- A turn was handed nothing only where no act waits after it, and an act that it didn't take waits first.
+-- A turn was offered no act only if none waits after it. An act that it didn't take is the next one.
 abbrev pub IsHanded : Option Act → Bool → List Act → Type 0
 IsHanded None took waiting = waiting ≡ []
 IsHanded (Some act) true waiting = Unit {0}
 IsHanded (Some act) false waiting = (rest : List Act) × (waiting ≡ act ∷ rest)
 
--- what is noted of an outer terminal, what was written to it, where that is known, and for how many seconds of silence is told there
+-- the noted screen of an outer terminal, the bytes written to it if they are known, and the seconds of silence that it shows
 pub record Painted : Type 0 where
   pub noted : Option Noted
   pub written : Option (List ℕ)
@@ -61,8 +61,8 @@ pub record Painted : Type 0 where
 abbrev pub painted_by : {R W : Type 0} → (W → Option (List ℕ)) → Option Noted → ClientPorts R W → Painted
 painted_by contents noted ports = record { noted = noted; written = contents ports.outer; notice = ports.silence.told }
 
--- A client start took such a turn with its outer terminal: what was written leads it from what was noted to what is noted then, and what is
--- told of silence stays.
+-- A client start took such a turn with its outer terminal. The written bytes lead the terminal from the old noted screen to the new one,
+-- and the notice of silence stays.
 pub record TakesTurn (to : Addr) (turn : Turn) (outer outer' : Painted) (old new : ClientView) : Type 0 where
   pub makes : Makes client_step
       (AttachTurn new.kept.receiver.newest.number new.kept.receiver.newest.state outer.noted outer'.noted to turn.next turn.took)
@@ -70,8 +70,8 @@ pub record TakesTurn (to : Addr) (turn : Turn) (outer outer' : Painted) (old new
   pub led : Led outer.noted outer.written outer'.noted outer'.written
   pub notice : outer'.notice ≡ outer.notice
 
--- Between two turns a silence was told over what the terminal shows, or not; where one that is told is over, or not all of it was taken,
--- nothing is noted of the terminal any more.
+-- Between two turns a notice of silence was shown over the terminal's screen, or none was. If the silence is over, or not every byte was
+-- taken, no screen is noted any more.
 pub data Tells (outer outer' : Painted) : Type 0 where
   quiet : outer' ≡ outer → Tells outer outer'
   told : (seconds : ℕ) → outer'.noted ≡ outer.noted → outer'.notice ≡ Some seconds
@@ -85,8 +85,8 @@ TakesTurns to (turn ∷ turns) outer outer' old new =
     (painted told : Painted) × (mid : ClientView) × TakesTurn to turn outer painted old mid × Tells painted told
     × TakesTurns to turns told outer' mid new
 
--- So many turns were taken while these bytes of a stream were read: whatever was before, the acts that the turns took are the next ones, in
--- order and each once.
+-- So many turns were taken while these bytes of a stream were read. Whatever came before, the turns took the next acts, in order, each
+-- once.
 pub record RunsOn (to : Addr) (before after : Option (List ℕ)) (old new : ActLines) (outer outer' : Painted) (client client' : ClientView)
     (count : ℕ) : Type 0 where
   pub bytes : List ℕ
@@ -114,11 +114,11 @@ seen_at Open since moment = since
 seen_at (Spoiled number) since moment = since
 seen_at (SpoiledLast number) since moment = since
 
--- how long a start waits at the end of its stream for what it typed to be acknowledged, in milliseconds
+-- the milliseconds that a start waits at the end of its stream for acknowledgements of its acts
 abbrev pub longest_end : ℕ
 longest_end = 1000
 
--- A run whose stream is at its end is over: all of its acts were taken and are acknowledged; or that end was seen a second ago.
+-- A run whose stream has ended is over if all its acts were taken and acknowledged, or a second after the end was seen.
 pub data IsOver (lines : ActLines) (client : ClientView) (since moment : ℕ) : Type 0 where
   settled : lines.stream ≡ Ended → lines.waiting.items ≡ [] → IsSettled client → IsOver lines client since moment
   late : lines.stream ≡ Ended → longest_end ≤ moment - since → IsOver lines client since moment

@@ -12,12 +12,12 @@ use Rattle.roam_attach.specs.declared.attaching.Home.TheVariants.{Port, Folder}
 use Rattle.roam_attach.specs.declared.connecting.Way.{Way}
 use Rattle.roam_attach.specs.declared.connecting.Way.TheVariants.{Udp, Stream}
 
--- the server has ended, where that is seen: a stream to it is over
+-- the server is seen to have ended: a stream to it is closed
 abbrev pub has_ended : Way → Bool
 has_ended (Udp udp) = false
 has_ended (Stream carrier) = carrier.over
 
--- where a datagram may come from: by UDP from no address of a stream, over a stream from its other end
+-- the allowed senders: over UDP any address but a stream's, over a stream its other end
 abbrev pub IsFrom : Way → Addr → Type 0
 IsFrom (Udp udp) from = number_of from ≡ None
 IsFrom (Stream carrier) from = from ≡ record { host = 0 ∷ 0 ∷ 0 ∷ 0 ∷ []; port = 0 }
@@ -51,15 +51,15 @@ abbrev pub IsWayTo : Home → Way → Type 0
 IsWayTo (Port port) way = IsFreshUdp way
 IsWayTo (Folder folder) way = IsFreshStream way
 
--- what waits to go is as it was
+-- the queued bytes are unchanged
 abbrev pub StillWaits : Way → Way → Type 0
 StillWaits (Udp old) (Udp new) = new.paced.lanes ≡ old.paced.lanes
 StillWaits (Udp old) (Stream new) = ⊥
 StillWaits (Stream old) (Udp new) = ⊥
 StillWaits (Stream old) (Stream new) = new.queue ≡ old.queue
 
--- A datagram was handed to a way at a moment: by UDP its lane took it; over a stream it was queued, or it was lost as its instruction
--- is, or the stream is over.
+-- A datagram was given to a way at a moment. Over UDP its lane took it. Over a stream it was queued, or lost with its instruction, or the
+-- stream is closed.
 abbrev pub Sends : ℕ → Addr → Way → Way → List ℕ → Bool → Type 0
 Sends now to (Udp old) (Udp new) datagram went = SendsTo now to old.paced.lanes.items new.paced.lanes.items datagram went None None
 Sends now to (Udp old) (Stream new) datagram went = ⊥
@@ -68,7 +68,7 @@ Sends now to (Stream old) (Stream new) datagram went =
     (went ≡ true → IsQueued old.queue datagram new.queue)
     × (went ≡ false → IsLost old.queue new.queue ⊎ ((old.over ≡ true) × (new ≡ old)))
 
--- what waited went at a moment, as much as may: by UDP of each lane, over a stream from the front on, as much as goes or some of it
+-- the queued bytes went at a moment, as many as may: over UDP of each lane, over a stream from the front, as many as go or some of them
 abbrev pub Goes : AnswersOf UnixStream → ℕ → Way → Way → Type 0
 Goes answers now (Udp old) (Udp new) = (are_all : Bool) × Flushes now old.paced.lanes.items new.paced.lanes.items None None are_all
 Goes answers now (Udp old) (Stream new) = ⊥

@@ -7,14 +7,14 @@ use std::io;
 use std::io::{ErrorKind, Read, Write};
 use std::time::Clock;
 
-/// A terminal has so many milliseconds for its first whole line: whoever connects and says nothing takes nobody's place for long.
+/// The milliseconds that a terminal has for its first whole line. A silent connection keeps its place for no longer.
 const FIRST_LINE: u64 = 10_000;
 
-/// The stream of an outer terminal, which ends if its first line isn't whole after ten seconds. What it carries isn't told.
+/// The stream of an outer terminal, which ends if its first line isn't whole after ten seconds. It doesn't record its bytes.
 #[derive(Drop)]
 pub(crate) struct Arrival<C> {
     stream: UnixStream,
-    // The moments since the first look at what came; none once the first line was whole.
+    // The moments since the first look at its bytes; `None` once the first line was whole.
     waiting: Option<Moments<C>>,
 }
 
@@ -28,7 +28,7 @@ impl<C: Clock + Drop> Arrival<C> {
     }
 }
 
-// Whether a line ends among the first bytes.
+// Returns true if a line ends among the first bytes.
 fn has_line(buf: &[u8], count: usize) -> bool {
     match buf.get(..count) {
         None => false,
@@ -36,7 +36,7 @@ fn has_line(buf: &[u8], count: usize) -> bool {
     }
 }
 
-// What a read brought, or the end of the stream where nothing came in time.
+// Returns the result of a read, or the end of the stream if no line arrived in time.
 fn in_time<C: Clock + Drop>(
     waiting: &mut Option<Moments<C>>,
     came: io::Result<usize>,

@@ -47,7 +47,8 @@ pub enum Typed<'a> {
     /// From the Unix socket at this path, to which the start connects at its beginning: one a line, as they come.
     Socket(&'a str),
 
-    /// From the outer terminals that connect to the Unix socket at this path, which the start binds; each is painted what is shown.
+    /// From the outer terminals that connect to the Unix socket at this path, which the start binds. Each is painted with the start's
+    /// screen.
     Terminals(&'a str),
 }
 
@@ -61,24 +62,24 @@ pub enum Home<'a> {
     Folder(&'a str),
 }
 
-/// What `roam attach` is asked for.
+/// The arguments of `roam attach`.
 #[derive(Clone, Copy, Debug, PartialEq, Eq)]
 pub struct Attach<'a> {
     /// Where the server is reached.
     pub home: Home<'a>,
-    /// The session's id; where it isn't given, that of the file `session` in the server's folder.
+    /// The session's id; `None` asks for the id in the file `session` of the server's folder.
     pub session: Option<u64>,
-    /// The id of this client start; where it isn't given, one by chance.
+    /// The id of this client start; `None` asks for a random one.
     pub client: Option<u64>,
     /// Where the acts to type come from.
     pub typed: Typed<'a>,
     /// The version that this client start speaks.
     pub version: Version,
-    /// Whether it only watches, in version 2: then no act is typed, whatever `typed` says.
+    /// True if the start is read-only, in version 2. It then types no act, whatever `typed` says.
     pub watches: bool,
     /// How many turns the run takes.
     pub turns: u64,
-    /// The descriptor to which what is painted goes, where there is one: the run ends where nobody reads there any more.
+    /// The descriptor for the painted bytes, if there is one. The run ends if nobody reads there any more.
     pub painted_to: Option<RawFd>,
 }
 
@@ -97,7 +98,7 @@ fn acts_in<R: Files + AllocGlobal>(rt: &R, path: &str) -> Result<Vec<Act>, RunFa
     }
 }
 
-// The acts to type that are there from the beginning: none where the start only watches, or where there is no file.
+// Returns the acts that are there from the beginning: none if the start is read-only, or there is no file.
 fn acts_for<R: Files + AllocGlobal>(rt: &R, attach: &Attach<'_>) -> Result<Vec<Act>, RunFault>
     ensures faults { IfErr result (λ fault. (fault ≡ RunFault.Core Fault.OutOfMemory) ⊎ (fault ≡ RunFault.Read)
         ⊎ ((k : ℕ) × (fault ≡ RunFault.Act (k + 1)))) }
@@ -156,8 +157,8 @@ fn id_for(chance: &impl RandomSource, attach: &Attach<'_>) -> Result<u64, RunFau
     }
 }
 
-/// A client start as it is asked for: of its session and id, where these are given, else of the session of the folder and an id by chance;
-/// of its version; one that only watches where that is asked for in version 2. `Read` where the session's file has no id, `OutOfMemory`.
+/// Returns a client start with its session and id as given, else with the folder's session and a random id. It has the version asked for,
+/// and is read-only if that is asked for in version 2. `Read` if the session's file has no id, `OutOfMemory`.
 pub fn client_for<R: Files + RandomSource + AllocGlobal>(
     rt: &R,
     attach: &Attach<'_>,
@@ -179,7 +180,7 @@ pub fn client_for<R: Files + RandomSource + AllocGlobal>(
     Ok(client)
 }
 
-// Tells of a silence, where one is to be told; where what the outer terminal shows isn't known then, nothing is noted of it any more.
+// Shows a silence if that is due. If the outer terminal's screen is unknown then, none is noted any more.
 fn tell<C: Clock + Drop, W: Write + Drop>(
     alloc: Global,
     shown: &mut Outer,
@@ -193,8 +194,8 @@ fn tell<C: Clock + Drop, W: Write + Drop>(
     }
 }
 
-// The act that waits next is handed to a turn of a start, where one waits; where nothing is taken the program rests; and a silence is told.
-// `Act` where none waits and the next line is no act, `OutOfMemory`.
+// Offers the next act to a turn of a start, if one waits; rests if none is taken; and shows a silence. `Act` if no act waits and the next
+// line is no act, `OutOfMemory`.
 fn type_turn<C: Clock + Drop, W: Write + Drop, T: Read>(
     alloc: Global,
     typist: &mut Typist<T>,
@@ -233,7 +234,7 @@ fn type_turn<C: Clock + Drop, W: Write + Drop, T: Read>(
     Ok(())
 }
 
-// Whether no act waits, and each that was taken is acknowledged.
+// Returns true if no act waits and each act that was taken is acknowledged.
 fn is_done<T: Read>(typist: &Typist<T>, client: &Client) -> bool
     ensures done { result ≡ true → (typist.now.lines.waiting.items ≡ []) × IsSettled client.now }
     ensures pending { result ≡ false → IsPending typist.now.lines client.now }
@@ -244,7 +245,7 @@ fn is_done<T: Read>(typist: &Typist<T>, client: &Client) -> bool
     }
 }
 
-// Whether a run whose stream is at its end is over; `since` notes when that was seen.
+// Returns true if a run whose stream has ended is over; `since` notes the time at which the end was seen.
 fn is_over<C: Clock + Drop, W: Write + Drop, T: Read>(
     typist: &Typist<T>,
     client: &Client,
@@ -281,10 +282,9 @@ fn ended<C: Clock + Drop, W: Write + Drop>(ports: &ClientPorts<C, W>) -> Result<
     Ok(ports.end())
 }
 
-/// Takes the turns of a start that types what comes over a stream, and waits where one brought nothing. Answers what was heard of the
-/// server in the end. `Write` where nobody reads what is painted any more, where showing it has failed for half a second, and where the
-/// outer terminal took not all of what was last shown; `Act` at a line of the stream that is no act, once all acts before it were taken;
-/// `OutOfMemory`.
+/// Takes the turns of a start that types the acts of a stream, and waits after a turn without input. Returns what was heard of the server
+/// at the end. `Write` if nobody reads the painted bytes any more, if showing them has failed for half a second, or if the outer terminal
+/// didn't take the last screen. `Act` at a line of the stream that is no act, once all acts before it were taken; `OutOfMemory`.
 pub fn follow<C: Clock + Drop, W: Write + Drop, T: Read>(
     alloc: Global,
     attach: &Attach<'_>,
@@ -304,7 +304,7 @@ pub fn follow<C: Clock + Drop, W: Write + Drop, T: Read>(
     ensures faults { IfErr result (λ fault. (fault ≡ RunFault.Core Fault.OutOfMemory) ⊎ (fault ≡ RunFault.Write)
         ⊎ ((k : ℕ) × (fault ≡ RunFault.Act k)
         × (refused_at typist.new.lines.stream typist.new.lines.waiting.items ≡ Some k))) }
-    // It is broken off by what can't be shown only where that failed last, or nobody reads it any more.
+    // Failed painting ends the run only if the last one failed, or nobody reads it any more.
     ensures written { result ≡ Err RunFault.Write
         → (is_some ports.new.failing ≡ true) ⊎ (ports.new.connection.waits.unread ≡ true) }
     ensures broken_off { IfErr result (λ fault. (fault ≡ RunFault.Core Fault.OutOfMemory) ⊎ ((turns : ℕ) × (noted : Option Noted)
@@ -425,22 +425,20 @@ fn follow_terminals<R: Files + Net + Clock + RandomSource + AllocGlobal>(
     )
 }
 
-/// Follows a session and types acts, one a turn where it is taken: it takes the turns, waiting where one brought nothing, paints what the
-/// start shows, and tells of a silence of ten seconds and more over the last row of the outer terminal. Answers what was heard of the
-/// server in the end.
+/// Follows a session and types acts, at most one a turn. It takes the turns, waits after one without input, and paints the start's screen.
+/// It shows a silence of ten seconds or more over the last row of the outer terminal. Returns what was heard of the server at the end.
 ///
-/// The acts of a file are read first: `Read` where it can't be, `Act` where a line of it is no act. To a socket it connects first: `Read`
-/// where it can't. Its lines are read as they come, in any pieces, and no more of them while an act that came waits to be taken; each is
-/// ended by LF but maybe the last. A line that is no act, or has more than 64 bytes, is `Act` once all acts before it were taken. Where the
-/// stream is at its end, or reading it fails, the run ends as soon as all acts were taken and are acknowledged, or after a second.
+/// It reads the acts of a file first: `Read` if it can't, `Act` if a line of it is no act. It connects to a socket first: `Read` if it
+/// can't. It then reads lines as they arrive, cut in any way, and stops reading while an act waits. LF ends each line but perhaps the last.
+/// A line that is no act, or has more than 64 bytes, is `Act` once all acts before it were taken. After the stream ends or fails, the run
+/// ends once all acts were taken and acknowledged, or after a second.
 ///
-/// Where outer terminals come to a socket, that socket is bound, and its file removed in the end; the run goes on until the server has
-/// ended, one of them asks for the end, or all turns are taken (`roam_shared_client` says what a terminal may write and what it is
-/// painted).
+/// For outer terminals it binds the socket, and removes its file at the end. The run goes on until the server has ended, a terminal asks
+/// for the end, or all turns are taken. `roam_shared_client` has the lines of a terminal and the bytes that it gets.
 ///
-/// `Bind` where no port or socket can be bound, `Connect` where nobody listens in the server's folder, `Read` where its file `session` has
-/// no id and none was given, `Write` where nobody reads what is painted any more, showing it has failed for half a second, or the
-/// outer terminal took not all of what was last shown; `OutOfMemory`.
+/// `Bind` if no port or socket can be bound, `Connect` if nobody listens in the server's folder. `Read` if its file `session` has no id and
+/// none was given. `Write` if nobody reads the painted bytes any more, if showing them has failed for half a second, or if the outer
+/// terminal didn't take the last screen. `OutOfMemory`.
 pub fn run_attach<R: Files + Net + Clock + RandomSource + AllocGlobal, W: Write + Drop>(
     rt: &R,
     attach: &Attach<'_>,

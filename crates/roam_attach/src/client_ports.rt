@@ -1,4 +1,4 @@
-//! The ports of a client start over sockets. What they carried isn't told.
+//! The ports of a client start over sockets. They don't record their calls.
 ghost use Rattle.std.specs.Prelude.{◌≡◌, ◌⊎◌, ◌↔◌, IsTrue, ◌-◌, ◌≤◌, [], ◌∷◌, ℕ, true, false, length, is_some, None, Some, IfOk, IfSome, IsSome, IfErr};
 ghost use Rattle.std.specs.Io.KnownBytes.{Appends, Keeps};
 ghost use Rattle.roam_outer_terminal.specs.Silence.{due_of, is_over, end_of, notice_of};
@@ -20,8 +20,8 @@ use std::time::Clock;
 /// How many milliseconds of failing are enough.
 const HALF_SECOND: u64 = 500;
 
-/// The ports of a client start: its connection, and where the outer terminal's bytes go. They know when something was heard last, and since
-/// when showing fails.
+/// The ports of a client start: its connection, and the writer of the outer terminal's bytes. They know when the server was heard last, and
+/// since when showing fails.
 #[derive(Drop)]
 pub struct ClientPorts<R, W> {
     connection: Connection<R>,
@@ -48,7 +48,7 @@ impl<R: Clock + Drop, W: Write + Drop> ClientPorts<R, W> {
         }
     }
 
-    /// Whether the server has ended, where that is seen: a stream to it is over.
+    /// Returns true if the server is seen to have ended: a stream to it is closed.
     pub fn has_ended(&self) -> bool
         ensures ended { result ≡ has_ended self.now.connection.way }
     {
@@ -62,14 +62,14 @@ impl<R: Clock + Drop, W: Write + Drop> ClientPorts<R, W> {
         self.connection.set_moment(moment);
     }
 
-    /// Whether the outer terminal took not all of what was last shown.
+    /// Returns true if the outer terminal didn't take all of the last screen.
     pub fn has_failed(&self) -> bool
         ensures failed { result ≡ is_some self.now.failing }
     {
         self.failing.is_some()
     }
 
-    /// Whether it took not all of anything that was shown in the last half second.
+    /// Returns true if it took no screen whole in the last half second.
     pub fn has_given_up(&self) -> bool
         ensures given_up { result ≡ has_given_up self.now.silence self.now.failing }
     {
@@ -79,14 +79,14 @@ impl<R: Clock + Drop, W: Write + Drop> ClientPorts<R, W> {
         }
     }
 
-    /// What was heard, where this is the end.
+    /// Returns what was heard if the start ends now.
     pub fn end(&self) -> End
         ensures end { result ≡ end_of self.now.silence }
     {
         self.silence.end()
     }
 
-    /// Lets a wait end where something comes over a stream.
+    /// Lets input of a stream end a wait.
     pub fn watch_stream(&self, stream: &mut UnixStream)
         ensures same { stream.new ≡ stream.old }
     {
@@ -100,25 +100,25 @@ impl<R: Clock + Drop, W: Write + Drop> ClientPorts<R, W> {
         self.silence.moment()
     }
 
-    /// Whether so many milliseconds have passed since a moment.
+    /// Returns true if so many milliseconds have passed since a moment.
     pub fn has_passed(&self, since: u64, long: u64) -> bool
         ensures passed { IsTrue result ↔ long ≤ self.now.silence.moment - since }
     {
         self.silence.has_passed(since, long)
     }
 
-    /// Whether nobody reads the descriptor any more that is watched.
+    /// Returns true if nobody reads the watched descriptor any more.
     pub fn is_unread(&self) -> bool
         ensures unread { result ≡ self.now.connection.waits.unread }
     {
         self.connection.is_unread()
     }
 
-    /// Sends what waits to go, and waits until something comes, ten milliseconds at most, where nothing came since the last call.
+    /// Sends queued bytes, and waits for input, at most ten milliseconds, unless some arrived since the last call.
     pub fn rest(&mut self)
         ensures quiet { self.new.connection.waits.quiet ≡ true }
         ensures waited { IfSome self.new.connection.waits.longest (λ long. (self.old.connection.waits.quiet ≡ true) × (long ≡ SHORT_WAIT)) }
-        // It waits where nothing came, but where more goes at once.
+        // It waits if no input arrived, unless more bytes can go at once.
         ensures busy { self.old.connection.waits.quiet ≡ true → self.new.connection.waits.longest ≡ None
             → MoreGoes ⟦<UnixStream as Stream>⟧.answers self.old.connection.way self.new.connection.way }
         ensures goes { Goes ⟦<UnixStream as Stream>⟧.answers self.old.connection.moment self.old.connection.way self.new.connection.way }
@@ -129,7 +129,7 @@ impl<R: Clock + Drop, W: Write + Drop> ClientPorts<R, W> {
         self.connection.rest(SHORT_WAIT);
     }
 
-    /// Sends what waits to go, as much as goes now, and doesn't wait.
+    /// Sends queued bytes, as many as go now, and doesn't wait.
     pub fn flush(&mut self)
         ensures goes { Goes ⟦<UnixStream as Stream>⟧.answers self.old.connection.moment self.old.connection.way self.new.connection.way }
         ensures others { self.new ≡ record self.old { connection = self.new.connection } }
@@ -144,12 +144,12 @@ impl<R: Clock + Drop, W: Write + Drop> ClientPorts<R, W> {
         ensures over { is_over self.old.silence ≡ true → result ≡ true }
         ensures quiet { is_over self.old.silence ≡ false → due_of self.old.silence ≡ None → (result ≡ false) × (self.new ≡ self.old) }
         ensures unknown { result ≡ true → self.new.silence.told ≡ None }
-        // What is told isn't forgotten while the terminal shows it.
+        // A notice isn't forgotten while the terminal shows it.
         ensures stays { result ≡ false → IfSome self.old.silence.told (λ _. IsSome self.new.silence.told) }
         ensures told { IfSome self.new.silence.told (λ seconds. (self.old.silence.told ≡ Some seconds)
             ⊎ ((due_of self.old.silence ≡ Some seconds)
             × Appends (W.contents self.old.outer) (W.contents self.new.outer) (notice_of seconds))) }
-        // Where the terminal is still known, nothing was written, or this silence is told over what it shows.
+        // If the terminal is still known, nothing was written, or this silence is shown over its screen.
         ensures known { result ≡ false → (self.new ≡ self.old) ⊎ ((seconds : ℕ) × (due_of self.old.silence ≡ Some seconds)
             × (self.new.silence.told ≡ Some seconds)
             × Appends (W.contents self.old.outer) (W.contents self.new.outer) (notice_of seconds)) }
@@ -165,10 +165,10 @@ impl<R: Clock + Drop, W: Write + Drop> ClientPorts<R, W> {
         }
     }
 
-    // Tells of so many seconds, where there is memory. Whether not all of it was taken.
+    // Shows so many seconds of silence, if there is memory. Returns true if not all of it was taken.
     fn tell(&mut self, alloc: Global, seconds: u64) -> bool
         ensures unknown { result ≡ true → self.new.silence.told ≡ None }
-        // What is told isn't forgotten while the terminal shows it.
+        // A notice isn't forgotten while the terminal shows it.
         ensures stays { result ≡ false → IfSome self.old.silence.told (λ _. IsSome self.new.silence.told) }
         ensures told { IfSome self.new.silence.told (λ told. (self.old.silence.told ≡ Some told)
             ⊎ ((told ≡ seconds) × Appends (W.contents self.old.outer) (W.contents self.new.outer) (notice_of seconds))) }
@@ -257,7 +257,7 @@ impl<R: Clock + Drop, W: Write + Drop> Ports for ClientPorts<R, W> {
         0
     }
 
-    // Where the terminal tells of a silence, it doesn't show what is noted of it: nothing is written then, and it is painted anew.
+    // A terminal with a notice of silence doesn't show its noted screen. Nothing is written then, and the terminal is painted anew.
     fn show(&mut self, bytes: &[u8]) -> bool
         ensures covered { is_some self.old.silence.told ≡ true → (result ≡ false) × (self.new ≡ self.old) }
         ensures failing { self.old.silence.told ≡ None
@@ -269,7 +269,7 @@ impl<R: Clock + Drop, W: Write + Drop> Ports for ClientPorts<R, W> {
     }
 }
 
-// Since when writing fails, where it does.
+// Returns the moment since which writing fails; `None` if it doesn't.
 fn failing_after(failing: Option<u64>, written: bool, now: u64) -> Option<u64>
     ensures since { result ≡ failing_after failing written now }
 {

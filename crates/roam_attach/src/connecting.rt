@@ -1,4 +1,4 @@
-//! The way of a client start to its server, the clock and the wait. What they carried isn't told.
+//! The way of a client start to its server, the clock and the wait. They don't record their bytes.
 ghost use Rattle.std.specs.Prelude.{◌≡◌, ◌⊎◌, ◌≤◌, ℕ, true, false, length, None, Some, IfOk, IfSome, IfErr};
 ghost use Rattle.roam_attach.specs.Ways.{AllWent, Goes, IsFreshStream, IsFreshUdp, IsFrom, MoreGoes, Sends, StillWaits, has_ended};
 
@@ -29,7 +29,7 @@ pub(crate) const OTHER_END: Addr = Addr {
 };
 
 impl Way {
-    // A datagram that came: from where, and how many bytes of `buf` it fills from the front.
+    // Returns the next datagram's sender, and how many bytes of `buf` it fills from the front.
     fn receive(&mut self, buf: &mut [u8]) -> Option<(Addr, usize)>
         ensures within { IfSome result (λ r. r.1 ≤ length buf.new) }
         ensures from { IfSome result (λ r. IsFrom self.old r.0) }
@@ -44,7 +44,7 @@ impl Way {
         }
     }
 
-    // Sends a datagram at a moment, and tells whether it went or waits to go.
+    // Sends a datagram at a moment, and returns true if it went or is queued.
     fn send(&mut self, to: Addr, bytes: &[u8], now: u64) -> bool
         ensures sends { Sends now to self.old self.new bytes.now result }
     {
@@ -54,7 +54,7 @@ impl Way {
         }
     }
 
-    // Sends what waits, as much as goes now, and tells whether that was all that goes at this moment.
+    // Sends queued bytes, as many as go now, and returns true if that was all that goes at this moment.
     fn flush(&mut self, now: u64) -> bool
         ensures all { result ≡ true → AllWent ⟦<UnixStream as Stream>⟧.answers self.old self.new }
         ensures more { result ≡ false → MoreGoes ⟦<UnixStream as Stream>⟧.answers self.old self.new }
@@ -66,7 +66,7 @@ impl Way {
         }
     }
 
-    // Whether the server has ended, where that is seen.
+    // Returns true if the server is seen to have ended.
     fn has_ended(&self) -> bool
         ensures ended { result ≡ has_ended self.now }
     {
@@ -87,7 +87,7 @@ pub struct Connection<R> {
 }
 
 impl<R: Clock + Drop> Connection<R> {
-    /// Binds a port of this machine that is free. `Bind` where none can be bound, `OutOfMemory`.
+    /// Binds a free port of this machine. `Bind` if none can be bound, `OutOfMemory`.
     pub fn bind<N: Net>(
         net: &N,
         alloc: Global,
@@ -108,8 +108,8 @@ impl<R: Clock + Drop> Connection<R> {
         })
     }
 
-    /// Connects to the socket for client starts in a server's folder. `Connect` where nobody listens there, `Bind` where the system has no
-    /// wait to offer, `OutOfMemory`.
+    /// Connects to the socket for client starts in a server's folder. `Connect` if nobody listens there, `Bind` if the system has no wait
+    /// to give, `OutOfMemory`.
     pub fn connect<N: Net>(
         net: &N,
         alloc: Global,
@@ -145,35 +145,35 @@ impl<R: Clock + Drop> Connection<R> {
         self.moments = Moments::Set(moment);
     }
 
-    /// The moment that was told last, in milliseconds.
+    /// Returns the last moment in milliseconds.
     pub fn moment(&self) -> u64
         ensures moment { result ≡ self.now.moment }
     {
         self.moment
     }
 
-    /// Whether the server has ended, where that is seen: a stream to it is over.
+    /// Returns true if the server is seen to have ended: a stream to it is closed.
     pub fn has_ended(&self) -> bool
         ensures ended { result ≡ has_ended self.now.way }
     {
         self.way.has_ended()
     }
 
-    /// Watches a descriptor that is written to: `is_unread` tells where nobody reads there any more.
+    /// Watches a descriptor that is written to: `is_unread` says whether nobody reads there any more.
     pub fn watch(&mut self, descriptor: RawFd)
         ensures same { self.new ≡ self.old }
     {
         self.waits.watch(descriptor);
     }
 
-    /// Whether nobody reads the descriptor any more that is watched.
+    /// Returns true if nobody reads the watched descriptor any more.
     pub fn is_unread(&self) -> bool
         ensures unread { result ≡ self.now.waits.unread }
     {
         self.waits.is_unread()
     }
 
-    /// Lets a wait end where a source brings something, and, of one that is written to, where it takes something again.
+    /// Ends a wait if a source has input, or, for one that is written to, if it accepts bytes again.
     pub fn report<S: Source>(&self, source: &mut S, is_written: bool)
         ensures kept { S.keeps source.old source.new ⊎ (source.new ≡ source.old) }
     {
@@ -187,12 +187,12 @@ impl<R: Clock + Drop> Connection<R> {
         self.waits.stir();
     }
 
-    /// Sends what waits to go, and waits until something comes, so many milliseconds at most, where nothing came since the last call.
+    /// Sends queued bytes, and waits for input, at most so many milliseconds, unless some arrived since the last call.
     pub fn rest(&mut self, longest: u64)
         ensures quiet { self.new.waits.quiet ≡ true }
         ensures waited { IfSome self.new.waits.longest (λ long. (self.old.waits.quiet ≡ true) × (long ≡ longest)
             × AllWent ⟦<UnixStream as Stream>⟧.answers self.old.way self.new.way) }
-        // It waits where nothing came, but where more goes at once.
+        // It waits if no input arrived, unless more bytes can go at once.
         ensures busy { self.old.waits.quiet ≡ true → self.new.waits.longest ≡ None
             → MoreGoes ⟦<UnixStream as Stream>⟧.answers self.old.way self.new.way }
         ensures goes { Goes ⟦<UnixStream as Stream>⟧.answers self.old.moment self.old.way self.new.way }
@@ -204,12 +204,12 @@ impl<R: Clock + Drop> Connection<R> {
         self.waits.rest(longest);
     }
 
-    /// Sends what waits to go, as much as goes now, and doesn't wait.
+    /// Sends queued bytes, as many as go now, and doesn't wait.
     pub fn flush(&mut self)
         ensures goes { Goes ⟦<UnixStream as Stream>⟧.answers self.old.moment self.old.way self.new.way }
         ensures others { self.new ≡ record self.old { way = self.new.way } }
     {
-        // What doesn't go now goes later.
+        // The other bytes go later.
         let _ = self.way.flush(self.moment);
     }
 }

@@ -47,7 +47,7 @@ struct Doorway<R> {
     waking: u32,
 }
 
-// Whether a datagram tells nothing new: it is whole, and its change is from a number to the same one.
+// Returns true if a datagram has no news: it is whole, and its change is from a number to the same one.
 fn is_heartbeat(datagram: &[u8]) -> bool {
     match (
         datagram.get(38..40),
@@ -100,7 +100,7 @@ impl<R: Clock + Drop> Doorway<R> {
         self.came.is_some()
     }
 
-    // Notes that the start wakes for a terminal: if the server has forgotten the start, what it shows may be old.
+    // Notes that the start wakes for a terminal: if the server has forgotten the start, its screen may be old.
     fn wake(&mut self)
         ensures others { self.new ≡ record self.old { waking = self.new.waking } }
     {
@@ -109,7 +109,7 @@ impl<R: Clock + Drop> Doorway<R> {
     }
 }
 
-// Whether a moment is before another one, if there is one.
+// Returns true if a moment is before another one, if there is one.
 fn is_before(now: u64, due: Option<u64>) -> bool {
     match due {
         None => false,
@@ -117,7 +117,7 @@ fn is_before(now: u64, due: Option<u64>) -> bool {
     }
 }
 
-// How many milliseconds until a moment, an hour where there is none or it has come.
+// Returns the milliseconds until a moment; an hour if there is none or it is past.
 fn until(due: Option<u64>, now: u64) -> u64 {
     match due {
         Some(due) if due > now => due - now,
@@ -177,7 +177,7 @@ impl<R: Clock + Drop> Ports for Doorway<R> {
 }
 
 impl<R: Clock + Copy + Drop> Door<Opaque<Arrival<R>>> for Doorway<R> {
-    // A socket reports once, so there is no wait where one came: others may be there.
+    // A socket reports once, so there is no wait after a terminal connected: others may be there.
     fn next(&mut self) -> Option<Opaque<Arrival<R>>>
         ensures stirs { IfSome result (λ _. self.new.connection.waits.quiet ≡ false) }
         ensures none { result ≡ None → self.new ≡ self.old }
@@ -202,7 +202,7 @@ impl<R: Clock + Copy + Drop> Door<Opaque<Arrival<R>>> for Doorway<R> {
         ensures waited { IfSome self.new.connection.waits.longest (λ long. (longest ≢ 0)
             × (long ≡ min longest (wait_until due self.old.connection.moment))) }
         ensures goes { Goes ⟦<UnixStream as Stream>⟧.answers self.old.connection.moment self.old.connection.way self.new.connection.way }
-        // It waits where nothing came, but where more goes at once.
+        // It waits if no input arrived, unless more bytes can go at once.
         ensures busy { longest ≢ 0 → self.old.connection.waits.quiet ≡ true → self.new.connection.waits.longest ≡ None
             → MoreGoes ⟦<UnixStream as Stream>⟧.answers self.old.connection.way self.new.connection.way }
     {
@@ -244,7 +244,7 @@ impl<R: Clock + Copy + Drop> Door<Opaque<Arrival<R>>> for Doorway<R> {
     }
 }
 
-/// Is the start of all outer terminals that connect to a socket, for so many rounds at most. `Bind` where the socket can't be bound.
+/// Runs the start of all outer terminals that connect to a socket, for at most so many rounds. `Bind` if the socket can't be bound.
 pub(crate) fn host<R: Files + Net, C: Clock + Copy + Drop>(
     rt: &R,
     alloc: Global,

@@ -1,4 +1,4 @@
-//! How a client start ended or what it failed at, in a line of its own for people.
+//! The messages about the end of a client start, each on a line of its own.
 use crate::attaching::{Attach, Home, Typed};
 use mio::net::UnixStream;
 use roam_faults::RunFault;
@@ -8,7 +8,7 @@ use std::fs::{self, Files};
 use std::io;
 use std::net::Net;
 
-// Tells what was refused at a path and why, and whether it was.
+// Prints the error at a path and its reason, and returns true if there was one.
 fn tell<R: Eprint>(rt: &R, fault: RunFault, path: &str, tried: io::Result<()>) -> bool {
     match tried {
         Ok(()) => false,
@@ -32,7 +32,7 @@ fn try_connect(net: &impl Net, path: &str) -> io::Result<()> {
     Ok(())
 }
 
-// Tells why what types can't be read, and whether it can't.
+// Prints the reason for which the typed acts can't be read, and returns true if they can't.
 fn tell_typed<R: Files + Net + Eprint + AllocGlobal>(rt: &R, attach: &Attach<'_>) -> bool {
     match attach.typed {
         _ if attach.watches => false,
@@ -42,7 +42,7 @@ fn tell_typed<R: Files + Net + Eprint + AllocGlobal>(rt: &R, attach: &Attach<'_>
     }
 }
 
-// Tells why the session's id can't be read of the server's folder.
+// Prints the reason for which the session's id can't be read from the server's folder.
 fn tell_session<R: Files + Eprint + AllocGlobal>(rt: &R, folder: &str) {
     let Ok(path) = format!(in rt.alloc(); "{folder}/session") else {
         return;
@@ -69,8 +69,8 @@ fn tell_clients<R: Net + Eprint + AllocGlobal>(rt: &R, folder: &str) {
     }
 }
 
-/// Tells on standard error at which file or socket `run_attach` failed, and why, where it answered `Bind`, `Connect` or `Read`: what it
-/// asks for is tried once more.
+/// Prints to standard error the file or socket at which `run_attach` failed, and the reason, after `Bind`, `Connect` or `Read`. It tries
+/// each once more.
 pub fn tell_failed<R: Files + Net + Eprint + AllocGlobal>(
     rt: &R,
     attach: &Attach<'_>,
@@ -92,7 +92,7 @@ pub fn tell_failed<R: Files + Net + Eprint + AllocGlobal>(
     }
 }
 
-/// Tells in brackets on standard error how a run ended that took all its turns, whose stream of acts was over, or whose server has ended.
+/// Prints to standard error, in brackets, how a run ended: it took all its turns, its stream of acts was over, or its server has ended.
 pub fn tell_end(rt: &impl Eprint, end: End) {
     // There is nowhere else to say it.
     let _ = eprintln!(rt; "[{end}]");

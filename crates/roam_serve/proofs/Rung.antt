@@ -1,4 +1,4 @@
--- Whether a bell rang, a pane more after the others.
+-- The count of bells, extended pane by pane.
 use Rattle.std.proofs.Common.{◌≡◌, ℕ, zero, suc, ◌+◌, ◌-◌, ◌≤◌, Bool, Option, sym, ap, ◌∙◌, arith}
 use Rattle.std.specs.Prelude.{◌||◌}
 use Rattle.roam_pane_protocol.specs.MetadataLists.{metadata_at}

@@ -18,7 +18,7 @@ turn_more n old mid new before turn =
     let e : n + 1 ≡ suc n = omega arith in
     subst (λ k. ServesTurns k old new) (sym e) (mid, before, turn)
 
--- a turn of ports that tell of their calls is one of ports that don't
+-- a turn of ports that record their calls is one of ports that don't
 pub untold : (t t' : Option (List PortCall)) (old new : ServerView) → Makes server_step ServeTurn t t' None None old new
     → Makes server_step ServeTurn None None None None old new
 untold t t' old new makes = record { calls = makes.calls; part = makes.part; tells = tt; makes = makes.makes; runs = makes.runs }

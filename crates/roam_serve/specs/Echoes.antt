@@ -8,7 +8,7 @@ use Rattle.roam_hub.specs.Waits.{PassesFrom}
 abbrev pub most_ahead : ℕ
 most_ahead = 20
 
--- what a program writes within so many milliseconds after its pane was typed in counts as an echo
+-- bytes that a program writes within this many milliseconds of its pane's input count as an echo
 abbrev pub echo_window : ℕ
 echo_window = 20
 
@@ -41,7 +41,7 @@ is_echo None count room clock = false
 is_echo (Some at) None room clock = false
 is_echo (Some at) (Some n) room clock = nat_lt 0 n && (nat_lt n room && nat_le clock (at + echo_window))
 
--- an echo has fewer full pieces than these: what a program writes in more is a repaint, which a number made early would cut
+-- An echo has fewer full pieces than this. More output is a repaint, and an early screen would cut it.
 abbrev pub most_pieces : ℕ
 most_pieces = 16
 
@@ -56,7 +56,7 @@ abbrev pub before_by : ℕ → Option ℕ → Option ℕ
 before_by pace None = None
 before_by pace (Some due) = Some (due - pace)
 
--- the moment that is aimed at behind a turn: that of a server's next number, if an echo came, and else the one that was aimed at before
+-- the moment of the next early screen: that of the server's next number after an echo, else the one before
 pub record AimsAt (server : ServerView) (echoed : Bool) (old new : Option ℕ) : Type 0 where
   pub number : Option ℕ
   pub due : PassesFrom number (makes_at server)

@@ -1,4 +1,4 @@
--- The panes of a server, as programs that follow them are told.
+-- The panes of a server, as subscribers get them.
 use Rattle.std.specs.Prelude.{ℕ, ◌≡◌, true, false, length, Option, None, Some, min, ◌≤◌}
 use Rattle.roam_pane_protocol.specs.declared.pane_list.PaneList.{PaneList}
 use Rattle.roam_pane_protocol.specs.Known.{pane_at}

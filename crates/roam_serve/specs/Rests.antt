@@ -1,4 +1,4 @@
--- What follows each turn of a server: who follows its panes is told, and it waits.
+-- The steps after a turn of a server: subscribers get the news, and the server waits.
 use Rattle.std.specs.Prelude.{◌≡◌, ◌<◌, ◌==◌, ◌^◌, ◌-◌, ℕ, Bool, true, false, List, Option, Some, None, IfSome, MatchBool}
 use Rattle.mio.specs.declared.net.uds.stream.UnixStream.{UnixStream}
 use Rattle.roam_model.specs.Servers.{Server, moment}
@@ -21,8 +21,8 @@ use Rattle.roam_pane_subscribers.specs.declared.subscribing.Subscriber.{Subscrib
 use Rattle.roam_pane_sockets.specs.declared.panes.Pane.{Pane}
 use Rattle.roam_serve.specs.declared.tellings.MetadataEventTimes.{MetadataEventTimes}
 
--- What waited to go by UDP went, as much as may go at this moment by the pace of each address, and nothing else changed of the port; the last
--- says whether that was all.
+-- Datagrams queued for UDP were sent, as many as the pace of each address allows at this moment, and the port is otherwise unchanged. The
+-- result is true if that was all.
 abbrev pub GoesBy : ℕ → Option Udp → Option Udp → Bool → Type 0
 GoesBy now None None all = all ≡ true
 GoesBy now None (Some new) all = ⊥
@@ -35,13 +35,13 @@ abbrev pub is_paced : Option Udp → Bool
 is_paced None = false
 is_paced (Some udp) = is_any_waiting udp.paced.lanes.items
 
--- a datagram was sent by UDP, at a pace, where there is a port for it
+-- a datagram was sent over UDP at a pace, if there is a port for it
 abbrev pub SendsBy : ℕ → Addr → Option Udp → Option Udp → List ℕ → Bool → Type 0
 SendsBy now to None new datagram result = (new ≡ None) × (result ≡ false)
 SendsBy now to (Some old) None datagram result = ⊥
 SendsBy now to (Some old) (Some new) datagram result = SendsTo now to old.paced.lanes.items new.paced.lanes.items datagram result None None
 
--- What waited for client starts was written, some of it or all that goes at this moment, as is noted; then some may have come.
+-- The queued bytes of client starts were written, in part or as far as possible, as is noted. Then new starts may have connected.
 pub record Flushes (answers : AnswersOf UnixStream) (old new : Clients) : Type 0 where
   pub mid : Clients
   pub keeps : KeepsOpen answers old.all.items mid.all.items mid.is_flushed
@@ -54,8 +54,7 @@ pub record HasTold (contents : UnixStream → Option (List ℕ)) (server : Serve
   pub are : (s : Server) → Stands server s → ArePanesOf s panes
   pub told : AreAllTold contents panes before subscribers
 
--- So they were, and then what is new of what stands beside the panes' terminals, as far as that was to be told, of texts for the
--- clipboard, and of questions.
+-- Subscribers got the panes, and then new metadata as far as due, clips and questions.
 pub record HasToldAll (contents : UnixStream → Option (List ℕ)) (server : ServerView) (moment : ℕ) (panes : List Pane)
     (telling telling' : MetadataEventTimes) (clipping clipping' : ClipTimes) (before subscribers : List (Subscriber UnixStream)) : Type 0 where
   pub mid : List (Subscriber UnixStream)
@@ -75,9 +74,9 @@ pub record IsNextDue (server : ServerView) (due : Option ℕ) : Type 0 where
 abbrev pub is_for_good : ℕ → Bool
 is_for_good turns = turns == 2 ^ 64 - 1
 
--- Where it waited, all that goes to client starts at this clock was written, and no line that may be there was left to be done; and it was
--- until something is due, or what stands beside the panes' terminals is to be told, or the moment may run ahead to the number that is
--- wished for, or only a millisecond where datagrams are kept back; where the turns are counted, for the shortest wait.
+-- Before a wait, all bytes that could go to client starts at this clock were written, and no line was left to be done. The wait lasts until
+-- work is due, metadata is due, or the moment may run ahead to the wanted number. It lasts a millisecond if datagrams are kept back, and
+-- the shortest time if the turns are counted.
 pub record HasRested (turns : ℕ) (server : ServerView) (clock : ℕ) (clients : Clients) (may_ask : Bool) (udp : Option Udp)
     (telling wish : Option ℕ) (longest : Option ℕ) : Type 0 where
   pub due : Option ℕ

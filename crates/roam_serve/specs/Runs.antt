@@ -1,4 +1,4 @@
--- What a run of a server does: turns, one after the other, and no other call of the server.
+-- A run of a server: turns, one after another, and no other call of the server.
 use Rattle.std.specs.Prelude.{◌≡◌, ℕ, zero, suc, List, Option, Some, None}
 use Rattle.roam_hub.specs.Servers.{ServerView, Stands}
 use Rattle.roam_turns.specs.Calls.{PortCall}
@@ -12,9 +12,9 @@ unfoldable pub ServesTurns : ℕ → ServerView → ServerView → Type 0
 ServesTurns zero old new = new ≡ old
 ServesTurns (suc n) old new = (mid : ServerView) × ServesTurns n old mid × Makes server_step ServeTurn None None None None mid new
 
--- A run of so many turns of a server, round ports P that tell of their calls, of a run of `asked` turns in all. Before each turn the ports
--- are mended (`mends`). Then the server takes the turn, and the ports tell of just its calls. Then follows what the ports do after a turn
--- (`follows`). Neither of these two tells of a call.
+-- A run of so many turns of a server, of a run of `asked` turns in all. Its ports P record their calls. Before each turn the ports are
+-- mended (`mends`). Then the server takes the turn, and the ports record exactly its calls. Then the ports do their work after a turn
+-- (`follows`). Neither of these two records a call.
 unfoldable pub RunsTurns : {P : Type 0} → (P → Option (List PortCall)) → (P → P → Type 0) → (ℕ → ServerView → P → P → Type 0) → ℕ → ℕ → P → P
     → ServerView → ServerView → Type 0
 RunsTurns told mends follows asked zero first last old new = (new ≡ old) × (last ≡ first)
@@ -23,7 +23,7 @@ RunsTurns {P} told mends follows asked (suc n) first last old new =
     × (told mended ≡ told before) × Makes server_step ServeTurn (told mended) (told turned) None None mid new
     × follows asked new turned last × (told last ≡ told turned)
 
--- so many were taken of the server of a new session of 24 by 80, of the id that was given where one was
+-- so many turns were taken by the server of a new session of 24 by 80, with the given id if there was one
 pub record Serves (given : Option ℕ) (turns : ℕ) : Type 0 where
   pub id : ℕ
   pub first : ServerView

@@ -1,4 +1,4 @@
--- When what stands beside the panes' terminals is told, and texts for the clipboard, and questions.
+-- The times at which metadata, clips and questions are sent.
 use Rattle.std.specs.Prelude.{ℕ, zero, suc, ◌≡◌, ◌||◌, ◌&&◌, ◌==◌, Bool, true, false, not, List, Option, Some, None, if◌then◌else◌}
 use Rattle.std.specs.List.{AllZip}
 use Rattle.roam_pane_protocol.specs.MetadataLists.{metadata_at, in_generation}
@@ -19,7 +19,7 @@ use Rattle.roam_pane_sockets.specs.Queries.{AreQueries}
 use Rattle.roam_pane_subscribers.specs.Clipping.{TellsEachClips, any_wants}
 use Rattle.roam_pane_subscribers.specs.Querying.{TellsQueries}
 
--- when it is to be looked again: where something might be told now, only once something is new
+-- the next look: if news could be sent now, only after a change
 abbrev pub again_at : Bool → Option ℕ → ℕ → Option ℕ
 again_at true last pace = None
 again_at false last pace = after last pace
@@ -34,11 +34,11 @@ unfoldable pub has_rung : ℕ → MetadataList → MetadataList → Bool
 has_rung zero shown now = false
 has_rung (suc n) shown now = has_rung n shown now || rang_in (metadata_at shown (suc n)) (metadata_at now (suc n))
 
--- when a bell was told last, once one may be told, or not yet
+-- the last time at which a bell was reported, once one may be, or not yet
 abbrev pub rang_at : Bool → Bool → ℕ → Option ℕ → Option ℕ
 rang_at may rung moment rang = if (may && rung) then Some moment else rang
 
--- what is known once this was told at a moment
+-- the times after this was sent at a moment
 abbrev pub times_told : MetadataList → ℕ → MetadataEventTimes → MetadataEventTimes
 times_told now moment t = record {
   shown = now;
@@ -47,8 +47,8 @@ times_told now moment t = record {
   due = again_at (is_time t.rang moment 1000) t.rang 1000;
 }
 
--- Each program was told what is new beside the panes' terminals, where it might be; nobody was where nobody asked for it, or it was told a
--- while ago: then it is to be looked again once it may be.
+-- Each subscriber got new metadata, if that was due. None did if none asked, or if some was sent shortly before: then the next look is once
+-- it is due.
 pub record AreToldMetadata {S : Type 0} (contents : S → Option (List ℕ)) (times times' : MetadataEventTimes) (moment : ℕ) (panes : List Pane)
     (olds news : List (Subscriber S)) : Type 0 where
   pub unasked : any_asked olds ≡ false → (news ≡ olds) × (times' ≡ record times { due = None })
@@ -58,14 +58,14 @@ pub record AreToldMetadata {S : Type 0} (contents : S → Option (List ℕ)) (ti
       × AreMetadata (is_time times.rang moment 1000) times.shown panes now × AllZip (TellsMetadata contents now panes) olds news
       × (times' ≡ times_told now moment times)
 
--- what is known once one was told at a moment, or none
+-- the times after clips were sent at a moment, or none were
 abbrev pub times_clipped : Bool → ℕ → ClipTimes → ClipTimes
 times_clipped any moment t = record {
   told = if any then Some moment else t.told;
   due = again_at (is_time t.told moment 1000) t.told 1000;
 }
 
--- Each program was told which texts are new, no sooner than a second after the last that was told; where nobody wants them nothing was.
+-- Each subscriber got new clips, at most once a second. None did if none wants them.
 pub record AreToldClips {S : Type 0} (contents : S → Option (List ℕ)) (times times' : ClipTimes) (moment : ℕ) (panes : List Pane)
     (olds news : List (Subscriber S)) : Type 0 where
   pub unwanted : any_wants olds ≡ false → (news ≡ olds) × (times' ≡ record times { due = None })
@@ -77,7 +77,7 @@ abbrev pub count_asked : Option QueryPane → ℕ
 count_asked None = 0
 count_asked (Some a) = a.asked
 
--- Each program that asked for that was told what is new of what the panes' programs ask, in its place.
+-- Each subscriber that asked for questions got the new ones, in order.
 pub record AreToldQueries {S : Type 0} (contents : S → Option (List ℕ)) (panes : List Pane) (olds news : List (Subscriber S)) : Type 0 where
   pub now : QueryList
   pub are : AreQueries panes now

@@ -6,10 +6,10 @@ ghost use Rattle.roam_serve.specs.Echoes.{before_by, is_echo, is_full, leading, 
 /// A moment is at most so many milliseconds ahead of the clock: as long as the least time from one number to the next.
 const MOST_AHEAD: u64 = 20;
 
-/// What a program writes within so many milliseconds after its pane was typed in counts as an echo.
+/// Bytes that a program writes within this many milliseconds of its pane's input count as an echo.
 const ECHO_WINDOW: u64 = 20;
 
-/// An echo has fewer full pieces than these: what a program writes in more is a repaint, which a number made early would cut.
+/// An echo has fewer full pieces than this. More output is a repaint, and an early screen would cut it.
 const MOST_PIECES: u8 = 16;
 
 /// One more than the greatest number of a pane.
@@ -22,9 +22,9 @@ pub(crate) struct Echoes {
     typed: [Option<u64>; PANES],
     // How many acts were taken of all client starts, modulo 2^64.
     acts: u64,
-    // How many more full pieces may come of what was typed in, since the last act was taken.
+    // The number of full pieces that may still follow the input, since the last act was taken.
     left: u8,
-    // Whether an echo came since the last turn ended.
+    // True if an echo arrived since the last turn ended.
     echoed: bool,
     // The moment of the number that shows the last echo, until it has come.
     wish: Option<u64>,
@@ -49,7 +49,7 @@ fn note_typed(typed: &mut [Option<u64>; PANES], is_new: bool, focus: u8, clock: 
     }
 }
 
-// Whether so many bytes of a pane that was typed in then end an echo.
+// Returns true if so many bytes, from a pane with input at that time, end an echo.
 fn is_echo(typed: Option<u64>, count: Option<usize>, room: usize, clock: u64) -> bool
     ensures echo { result ≡ is_echo typed count room clock }
 {
@@ -59,7 +59,7 @@ fn is_echo(typed: Option<u64>, count: Option<usize>, room: usize, clock: u64) ->
     }
 }
 
-// Whether so many bytes of a pane that was typed in then fill the room, in time for an echo.
+// Returns true if so many bytes, from a pane with input at that time, fill the room soon enough for an echo.
 fn is_full(typed: Option<u64>, count: Option<usize>, room: usize, clock: u64) -> bool
     ensures full { result ≡ is_full typed count room clock }
 {
@@ -80,14 +80,14 @@ fn leading(wish: Option<u64>, before: u64, clock: u64) -> u64
     }
 }
 
-// What may be run ahead to while a synchronized update goes on, or none does.
+// Returns the moment that the clock may run ahead to, given whether a synchronized update goes on.
 fn wish_outside(goes_on: bool, wish: Option<u64>) -> Option<u64>
     ensures wish { result ≡ wish_outside goes_on wish }
 {
     if goes_on { None } else { wish }
 }
 
-// What is left of a wish at a moment.
+// Returns the wanted moment if it hasn't come.
 fn left_of(wish: Option<u64>, moment: u64) -> Option<u64>
     ensures left { result ≡ (if has_come wish moment then None else wish) }
 {

@@ -9,7 +9,7 @@ static SOCKETS: [&str; 11] = [
     "p1", "p2", "p3", "p4", "p5", "p6", "p7", "p8", "p9", "panes", "clients",
 ];
 
-// Tells of a socket of the folder that can't be bound, and whether one can't.
+// Prints the reason for which a socket of the folder can't be bound, and returns true if it can't.
 fn tell_socket<R: Files + Net + Eprint + AllocGlobal>(rt: &R, folder: &str, name: &str) -> bool {
     let Ok(path) = format!(in rt.alloc(); "{folder}/{name}") else {
         return false;
@@ -24,15 +24,15 @@ fn tell_socket<R: Files + Net + Eprint + AllocGlobal>(rt: &R, folder: &str, name
     }
 }
 
-// Tells why a port can't be bound, where it can't.
+// Prints the reason for which a port can't be bound, if it can't.
 fn tell_port<R: Net + Eprint>(rt: &R, port: u16) {
     if let Err(error) = try_port(rt, port) {
         let _ = eprintln!(rt; "roam: cannot bind: 127.0.0.1:{port}: {error}");
     }
 }
 
-/// Tells on standard error which name `run_serve` couldn't bind and why, where it answered `Bind`: each is tried once more, in their
-/// order, and nothing stays bound.
+/// Prints to standard error the name that `run_serve` couldn't bind, and the reason, after `Bind`. It tries each once more, in order, and
+/// leaves none bound.
 pub fn tell_unbound<R: Files + Net + Eprint + AllocGlobal>(rt: &R, serve: &Serve<'_>) {
     let folder = serve.folder;
     if let Err(fault) = own_folder(rt, folder, serve.port.is_none()) {

@@ -1,4 +1,4 @@
-//! The ports of a server over sockets. What they carried isn't told.
+//! The ports of a server over sockets. They don't record their calls.
 ghost use Rattle.std.specs.Prelude.{Bool, ◌≡◌, ◌≢◌, ◌⊎◌, ◌<◌, ◌≤◌, ◌+◌, ◌-◌, ◌&&◌, ◌||◌, ◌==◌, if◌then◌else◌, [], ℕ, List, Option, slice_get, true, false, not, length, map, string_bytes, is_some, nat_lt, None, Some, IfOk, IfSome, IfErr};
 ghost use Rattle.std.specs.List.{All, AllZip};
 ghost use Rattle.std.specs.Option.{option_map};
@@ -40,7 +40,7 @@ use std::fs::Files;
 use std::net::Net;
 use std::time::{Clock, Instant};
 
-/// It is looked so often whether somebody waits at the sockets, where no wait told.
+/// The milliseconds between looks for new connections without a wait.
 const LOOKS: u64 = 20;
 
 /// It is looked once in so many milliseconds whether the files of the sockets are still there.
@@ -51,17 +51,17 @@ const MENDS: u64 = 60_000;
 pub struct OwnStart {
     /// The session's id.
     pub session: u64,
-    /// The id of the start; where one has to be made anew, the next has the next id.
+    /// The id of the start. A start made anew gets the next id.
     pub id: u64,
 }
 
-/// The ports of a server: the streams of its client starts, UDP on loopback where a port was asked for, the sockets of its panes, a clock.
+/// The ports of a server: the streams of its client starts, UDP on loopback if a port was asked for, the sockets of its panes, a clock.
 #[derive(Drop)]
 pub struct ServerPorts<R> {
     moments: Moments<R>,
     // The moment that the turn was given: at most 20 milliseconds ahead of the clock.
     moment: u64,
-    // What the moments' source said when it was asked last.
+    // The last moment of the source of moments.
     clock: u64,
     echoes: Echoes,
     waits: Waits,
@@ -75,13 +75,13 @@ pub struct ServerPorts<R> {
     alloc: Global,
     is_udp_next: bool,
     looked: u64,
-    // Whether a program may have come to the socket `panes` since it was looked there.
+    // True if a program may have connected to the socket `panes` since the last look.
     may_come: bool,
     // When it was looked last whether the files of the sockets are still there.
     mended: u64,
 }
 
-// Binds the sockets beside those of the panes. `Bind` where one can't be bound, `OutOfMemory`; then none stays.
+// Binds the sockets other than the panes'. `Bind` if one can't be bound, `OutOfMemory`; then none stays.
 fn bind_others<R: Files + Net>(
     rt: &R,
     alloc: Global,
@@ -105,7 +105,7 @@ fn bind_others<R: Files + Net>(
     }
 }
 
-// Binds a UDP port where one is asked for.
+// Binds a UDP port if one is asked for.
 fn bind_udp(
     net: &impl Net,
     alloc: Global,
@@ -124,7 +124,7 @@ fn bind_udp(
     }
 }
 
-// Sends a datagram by UDP, where there is a port for it.
+// Sends a datagram over UDP, if there is a port for it.
 fn send_udp(udp: &mut Option<Udp>, to: Addr, bytes: &[u8], now: u64) -> bool
     ensures sends { SendsBy now to udp.old udp.new bytes.now result }
 {
@@ -134,7 +134,7 @@ fn send_udp(udp: &mut Option<Udp>, to: Addr, bytes: &[u8], now: u64) -> bool
     }
 }
 
-// Sends what waits by UDP, as much as may go at this moment, and tells whether that was all.
+// Sends datagrams queued for UDP, as many as may go at this moment, and returns true if that was all.
 fn flush_udp(udp: &mut Option<Udp>, now: u64) -> bool
     ensures goes { GoesBy now udp.old udp.new result }
     ensures all { result ≡ not (is_paced udp.new) }
@@ -165,7 +165,7 @@ fn next_arrival(
     }
 }
 
-// Tells the programs that asked what is new beside the panes' terminals, where it is time.
+// Sends new metadata to the subscribers that asked, if that is due.
 fn tell_metadata(
     alloc: Global,
     telling: &mut MetadataEventTimes,
@@ -190,7 +190,7 @@ fn tell_metadata(
     telling.tells(&now, moment);
 }
 
-// Tells the programs that want them which texts for the clipboard are new, where it is time.
+// Sends new clips to the subscribers that want them, if that is due.
 fn tell_clips(
     alloc: Global,
     clipping: &mut ClipTimes,
@@ -211,7 +211,7 @@ fn tell_clips(
     clipping.tells(any, moment);
 }
 
-// Tells the programs that asked for that what is new of what the panes' programs ask.
+// Sends new questions of panes' programs to the subscribers that asked for them.
 fn tell_queries(alloc: Global, subscribers: &mut Subscribers, panes: &Panes)
     ensures told { AreToldQueries ⟦<UnixStream as Stream>⟧.contents panes.now.all.items subscribers.old.all.items
         subscribers.new.all.items }
@@ -231,7 +231,7 @@ fn count_asked(asks: Option<QueryPane>) -> u64
     }
 }
 
-// The same, where a piece may have asked more.
+// Does the same if a piece may have asked more.
 fn tell_new_queries(
     alloc: Global,
     subscribers: &mut Subscribers,
@@ -250,10 +250,9 @@ fn tell_new_queries(
 }
 
 impl<R: Clock + Drop> ServerPorts<R> {
-    /// Binds in a folder the sockets `p1` to `p9`, of panes that aren't there yet, `panes`, where a program follows them, and `clients`,
-    /// for client starts; and where it is asked for a port of this machine, any that is free where it is 0. `Bind` where one can't be
-    /// bound, or the folder has no name; `OutOfMemory`; then nothing stays. What panes' programs write goes on as it comes, or as it is
-    /// meant.
+    /// Binds the sockets of a folder: `p1` to `p9` for panes, which aren't open yet, `panes` for subscribers, and `clients` for client
+    /// starts. It also binds a port of this machine if one is asked for, any free one for 0. `Bind` if one can't be bound, or the folder
+    /// has no name; `OutOfMemory`; then none stays. The bytes of panes' programs go on as they are, or normalized.
     pub fn bind<N: Files + Net>(
         rt: &N,
         alloc: Global,
@@ -306,7 +305,7 @@ impl<R: Clock + Drop> ServerPorts<R> {
         }
     }
 
-    /// The UDP port that it is bound to, where there is one.
+    /// Returns the bound UDP port; `None` if there is none.
     pub fn port(&self) -> Option<u16>
         ensures port { result ≡ option_map (λ (udp : UdpOf). udp.port) self.now.udp }
     {
@@ -323,7 +322,7 @@ impl<R: Clock + Drop> ServerPorts<R> {
         self.moments = Moments::Set(moment);
     }
 
-    // Takes client starts that wait at their socket, once in 20 milliseconds and after each wait; so it is with those who follow the panes.
+    // Accepts client starts and subscribers, once in 20 milliseconds and after each wait.
     fn look(&mut self, alloc: Global, has_waited: bool)
         ensures clients { Accepts self.old.clients self.new.clients }
         ensures flushed { self.new.clients.is_flushed ≡ self.old.clients.is_flushed }
@@ -339,12 +338,12 @@ impl<R: Clock + Drop> ServerPorts<R> {
         }
     }
 
-    /// Writes what waits for client starts, takes those that come, and waits until something comes or is due at a moment, the moment may
-    /// run ahead to a number that shows an echo, what stands beside the panes' terminals is to be told, or a frame isn't held any more,
-    /// where nothing came since the last call and no datagram of its own start waits. How long it waits goes by the clock.
+    /// Writes the queued bytes of client starts, accepts new ones, and waits. A wait ends with input, at a due moment, or if metadata is
+    /// due. It also ends if the moment may run ahead to an echo, or an update isn't kept back any more. It doesn't wait if input arrived
+    /// since the last call, or a datagram of its own start is ready. The clock counts the wait.
     pub fn rest(&mut self, due: Option<u64>)
         ensures quiet { self.new.waits.quiet ≡ true }
-        // A wait leaves nothing of what waits for a client start whose stream would take more.
+        // A wait leaves no queued bytes of a client start whose stream would take more.
         ensures waited { IfSome self.new.waits.longest (λ longest. (self.old.waits.quiet ≡ true) × (self.old.closer.closing ≡ None)
             × (self.new.clients.is_flushed ≡ true)
             × (longest ≡ wait_for (sooner (before_by most_ahead self.old.echoes.wish)
@@ -352,7 +351,7 @@ impl<R: Clock + Drop> ServerPorts<R> {
             (frames_until self.old.panes.all.items)))) self.old.clock
             (is_paced self.new.udp))) }
         ensures flushed { Flushes ⟦<UnixStream as Stream>⟧.answers self.old.clients self.new.clients }
-        // What waits to go by UDP goes, as far as the pace of each address lets it at this clock.
+        // Datagrams queued for UDP are sent, as far as the pace of each address allows at this clock.
         ensures lanes { (all : Bool) × GoesBy self.old.clock self.old.udp self.new.udp all }
         ensures telling { self.new.telling ≡ self.old.telling }
         ensures clipping { self.new.clipping ≡ self.old.clipping }
@@ -387,7 +386,7 @@ impl<R: Clock + Drop> ServerPorts<R> {
         self.echoes.note_acts(acts, focus, self.clock);
     }
 
-    /// Lets the moment run ahead to that of the server's next number, if a program has answered what was typed.
+    /// Lets the moment run ahead to that of the server's next number, if a program has answered input.
     pub fn aim(&mut self, number: Option<u64>)
         ensures aims { self.new.echoes ≡ record self.old.echoes {
           wish = if self.old.echoes.echoed then number else self.old.echoes.wish;
@@ -398,7 +397,7 @@ impl<R: Clock + Drop> ServerPorts<R> {
         self.echoes.aim(number);
     }
 
-    // Takes the programs that wait at the socket `panes`, where one may.
+    // Accepts programs at the socket `panes`, if any may be there.
     fn take_subscribers(&mut self)
         ensures came { HaveCome self.old.subscribers.all.items self.new.subscribers.all.items }
         ensures few { length self.old.subscribers.all.items ≤ most_taken → length self.new.subscribers.all.items ≤ most_taken }
@@ -410,8 +409,8 @@ impl<R: Clock + Drop> ServerPorts<R> {
         }
     }
 
-    /// Tells the programs that follow the session's panes what is new of them, one that comes all; and has its own start close those that
-    /// they ask for.
+    /// Sends the subscribers the news of the session's panes; a new one gets everything. Has its own start close the panes that they ask
+    /// for.
     pub fn tell_panes(&mut self, now: &PaneList)
         ensures panes { self.new.panes ≡ self.old.panes }
         ensures told { AreAllTold ⟦<UnixStream as Stream>⟧.contents now.now self.old.subscribers.all.items self.new.subscribers.all.items }
@@ -434,7 +433,7 @@ impl<R: Clock + Drop> ServerPorts<R> {
         }
     }
 
-    /// Tells the programs that asked what is new of what stands beside the panes' terminals, each 20 milliseconds at most.
+    /// Sends new metadata to the subscribers that asked, at most once in 20 milliseconds.
     pub fn tell_metadata(&mut self)
         ensures panes { self.new.panes ≡ self.old.panes }
         ensures told { AreToldMetadata ⟦<UnixStream as Stream>⟧.contents self.old.telling self.new.telling self.old.moment
@@ -476,7 +475,7 @@ impl<R: Clock + Drop> ServerPorts<R> {
         );
     }
 
-    /// Tells the programs that asked for that what is new of what the panes' programs ask; to one that asks now nothing is new.
+    /// Sends new questions of panes' programs to the subscribers that asked for them; one that asks now gets no earlier question.
     pub fn tell_queries(&mut self)
         ensures panes { self.new.panes ≡ self.old.panes }
         ensures told { AreToldQueries ⟦<UnixStream as Stream>⟧.contents self.old.panes.all.items self.old.subscribers.all.items
@@ -492,8 +491,8 @@ impl<R: Clock + Drop> ServerPorts<R> {
         tell_queries(self.alloc, &mut self.subscribers, &self.panes);
     }
 
-    /// Binds those sockets anew whose files are gone, as a cleaner of old files leaves them: once a minute, and only if the folder's file
-    /// `session` has this id, since the folder may be another session's by then. Panes, subscribers and client starts that are there stay.
+    /// Binds sockets anew whose files are gone, as a cleaner of old files leaves them. It does so once a minute, and only if the folder's
+    /// file `session` has this id, since another session may use the folder by then. Connected panes, subscribers and client starts stay.
     pub fn mend_sockets<N: Files + Net + AllocGlobal>(&mut self, rt: &N, folder: &str, session: u64)
         ensures panes { AllZip IsMended self.old.panes.all.items self.new.panes.all.items
             ⊎ (self.new.panes ≡ self.old.panes) }
@@ -533,7 +532,7 @@ fn is_session<N: Files + AllocGlobal>(rt: &N, folder: &str, session: u64) -> boo
     }
 }
 
-// A count of bytes, where there are some.
+// Returns a count of bytes; `None` if it is 0.
 fn some_bytes(count: Option<usize>) -> Option<usize>
     ensures some { IfSome result (λ n. (0 < n) × (count ≡ Some n)) }
     ensures same { (buf : List ℕ) → bytes_given result buf ≡ bytes_given count buf }
@@ -546,8 +545,8 @@ fn some_bytes(count: Option<usize>) -> Option<usize>
 }
 
 impl<R: Clock + Drop> Ports for ServerPorts<R> {
-    // It runs ahead of the clock to the number that shows an echo, and stands still while a frame goes on, the beginning of which was
-    // handed on: no number is made within one (docs/DECISIONS.md, 220 and 265).
+    // The moment runs ahead of the clock to the number that shows an echo, so that input is seen at once. It is kept while an update goes
+    // on whose beginning went on, so that no number is made within an update.
     fn now(&mut self) -> u64
         ensures set { (moment : ℕ) → self.old.moments ≡ Moments.Set moment
             → result ≡ standing (any_goes_on self.old.panes.all.items) self.old.moment moment }
@@ -623,8 +622,7 @@ impl<R: Clock + Drop> Ports for ServerPorts<R> {
     fn pane_in(&mut self, pane: u8, buf: &mut [u8]) -> Option<usize>
         ensures some { IfSome result (λ n. 0 < n) }
         ensures within { IfSome result (λ n. n ≤ length buf.new) }
-        // What came in this generation of the pane is given piece after piece, as it came or as it is meant, and stands beside its
-        // terminal.
+        // The bytes of this generation of the pane go on piece by piece, as they are or normalized, and its metadata reads them.
         ensures hears { Changes (Hears (is_some result) (bytes_given result buf.new)) pane self.old.panes.all.items
             self.new.panes.all.items }
         ensures free { 1 ≤ pane → HasFreeIn self.old.moment (slice_get self.old.panes.all.items (pane - 1)) → 0 < length buf.old
@@ -633,7 +631,7 @@ impl<R: Clock + Drop> Ports for ServerPorts<R> {
             self.old.panes.all.items self.new.panes.all.items }
         ensures stirs { IfSome result (λ _. self.new.waits.quiet ≡ false) }
         ensures still { self.new.waits.quiet ≡ true → 1 ≤ pane → IsStill pane self.old.panes.all.items self.new.panes.all.items }
-        // What its program asks is told at once: before what the terminal answers to bytes behind it goes back.
+        // Questions of its program are sent at once, before the terminal's answers to later bytes.
         ensures asks { 1 ≤ pane → (count_asked (pane_asked (slice_get self.old.panes.all.items (pane - 1)))
             ≡ count_asked (pane_asked (slice_get self.new.panes.all.items (pane - 1))) → ⊥)
             → AreToldQueries ⟦<UnixStream as Stream>⟧.contents self.new.panes.all.items self.old.subscribers.all.items
@@ -653,7 +651,7 @@ impl<R: Clock + Drop> Ports for ServerPorts<R> {
             .read(self.waits.registry(), pane, buf, self.moment);
         let now = self.panes.queries_at(pane);
         tell_new_queries(self.alloc, &mut self.subscribers, &self.panes, asks, now);
-        // Where a peer is gone the next may wait, and where all that came waits, more may have come.
+        // If a peer has left, the next may be there; and while all bytes are kept back, more may have arrived.
         if count.is_some() || had_peer != self.panes.has_peer(pane) {
             self.waits.stir();
         }

@@ -31,22 +31,22 @@ use std::time::Clock;
 /// So many turns end with the machine.
 const FOR_GOOD: u64 = u64::MAX;
 
-/// What `roam serve` is asked for.
+/// The arguments of `roam serve`.
 #[derive(Clone, Copy, Debug, PartialEq, Eq)]
 pub struct Serve<'a> {
     /// The folder of its sockets; one without a name is none.
     pub folder: &'a str,
-    /// The UDP port on loopback, where there is to be one; any that is free where it is 0.
+    /// The UDP port on loopback, if one is wanted; 0 asks for any free one.
     pub port: Option<u16>,
-    /// The session's id; where it isn't given, one by chance.
+    /// The session's id; `None` asks for a random one.
     pub session: Option<u64>,
     /// How many turns the run takes.
     pub turns: u64,
-    /// Whether what panes' programs write goes to their terminals as it is meant (`roam_normalize`), and not as it comes.
+    /// True if the bytes of panes' programs are normalized on the way to their terminals (`roam_normalize`).
     pub normalize: bool,
 }
 
-// A pane of a server, where it is there.
+// Returns a pane of a server; `None` if it isn't open.
 fn pane_of(server: &Server, pane: u8) -> Option<ListedPane>
     ensures pane { (s : ServerOf) → Stands server.now s → result ≡ pane_of (generation_of s.size s.log pane) (rect_at s.size s.log pane) }
 {
@@ -62,7 +62,7 @@ fn pane_of(server: &Server, pane: u8) -> Option<ListedPane>
     }
 }
 
-// A count that is told; there are never so many that it doesn't fit.
+// Returns a count as it is sent; it never grows too large to fit.
 fn count(many: usize) -> u16
     ensures count { result ≡ min many 65535 }
 {
@@ -83,9 +83,8 @@ fn panes_of(server: &Server) -> PaneList
     panes
 }
 
-// After a turn tells who follows the panes, lets the moment run ahead to the next number if a program has answered what was typed, and
-// waits where the turn brought nothing: until something is due where the turns go on for good, else a short while, so that they end by
-// themselves.
+// Does the work after a turn: subscribers get the news, and the moment may run ahead to the next number if a program has answered input. It
+// waits if the turn had no input: until work is due if the turns go on for good, else a short while, so that they end.
 fn tell_and_rest<C: Clock + Drop>(turns: u64, server: &Server, ports: &mut ServerPorts<C>)
     ensures told { HasToldAll ⟦<UnixStream as Stream>⟧.contents server.now ports.new.moment ports.new.panes.all.items ports.old.telling
         ports.new.telling ports.old.clipping ports.new.clipping ports.old.subscribers.all.items ports.new.subscribers.all.items }
@@ -107,12 +106,12 @@ fn tell_and_rest<C: Clock + Drop>(turns: u64, server: &Server, ports: &mut Serve
     });
 }
 
-/// What a run asks of a server's ports before and after each turn. Neither call is one that the turn makes.
+/// The calls of a run to a server's ports before and after each turn. The turn makes neither of them.
 pub trait RunPorts: Ports {
-    // What `mend` may change.
+    // The changes that `mend` may make.
     ghost mends: { Self → Self → Type 0 };
 
-    // What follows a turn of a server, in a run of so many turns.
+    // The work after a turn of a server, in a run of so many turns.
     ghost follows: { ℕ → ServerView → Self → Self → Type 0 };
 
     /// Binds sockets anew whose files are gone, in a folder that is still the session's.
@@ -120,7 +119,7 @@ pub trait RunPorts: Ports {
         ensures mends { mends self.old self.new }
         ensures told { Self.told self.new ≡ Self.told self.old };
 
-    /// Sends what is new of a server to its subscribers, and waits if the turn brought nothing.
+    /// Sends the news of a server to its subscribers, and waits if the turn had no input.
     fn follow(&mut self, turns: u64, server: &Server)
         ensures follows { follows turns server.now self.old self.new }
         ensures told { Self.told self.new ≡ Self.told self.old };
@@ -145,7 +144,7 @@ impl<C: Clock + Drop> RunPorts for ServerPorts<C> {
     }
 }
 
-/// Takes the turns of a run: before each the ports are mended, after each they tell and wait.
+/// Takes the turns of a run. Before each it mends the ports; after each it sends the news and waits.
 pub fn serve_turns<R: Files + Net + AllocGlobal, P: RunPorts>(
     rt: &R,
     serve: &Serve<'_>,
@@ -164,7 +163,7 @@ pub fn serve_turns<R: Files + Net + AllocGlobal, P: RunPorts>(
     }
 }
 
-// Tells on standard error which port was taken, where any that was free was asked for.
+// Prints the port to standard error if any free one was asked for.
 fn tell_port(rt: &impl Eprint, asked: Option<u16>, port: Option<u16>) {
     if let (Some(0), Some(port)) = (asked, port) {
         // There is nowhere else to say it.
@@ -172,7 +171,7 @@ fn tell_port(rt: &impl Eprint, asked: Option<u16>, port: Option<u16>) {
     }
 }
 
-// Writes the session's id to the file `session` of the folder, which the user alone may read. `Bind` where it can't be, `OutOfMemory`.
+// Writes the session's id to the file `session` of the folder, which only the user can read. `Bind` if it can't be written, `OutOfMemory`.
 fn write_session<R: Files + AllocGlobal>(rt: &R, folder: &str, session: u64) -> Result<(), RunFault>
     ensures faults { IfErr result (λ fault. (fault ≡ RunFault.Bind) ⊎ (fault ≡ RunFault.Core Fault.OutOfMemory)) }
 {
@@ -251,11 +250,11 @@ fn session_for(chance: &impl RandomSource, serve: &Serve<'_>) -> Result<u64, Run
     }
 }
 
-/// Serves a session of 24 rows and 80 columns: binds the sockets `p1` to `p9`, `panes` and `clients` of the folder, and a UDP port where
-/// one is asked for, writes the session's id to the file `session` there, which the user alone may read, takes the turns, waiting where one
-/// brought nothing, and removes these files. A socket's file to which nobody listens is removed before; the port is told on standard error
-/// where any that is free was asked for. The folder has to be the user's own, and without a port nobody else may enter it. `Bind` where it
-/// isn't so, or a name can't be bound, and nothing stays then; `Read` where the system has no id by chance; `OutOfMemory`.
+/// Serves a session of 24 rows and 80 columns. It binds the sockets `p1` to `p9`, `panes` and `clients` of the folder, and a UDP port if
+/// one is asked for. It writes the session's id to the file `session` there, which only the user can read. Then it takes the turns, waits
+/// after one without input, and removes these files. It first removes socket files without a listener, and prints the port to standard
+/// error if any free one was asked for. The folder has to be the user's own, and private if there is no port. `Bind` for another folder, or
+/// a name that can't be bound; then no file stays. `Read` if the system has no randomness to give; `OutOfMemory`.
 pub fn run_serve<R: Files + Net + Clock + RandomSource + Eprint + AllocGlobal>(
     rt: &R,
     serve: &Serve<'_>,

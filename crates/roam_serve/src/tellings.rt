@@ -1,4 +1,4 @@
-//! When what stands beside the panes' terminals is told, and texts for the clipboard.
+//! The times at which metadata and clips are sent.
 ghost use Rattle.std.specs.Prelude.{◌≡◌, None};
 ghost use Rattle.roam_pane_protocol.specs.MetadataLists.{nothing_metadata};
 ghost use Rattle.roam_pane_sockets.specs.Moments.{after, is_time};
@@ -8,26 +8,26 @@ use roam_acts::limits::PANES_END;
 use roam_pane_protocol::{MetadataList, MetadataPane, in_generation};
 use roam_pane_sockets::{after, is_time};
 
-/// How many milliseconds lie between what is told of that at least.
+/// The least milliseconds between two sendings of metadata.
 const TELLING: u64 = 20;
 
-/// How many milliseconds lie between bells at least.
+/// The least milliseconds between two bells.
 const RINGING: u64 = 1000;
 
-/// How many milliseconds lie between texts for the clipboard at least.
+/// The least milliseconds between two sendings of clips.
 const CLIPPING: u64 = 1000;
 
-/// What was told last of what stands beside the panes' terminals, and when, and when it is to be looked again.
+/// The metadata that was sent last, its time, and the time of the next look.
 #[derive(Drop)]
 pub(crate) struct MetadataEventTimes {
     shown: MetadataList,
     told: Option<u64>,
-    // When a bell was told last.
+    // The last time at which a bell was reported.
     rang: Option<u64>,
     due: Option<u64>,
 }
 
-// Whether a bell rang in a pane that is there.
+// Returns true if a bell rang in an open pane.
 fn rang_in(shown: Option<MetadataPane>, now: Option<MetadataPane>) -> bool
     ensures rang { result ≡ rang_in shown now }
 {
@@ -37,7 +37,7 @@ fn rang_in(shown: Option<MetadataPane>, now: Option<MetadataPane>) -> bool
     }
 }
 
-// Whether a bell rang in one of the panes.
+// Returns true if a bell rang in one of the panes.
 fn has_rung(shown: &MetadataList, now: &MetadataList) -> bool
     ensures rung { result ≡ has_rung 9 shown.now now.now }
 {
@@ -52,7 +52,7 @@ fn has_rung(shown: &MetadataList, now: &MetadataList) -> bool
 }
 
 impl MetadataEventTimes {
-    /// Nothing was told.
+    /// Returns times before anything was sent.
     pub(crate) fn new() -> MetadataEventTimes
         ensures none { result ≡ record { shown = nothing_metadata; told = None; rang = None; due = None } }
     {
@@ -64,28 +64,28 @@ impl MetadataEventTimes {
         }
     }
 
-    /// Whether it may be told at this moment.
+    /// Returns true if metadata may be sent at this moment.
     pub(crate) fn is_time(&self, now: u64) -> bool
         ensures time { result ≡ is_time self.now.told now 20 }
     {
         is_time(self.told, now, TELLING)
     }
 
-    /// Whether a bell may be told at this moment.
+    /// Returns true if a bell may be reported at this moment.
     pub(crate) fn may_ring(&self, now: u64) -> bool
         ensures time { result ≡ is_time self.now.rang now 1000 }
     {
         is_time(self.rang, now, RINGING)
     }
 
-    /// What was told last.
+    /// Returns the metadata that was sent last.
     pub(crate) fn shown(&self) -> &MetadataList
         ensures shown { result.now ≡ self.now.shown }
     {
         &self.shown
     }
 
-    /// When it is to be looked again, if at a moment.
+    /// Returns the time of the next look, if there is one.
     pub(crate) fn due(&self) -> Option<u64>
         ensures due { result ≡ self.now.due }
     {
@@ -99,14 +99,14 @@ impl MetadataEventTimes {
         self.due = None;
     }
 
-    /// It isn't time: it is to be looked again once it is.
+    /// Sets the next look to the time at which metadata may be sent.
     pub(crate) fn wait(&mut self)
         ensures waits { self.new ≡ record self.old { due = after self.old.told 20 } }
     {
         self.due = after(self.told, TELLING);
     }
 
-    /// This was told at a moment; where no bell might be told, it is to be looked again once one may.
+    /// Notes that this was sent at a moment. If no bell could be reported, the next look is once one may be.
     pub(crate) fn tells(&mut self, now: &MetadataList, moment: u64)
         ensures told { self.new ≡ times_told now.now moment self.old }
     {
@@ -126,7 +126,7 @@ impl MetadataEventTimes {
     }
 }
 
-/// When a program was told one last, and when it is to be looked again.
+/// The time at which a subscriber got a clip last, and the time of the next look.
 #[derive(Drop)]
 pub(crate) struct ClipTimes {
     told: Option<u64>,
@@ -134,7 +134,7 @@ pub(crate) struct ClipTimes {
 }
 
 impl ClipTimes {
-    /// None was told.
+    /// Returns times before any clip was sent.
     pub(crate) fn new() -> ClipTimes
         ensures none { result ≡ record { told = None; due = None } }
     {
@@ -144,14 +144,14 @@ impl ClipTimes {
         }
     }
 
-    /// Whether one may be told at this moment.
+    /// Returns true if clips may be sent at this moment.
     pub(crate) fn is_time(&self, now: u64) -> bool
         ensures time { result ≡ is_time self.now.told now 1000 }
     {
         is_time(self.told, now, CLIPPING)
     }
 
-    /// When it is to be looked again, if at a moment.
+    /// Returns the time of the next look, if there is one.
     pub(crate) fn due(&self) -> Option<u64>
         ensures due { result ≡ self.now.due }
     {
@@ -165,7 +165,7 @@ impl ClipTimes {
         self.due = None;
     }
 
-    /// One was told at a moment, or none; where none might be, it is to be looked again once one may.
+    /// Notes whether clips were sent at a moment. If none could be, the next look is once some may be.
     pub(crate) fn tells(&mut self, any: bool, moment: u64)
         ensures tells { self.new ≡ times_clipped any moment self.old }
     {

@@ -1,4 +1,4 @@
--- What is read of a stream and written to it, piece after piece.
+-- The bytes read from a stream and written to it, piece by piece.
 use Rattle.std.proofs.Common.{◌≡◌, ℕ, ◌+◌, Bool, true, false, List, [], ◌∷◌, ◌++◌, length, ◌<◌, ◌≤◌, take, drop, Option, Some, None, inl, inr, sym, ap, ◌∙◌, refl, append_assoc, append-nil, subst, arith, rules}
 use Rattle.std.specs.Prelude.{◌⊎◌, IsErr, IsOk, Ok, Err}
 use Rattle.std.proofs.KnownBytes.{Appends-kept, Appends-nil, Appends-trans, Consumes-nil, Consumes-trans}
@@ -40,7 +40,7 @@ writes_more before mid after old came new first later = record {
   left = later.left ∙ ap (λ t. drop later.count t) first.left ∙ drop-drop later.count first.count old;
 }
 
--- ---- what was asked, one after the other
+-- ---- the calls, one after another
 
 answered_more : (before mid after : Option (List Answer)) (first later : List Answer) → Answered before mid first → Answered mid after later
     → Answered before after (first ++ later)
@@ -108,7 +108,7 @@ came_more Ends before mid after asked answered had is old came new asks first la
     let q = later h in
     kept_more before mid after old came new q.bytes p q.consumed q.kept
 
--- what came is given
+-- a datagram that arrived is given
 pub received : (before after : Option (List ℕ)) (old came new : List ℕ) (result : Option ℕ) (buf : List ℕ) → Came before after old came
     → IsGiven came new result buf → Receives before after old new result buf
 received before after old came new result buf p given =

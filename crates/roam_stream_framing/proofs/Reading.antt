@@ -7,7 +7,7 @@ use Rattle.byteorder.specs.Numbers.{big_number-reads_back}
 use Rattle.roam_stream_framing.specs.declared.frames.Front.TheVariants.{Whole}
 use Rattle.roam_stream_framing.specs.Frames.{IsCarried, IsPart, OneReading, framed, framed_all, front_by, front_of, longest_datagram}
 
--- a datagram's length stands first of what is written of it
+-- the framed text of a datagram begins with its length
 length_first : (d rest : List ℕ) → IsCarried d → big_number 2 (framed d ++ rest) ≡ length d
 length_first d rest carried = big_number-reads_back 2 (length d) (d ++ rest) (omega arith)
 
@@ -17,7 +17,7 @@ whole_by n count some short long = grind (arith, nat_tests)
 front_from : (bytes : List ℕ) (n : ℕ) → 2 ≤ length bytes → big_number 2 bytes ≡ n → front_by n (length bytes) ≡ Whole n → front_of bytes ≡ Whole n
 front_from bytes n two is whole = grind (arith, nat_tests)
 
--- what is written of a datagram is read as whole
+-- the framed text of a datagram is read as a whole one
 whole_first : (d rest : List ℕ) → IsCarried d → front_of (framed d ++ rest) ≡ Whole (length d)
 whole_first d rest carried =
     let long : length (framed d ++ rest) ≡ 2 + length d + length rest = omega (arith, length-append d rest) in

@@ -21,14 +21,14 @@ framed datagram = big_bytes 2 (length datagram) ++ datagram
 abbrev pub framed_all : List (List ℕ) → List ℕ
 framed_all datagrams = flat_map framed datagrams
 
--- what stands first, by its length, of so many bytes
+-- the state of the first datagram, given its length and so many bytes
 abbrev pub front_by : ℕ → ℕ → Front
 front_by n count =
     if n == 0 || nat_lt longest_datagram n then Spoiled
     else if nat_lt count (n + 2) then Part
     else Whole n
 
--- what stands first of these bytes
+-- the state of the first datagram of these bytes
 abbrev pub front_of : List ℕ → Front
 front_of bytes = if nat_lt (length bytes) 2 then Part else front_by (big_number 2 bytes) (length bytes)
 
@@ -37,17 +37,17 @@ pub record Stands (kept log : List ℕ) (given : List (List ℕ)) : Type 0 where
   pub is : log ≡ framed_all given ++ kept
   pub carried : All IsCarried given
 
--- a datagram stands first of these bytes
+-- these bytes begin with a datagram
 pub record IsFirst (bytes datagram : List ℕ) : Type 0 where
   pub carried : IsCarried datagram
   pub first : bytes ≡ framed datagram ++ drop (2 + length datagram) bytes
 
--- of a datagram a buffer holds as much as fits, so many bytes
+-- a buffer has as much of a datagram as fits, so many bytes
 pub record IsFilled (datagram : List ℕ) (n : ℕ) (buf : List ℕ) : Type 0 where
   pub count : n ≡ min (length datagram) (length buf)
   pub bytes : take n buf ≡ take n datagram
 
--- a datagram stood first of what was kept: whatever was given before, it is given next
+-- the kept bytes began with a datagram, and it is the next one given
 pub record Gives (old new : List ℕ) (n : ℕ) (buf : List ℕ) : Type 0 where
   pub datagram : List ℕ
   pub carried : IsCarried datagram
@@ -56,11 +56,11 @@ pub record Gives (old new : List ℕ) (n : ℕ) (buf : List ℕ) : Type 0 where
 
 -- ---- the law
 
--- no whole datagram stands first, and no length that none has
+-- the bytes begin with no whole datagram and no impossible length
 abbrev pub IsPart : List ℕ → Type 0
 IsPart bytes = front_of bytes ≡ Part
 
--- Bytes are datagrams and the beginning of one in one way: who reads them has just what was written.
+-- Bytes are datagrams and the beginning of one in exactly one way: a reader gets exactly the written datagrams.
 abbrev pub OneReading : Type 0
 OneReading = (given given' : List (List ℕ)) (kept kept' : List ℕ) → All IsCarried given → All IsCarried given' → IsPart kept → IsPart kept'
     → framed_all given ++ kept ≡ framed_all given' ++ kept' → (given ≡ given') × (kept ≡ kept')

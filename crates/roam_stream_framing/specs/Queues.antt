@@ -1,4 +1,4 @@
--- What waits for who reads at the other end of a stream: whole instructions, or nothing of them.
+-- The queue for the reader at the other end of a stream: whole instructions, or no part of them.
 use Rattle.std.specs.Prelude.{◌≡◌, ℕ, ◌+◌, ◌==◌, ◌&&◌, Bool, true, false, List, [], ◌++◌, length, drop, nat_le, if◌then◌else◌}
 use Rattle.byteorder.specs.Endian.{big_number}
 use Rattle.roam_stream_framing.specs.Frames.{IsCarried, framed}
@@ -19,11 +19,12 @@ pub record Queued : Type 0 where
 abbrev pub nothing_queued : Queued
 nothing_queued = record { waiting = []; takes = false }
 
--- the place of a datagram's fragment in its instruction, from 0: behind 36 bytes of its header; what has no header stands alone
+-- the place of a datagram's fragment in its instruction, from 0: behind 36 bytes of its header; a datagram without a header is a whole
+-- instruction
 abbrev pub index_of : List ℕ → ℕ
 index_of datagram = if nat_le 42 (length datagram) then big_number 2 (drop 36 datagram) else 0
 
--- a datagram may be queued: the first of an instruction while little waits, each later one where those before it were
+-- a datagram may be queued: the first of an instruction if the queue is short, a later one if those before it were
 abbrev pub may_queue : Queued → List ℕ → Bool
 may_queue q datagram =
     if index_of datagram == 0 then nat_le (length q.waiting) little

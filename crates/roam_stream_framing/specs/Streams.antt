@@ -1,9 +1,9 @@
--- What a stream answers to reads and writes, and how it is over.
+-- The results of a stream's reads and writes, and its end.
 use Rattle.std.specs.Prelude.{◌≡◌, ◌⊎◌, ℕ, Bool, true, List, [], ◌∷◌, ◌++◌, take, Option, Some, None, Result, Ok, Err, IsOk, IsErr}
 use Rattle.std.specs.declared.io.Error.{Error}
 use Rattle.roam_faults.specs.Streams.{IsStreamEnd}
 
--- what a read or a write is answered
+-- the result of a read or a write
 abbrev pub Answer : Type 0
 Answer = Result ℕ Error
 
@@ -18,7 +18,7 @@ abbrev pub bytes_of : Answer → List ℕ → List ℕ
 bytes_of (Ok n) piece = take n piece
 bytes_of (Err error) piece = []
 
--- A read that is answered so may end a stream: there is nothing more of it, or it has failed, or there is no memory for what came.
+-- The results of a read that may end a stream: there are no more bytes, it failed, or memory was refused for the bytes.
 abbrev pub MayEndReading : Answer → Type 0
 MayEndReading answer = IsStreamEnd answer ⊎ IsOk answer
 
@@ -30,13 +30,13 @@ pub record HasAnswered (Ends : Answer → Type 0) (before after : Option (List A
   pub answered : Answered before after (earlier ++ answer ∷ later)
   pub ends : Ends answer
 
--- A stream was asked, and was over before or not, and is then or not: it stays over, and is so where an answer is such.
+-- A stream was asked, and was over before or not. It stays over, and ends if a result says so.
 pub record Asks (Ends : Answer → Type 0) (before after : Option (List Answer)) (was is : Bool) : Type 0 where
   pub answers : List Answer
   pub answered : Answered before after answers
   pub stays : was ≡ true → is ≡ true
   pub over : is ≡ true → (was ≡ true) ⊎ HasAnswered Ends before after
 
--- no more is written of what waits: nothing waits, or the stream is over, or a write has failed
+-- no more of the queued bytes are written: there are none, the stream is over, or a write has failed
 abbrev pub HasStopped : Bool → List ℕ → Option (List Answer) → Option (List Answer) → Type 0
 HasStopped over waiting before after = (waiting ≡ []) ⊎ ((over ≡ true) ⊎ HasAnswered IsErr before after)

@@ -10,8 +10,8 @@ use std::mem::replace;
 /// So many bytes a piece has at most.
 const MOST_OF_A_PIECE: usize = 32_768;
 
-/// Bytes that wait to be written, first in first out. They stand in pieces, each of which is given back once it was written. So memory is
-/// taken and given back in blocks of a size that fills the gaps between others, where a vector that grows has to be moved to a larger one.
+/// A first-in, first-out queue of bytes to be written. It is kept in pieces, each of which is freed once written. So memory is taken and
+/// freed in blocks of a size that fits gaps, while a growing vector has to move to a larger block.
 #[derive(Drop)]
 pub(crate) struct Backlog {
     alloc: Global,
@@ -45,7 +45,7 @@ fn part(alloc: Global, full: &mut Vec<Vec<u8>>, last: &mut Vec<u8>) -> Result<()
     Ok(())
 }
 
-// The first bytes of a piece go; tells how many, all of them at most.
+// Removes the first bytes of a piece, and returns how many: at most all.
 fn take(piece: &mut Vec<u8>, count: usize) -> usize
     ensures left { piece.new.items ≡ drop result piece.old.items }
     ensures taken { result ≡ min count (length piece.old.items) }
@@ -55,7 +55,7 @@ fn take(piece: &mut Vec<u8>, count: usize) -> usize
     taken
 }
 
-// The first bytes of the first piece go, and with all of them the piece; tells how many.
+// Removes the first bytes of the first piece, and the piece once it is empty. Returns how many.
 fn take_first(full: &mut Vec<Vec<u8>>, count: usize) -> usize
     requires some { 0 < length full.old.items }
     requires filled { AreFilled full.old.items }
@@ -91,7 +91,7 @@ impl Backlog {
         self.len
     }
 
-    /// A piece that stands first of what waits: nothing of it exactly where nothing waits.
+    /// Returns the first piece of the queued bytes: empty exactly if none are queued.
     pub(crate) fn front(&self) -> &[u8]
         ensures front { (rest : List ℕ) × (self.now ≡ result.now ++ rest) }
         ensures some { 0 < length self.now → 0 < length result.now }
@@ -117,7 +117,7 @@ impl Backlog {
         Ok(())
     }
 
-    // The first so many bytes go, a piece of them at most; tells how many.
+    // Removes the first so many bytes, at most one piece, and returns how many.
     fn take_piece(&mut self, count: usize) -> usize
         requires within { count ≤ length self.old }
         ensures within { result ≤ count }

@@ -17,14 +17,14 @@ use std::io;
 /// How many bytes are read at once at most.
 const PIECE: usize = 2048;
 
-/// How many reads a datagram takes at most, where each brings one byte of it and of its length.
+/// The most reads that a datagram takes, if each brings one byte of it or of its length.
 const MOST_READS: usize = 1244;
 
 /// How many writes are tried at once.
 const MOST_WRITES: usize = 64;
 
-/// One end of a stream that carries datagrams, each behind its length. It is over where the stream is at its end, fails, or has a length
-/// that no datagram has; then nothing more is read or written.
+/// One end of a stream that carries datagrams, each behind its length. It is over if the stream ends, fails, or has an impossible length.
+/// Nothing more is read or written then.
 #[derive(Drop)]
 pub struct Carrier<S> {
     stream: S,
@@ -48,15 +48,15 @@ impl<S: Stream> Carrier<S> {
         }
     }
 
-    /// Whether it is over.
+    /// Returns true if the stream is over.
     pub fn is_over(&self) -> bool
         ensures over { result ≡ self.now.over }
     {
         self.over
     }
 
-    // A read into a piece was answered so: what came is kept. Tells whether a piece came and was kept; where there is no memory for it, the
-    // stream is over, as it is where the answer is its end.
+    // Notes the result of a read into a piece, and keeps its bytes. Returns true if bytes arrived and are kept. The stream is over if
+    // memory is refused for them, or the result is its end.
     fn hear(&mut self, answer: &io::Result<usize>, piece: &[u8]) -> bool
         requires within { IfOk answer.now (λ n. n ≤ length piece.now) }
         ensures came { result ≡ true → self.new.frames ≡ self.old.frames ++ bytes_of answer.now piece.now }
@@ -78,7 +78,7 @@ impl<S: Stream> Carrier<S> {
         is_kept
     }
 
-    // Reads a piece, and tells whether one came.
+    // Reads a piece, and returns true if bytes arrived.
     fn read_piece(&mut self) -> bool
         ensures came { self.new.over ≡ false → Came (S.remaining self.old.stream) (S.remaining self.new.stream)
             self.old.frames self.new.frames }
@@ -94,7 +94,7 @@ impl<S: Stream> Carrier<S> {
         self.hear(&answer, &piece)
     }
 
-    // Reads a piece where the beginning of a datagram stands first, and tells whether one came.
+    // Reads a piece if the kept bytes are the beginning of a datagram, and returns true if bytes arrived.
     fn read_more(&mut self) -> bool
         ensures came { self.new.over ≡ false → Came (S.remaining self.old.stream) (S.remaining self.new.stream)
             self.old.frames self.new.frames }
@@ -110,7 +110,7 @@ impl<S: Stream> Carrier<S> {
         }
     }
 
-    // Reads until a whole datagram stands first, or nothing more comes now.
+    // Reads until a datagram is whole, or no more bytes are available.
     fn read_on(&mut self)
         ensures came { self.new.over ≡ false → Came (S.remaining self.old.stream) (S.remaining self.new.stream)
             self.old.frames self.new.frames }
@@ -125,7 +125,7 @@ impl<S: Stream> Carrier<S> {
         }
     }
 
-    // Gives the datagram that stands first, where one does whole and the stream isn't over; it is over where a length stands that none has.
+    // Gives the first datagram, if it is whole and the stream isn't over. An impossible length ends the stream.
     fn give(&mut self, buf: &mut [u8]) -> Option<usize>
         ensures given { self.new.over ≡ false → IsGiven self.old.frames self.new.frames result buf.new }
         ensures within { IfSome result (λ n. n ≤ length buf.new) }
@@ -146,11 +146,12 @@ impl<S: Stream> Carrier<S> {
         }
     }
 
-    /// Gives the next datagram that came, where one did whole: as much of it as fits fills `buf` from the front. Answers how much that is.
+    /// Gives the next datagram, if a whole one has arrived. It fills `buf` from the front with as much of it as fits, and returns that
+    /// length.
     pub fn receive(&mut self, buf: &mut [u8]) -> Option<usize>
         ensures receives { self.new.over ≡ false → Receives (S.remaining self.old.stream) (S.remaining self.new.stream)
             self.old.frames self.new.frames result buf.new }
-        // Nothing is given only where the stream is over or a read of it failed: who waits for it misses nothing that came.
+        // Nothing is given only if the stream is over or a read of it failed, so a caller that waits misses no datagram.
         ensures none { result ≡ None → (self.new.over ≡ true) ⊎ HasAnswered IsErr (S.answers self.old.stream)
             (S.answers self.new.stream) }
         ensures within { IfSome result (λ n. n ≤ length buf.new) }
@@ -163,7 +164,7 @@ impl<S: Stream> Carrier<S> {
         self.give(buf)
     }
 
-    /// Queues a datagram to be written, and tells whether it did; where the stream is over none is.
+    /// Queues a datagram, and returns true if it was queued; none is once the stream is over.
     pub fn send(&mut self, datagram: &[u8]) -> bool
         ensures queued { result ≡ true → IsQueued self.old.queue datagram.now self.new.queue }
         ensures open { result ≡ true → self.old.over ≡ false }
@@ -173,8 +174,8 @@ impl<S: Stream> Carrier<S> {
         !self.over && self.queue.push(datagram)
     }
 
-    // A write of what waits first was answered so: what was taken goes. Tells whether some was; the stream is over where the answer is its
-    // end.
+    // Notes the result of a write of the first queued bytes, and removes those that were taken. Returns true if some were; the stream is
+    // over if the result is its end.
     fn note(&mut self, answer: &io::Result<usize>) -> bool
         requires within { IfOk answer.now (λ n. n ≤ length self.old.queue.waiting) }
         ensures over { IsTrue self.new.over ↔ ((self.old.over ≡ true) ⊎ IsStreamEnd answer.now) }
@@ -193,7 +194,7 @@ impl<S: Stream> Carrier<S> {
         *count > 0
     }
 
-    // Writes a piece of what waits, and tells whether more may go at once.
+    // Writes a piece of the queued bytes, and returns true if more may go at once.
     fn write_piece(&mut self) -> bool
         ensures writes { Writes (S.contents self.old.stream) (S.contents self.new.stream) self.old.queue.waiting self.new.queue.waiting }
         ensures asks { Asks IsStreamEnd (S.answers self.old.stream) (S.answers self.new.stream) self.old.over self.new.over }
@@ -210,7 +211,7 @@ impl<S: Stream> Carrier<S> {
         self.note(&answer)
     }
 
-    /// Writes what waits, as much of it as the stream takes now, and tells whether that was all that goes at this moment.
+    /// Writes queued bytes, as many as the stream takes now, and returns true if that was all that goes at this moment.
     pub fn flush(&mut self) -> bool
         ensures writes { Writes (S.contents self.old.stream) (S.contents self.new.stream) self.old.queue.waiting self.new.queue.waiting }
         ensures over { self.new.over ≡ true → (self.old.over ≡ true)

@@ -1,4 +1,4 @@
-//! What came over a stream of datagrams, each behind its length.
+//! The bytes read from a stream of datagrams, each behind its length.
 ghost use Rattle.std.specs.Prelude.{◌≡◌, ◌≢◌, ◌++◌, ◌≤◌, ℕ, List, [], length, drop, None, IfSome, OnOk, OnErr, IsOkUnless};
 ghost use Rattle.roam_stream_framing.specs.Frames.{Gives, IsFilled, IsFirst, front_by, front_of};
 
@@ -13,7 +13,7 @@ pub const LONGEST_DATAGRAM: usize = 1242;
 /// How many bytes a length takes.
 const LENGTH: usize = 2;
 
-/// What stands first of what came and isn't given yet.
+/// The state of the first datagram that isn't given yet.
 #[derive(Clone, Copy, Debug, PartialEq, Eq)]
 pub enum Front {
     /// A whole datagram of so many bytes, 1 to 1,242.
@@ -22,7 +22,7 @@ pub enum Front {
     /// The beginning of one, or nothing.
     Part,
 
-    /// A length that no datagram has: where the next begins isn't known.
+    /// An impossible length: the beginning of the next datagram is unknown.
     Spoiled,
 }
 
@@ -40,7 +40,7 @@ impl Model for Frames {
     ghost view = { λ f. f.kept.items };
 }
 
-// What stands first, by its length, of so many bytes.
+// Returns the state of the first datagram, given its length and so many bytes.
 fn front_by(len: usize, count: usize) -> Front
     requires len { len ≤ 65535 }
     ensures front { result ≡ front_by len count }
@@ -54,7 +54,7 @@ fn front_by(len: usize, count: usize) -> Front
     }
 }
 
-// What stands first of these bytes.
+// Returns the state of the first datagram of these bytes.
 fn front_in(kept: &[u8]) -> Front
     ensures front { result ≡ front_of kept.now }
 {
@@ -64,7 +64,7 @@ fn front_in(kept: &[u8]) -> Front
     front_by(usize::from(BigEndian::read_u16(kept)), kept.len())
 }
 
-/// The datagram that stands first of these bytes, where a whole one does.
+/// Returns the first datagram of these bytes, if it is whole.
 pub fn first_in(kept: &[u8]) -> Option<&[u8]>
     ensures first { IfSome result (λ d. IsFirst kept.now d.now) }
     ensures none { result ≡ None → (n : ℕ) → front_of kept.now ≢ Front.Whole n }
@@ -83,7 +83,7 @@ fn drop_front(kept: &mut Vec<u8>, count: usize)
     drop(kept.drain(..count));
 }
 
-// Fills a buffer from the front with as much of a datagram as fits, and tells how much.
+// Fills a buffer from the front with as much of a datagram as fits, and returns that length.
 fn fill(datagram: &[u8], buf: &mut [u8]) -> usize
     ensures filled { IsFilled datagram.now result buf.new }
     ensures within { result ≤ length buf.new }
@@ -105,7 +105,7 @@ impl Frames {
         }
     }
 
-    /// What stands first. It takes no memory.
+    /// Returns the state of the first datagram. It takes no memory.
     pub fn front(&self) -> Front
         ensures front { result ≡ front_of self.now }
     {
@@ -122,8 +122,8 @@ impl Frames {
         Ok(())
     }
 
-    /// Gives the datagram that stands first, where one does: as much of it as fits fills `buf` from the front, and the rest of it is
-    /// lost, as with a socket of datagrams. Answers how much that is. It takes no memory.
+    /// Gives the first datagram, if it is whole. It fills `buf` from the front with as much of it as fits, and returns that length. The
+    /// rest is lost, as at a datagram socket. It takes no memory.
     pub fn next(&mut self, buf: &mut [u8]) -> Option<usize>
         ensures gives { IfSome result (λ n. Gives self.old self.new n buf.new) }
         ensures within { IfSome result (λ n. n ≤ length buf.new) }

@@ -1,4 +1,4 @@
-//! Datagrams over a stream: each behind its length. What came and isn't given yet, what waits to be written, and both round a stream.
+//! Datagrams over a stream, each behind its length: the bytes that aren't given yet, the queued bytes, and both around a stream.
 #![tactic(auto)]
 
 mod backlog;

@@ -5,8 +5,8 @@ use roam_cells::Fault;
 use std::alloc::Global;
 use std::marker::Model;
 
-/// So many bytes that were written are kept before those behind them move to the front, where these are fewer; and so much memory is kept
-/// for the next that wait.
+/// The number of written bytes that are kept before the queued ones move to the front, if these are fewer. As much memory is kept for the
+/// next bytes.
 const MOST_KEPT: usize = 65_536;
 
 /// Bytes that wait to be written, first in first out.
@@ -44,7 +44,7 @@ impl Outbox {
         self.bytes.len() - self.taken
     }
 
-    /// What waits.
+    /// Returns the queued bytes.
     pub fn as_slice(&self) -> &[u8]
         ensures bytes { result.now ≡ self.now }
     {

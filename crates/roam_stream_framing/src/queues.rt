@@ -1,4 +1,4 @@
-//! What waits for who reads at the other end of a stream.
+//! The queue for the reader at the other end of a stream.
 ghost use Rattle.std.specs.Prelude.{◌≡◌, ◌+◌, ◌++◌, ◌<◌, ◌≤◌, ℕ, List, true, false, length, drop, IfOk, OnOk, OnErr, IsOkUnless};
 ghost use Rattle.roam_stream_framing.specs.Frames.{IsCarried, framed};
 ghost use Rattle.roam_stream_framing.specs.Queues.{IsLost, IsQueued, index_of, may_queue, most_waiting, nothing_queued};
@@ -16,13 +16,13 @@ const LITTLE: usize = 65_536;
 /// The most that waits: behind that little the largest instruction, which is 2,755 datagrams of 3,421,092 bytes, each behind its length.
 const MOST_WAITING: usize = LITTLE + 3_421_092 + 2 * 2_755;
 
-/// How many bytes a datagram's header has, and at which of them its fragment's place in the instruction stands.
+/// The length of a datagram's header, and the place in it of its fragment's number in the instruction.
 const HEADER: usize = 42;
 
 const INDEX_AT: usize = 36;
 
-/// Datagrams that wait for who reads at the other end of a stream. They are kept by instruction: the datagrams of one are queued all, while
-/// little waits, or none of them is. At most 3,492,138 bytes wait.
+/// Datagrams for the reader at the other end of a stream. They are queued by instruction: all datagrams of one if the queue is short, or
+/// none of them. The queue has at most 3,492,138 bytes.
 #[derive(Drop)]
 pub struct Queue {
     backlog: Backlog,
@@ -50,7 +50,7 @@ fn index_of(datagram: &[u8]) -> u16
     BigEndian::read_u16(datagram.split_at(INDEX_AT).1)
 }
 
-// Whether a datagram has a length that one may have.
+// Returns true if a datagram has a possible length.
 fn is_carried(datagram: &[u8]) -> bool
     ensures carried { result ≡ true → IsCarried datagram.now }
 {
@@ -83,7 +83,7 @@ impl Queue {
         }
     }
 
-    /// A piece that stands first of what waits, of whole datagrams where whole ones were taken: nothing exactly where nothing waits.
+    /// Returns the first piece of the queued bytes, of whole datagrams if whole ones were taken. It is empty exactly if none are queued.
     pub fn front(&self) -> &[u8]
         ensures front { (rest : List ℕ) × (self.now.waiting ≡ result.now ++ rest) }
         ensures some { 0 < length self.now.waiting → 0 < length result.now }
@@ -92,7 +92,7 @@ impl Queue {
         self.backlog.front()
     }
 
-    // Whether a datagram may be queued.
+    // Returns true if a datagram may be queued.
     fn may_queue(&self, datagram: &[u8]) -> bool
         ensures may { result ≡ may_queue self.now datagram.now }
     {
@@ -103,8 +103,8 @@ impl Queue {
         }
     }
 
-    /// Queues a datagram, and tells whether it did. The first of an instruction is queued while at most 65,536 bytes wait, each later one
-    /// where those before it were: where one isn't, or there is no memory for it, it is lost, and so are those that follow it.
+    /// Queues a datagram, and returns true if it was queued. The first of an instruction is queued if at most 65,536 bytes are; a later one
+    /// if those before it were. If one isn't, or memory is refused for it, it is lost with all that follow it.
     pub fn push(&mut self, datagram: &[u8]) -> bool
         ensures queued { result ≡ true → IsQueued self.old datagram.now self.new }
         ensures lost { result ≡ false → IsLost self.old self.new }

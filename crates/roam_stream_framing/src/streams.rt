@@ -1,4 +1,4 @@
-//! What carries datagrams.
+//! The streams that carry datagrams.
 ghost use Rattle.std.specs.Prelude.{◌∷◌, ℕ, List, [], Option, None, Result};
 ghost use Rattle.std.specs.declared.io.Error.{Error as ErrorOf};
 ghost use Rattle.std.specs.Io.{ReadsAtMost, WritesAtMost};
@@ -8,14 +8,14 @@ ghost use Rattle.roam_stream_framing.specs.Streams.{Answered};
 use std::io;
 use std::io::{Read, Write};
 
-/// A stream: a reader and a writer, of which a proof may know what they answer. All that reads and writes is one.
+/// A stream: a reader and a writer whose results a proof may know. Every reader and writer is one.
 pub trait Stream {
-    // The bytes that reads will give from here on, and those that were written, where they are known.
+    // The bytes that reads will give from here on, and those that were written, if they are known.
     ghost remaining: { Self → Option (List ℕ) } = { λ _. None };
 
     ghost contents: { Self → Option (List ℕ) } = { λ _. None };
 
-    // What reads and writes will answer from here on, where that is known.
+    // The results of reads and writes from here on, if they are known.
     ghost answers: { Self → Option (List (Result ℕ ErrorOf)) } = { λ _. None };
 
     /// Reads once.
