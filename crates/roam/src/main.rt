@@ -58,7 +58,7 @@ fn version(wire: Wire) -> Version {
     }
 }
 
-// Serves a session; where it couldn't be bound, a second line says why if that is asked for.
+// Serves a session. If a name could not be bound, a second line says why, if that is asked for.
 fn serve(rt: &HostRuntime, serve: &Serve<'_>) -> ExitCode {
     let ran = run_serve(rt, serve);
     let status = end(rt, ran);

@@ -62,7 +62,7 @@ fn applied<S: Synced>(alloc: Global, base: &S, text: &[u8], times: u32) -> Resul
     Ok(made)
 }
 
-// Whether two screens of one size have the same cells.
+// Returns true if two screens of one size have the same cells.
 fn is_same<S: Seen>(one: &S, other: &S) -> bool {
     if one.rows() != other.rows() {
         return false;
@@ -98,7 +98,7 @@ fn report<S: Synced + Seen>(
     Ok(())
 }
 
-// Reports a change in version 1 where both screens are of one, and in version 2.
+// Reports a change in version 1, if both screens have one, and in version 2.
 fn report_both(
     rt: &HostRuntime,
     name: &str,
@@ -144,7 +144,7 @@ fn measure_all(
     report_both(rt, "styles", &blank, &shot, times)
 }
 
-// Whether the change from a base to a screen leads there.
+// Returns true if the change from a base to a screen leads there.
 fn leads<S: Synced + Seen>(alloc: Global, base: &S, shot: &S) -> Result<bool, Fault> {
     let text = written(alloc, base, shot, 1)?;
     let made = applied(alloc, base, &text, 1)?;

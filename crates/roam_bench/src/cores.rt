@@ -16,27 +16,27 @@ const THERE: Addr = Addr {
     port: 5001,
 };
 
-/// What a pane's program writes at first, so many times.
+/// The first output of a pane's program, repeated so many times.
 static TEXT: &[u8] = b"the quick brown fox jumps over the lazy dog and comes back again";
 
 const PIECES: u16 = 500;
 
-/// What it writes for a changed row: the cursor home, and 64 characters.
+/// The output for a changed row: the cursor home, and 64 characters.
 static ROWS: [&[u8]; 2] = [
     b"\x1B[Habcdefghijklmnopqrstuvwxyzabcdefghijklmnopqrstuvwxyzabcdefghijkl",
     b"\x1B[Hzyxwvutsrqponmlkjihgfedcbazyxwvutsrqponmlkjihgfedcbazyxwvutsrqpo",
 ];
 
-/// What it writes for a key: the cursor home, and a character.
+/// The output for a key: the cursor home, and a character.
 static KEYS: [&[u8]; 2] = [b"\x1B[Ha", b"\x1B[Hb"];
 
-/// What it writes for a scroll: a line feed in the last row, and another line.
+/// The output for a scroll: a line feed in the last row, and another line.
 static SCROLLS: [&[u8]; 2] = [
     b"\x1B[999;1H\r\n$ cargo build",
     b"\x1B[999;1H\r\n   Compiling roam",
 ];
 
-/// What it writes for a redraw: all places at once (DECALN), and none.
+/// The output for a redraw: all places at once (DECALN), and none.
 static REDRAWS: [&[u8]; 2] = [b"\x1B#8", b"\x1B[2J"];
 
 /// A server and one client start, at a moment.
@@ -90,8 +90,8 @@ fn fill(alloc: Global, server: &mut Server, starts: u64) -> Result<(), Fault> {
     Ok(())
 }
 
-// A server whose pane was written all over, and that knows so many client starts. What owns one does nothing else, since each way out of
-// it is proved with all that is dropped there.
+// Returns a server with a full pane and so many client starts. An owner of a server does nothing else, since each of its exits is proved
+// with all that is dropped there.
 fn server_of(alloc: Global, rows: u16, cols: u16, starts: u64) -> Result<Server, Fault> {
     let mut server = Server::new(alloc, SESSION, rows, cols)?;
     fill(alloc, &mut server, starts)?;
@@ -170,7 +170,7 @@ fn at_port(port: u16) -> Addr {
     }
 }
 
-// What each client start has to send comes to the server.
+// Gives the server the datagrams of each client start.
 fn answer_all(
     alloc: Global,
     server: &mut Server,
@@ -269,7 +269,7 @@ fn measured_crowd(
     measured_among(rt, &mut server, &mut clients, times)
 }
 
-/// What is measured of a pair.
+/// The measured work of a pair.
 #[derive(Clone, Copy)]
 enum What {
     /// Copies of the face.
@@ -332,7 +332,7 @@ fn starts_of(alloc: Global, server: &mut Server, starts: u64) -> Result<Vec<Clie
     Ok(clients)
 }
 
-// One more screen is offered; each client start takes what is its own. None is acknowledged.
+// Offers one more screen, and gives each client start its own. None is acknowledged.
 fn offer(alloc: Global, server: &mut Server, clients: &mut [Client], k: u64) -> Result<u64, Fault> {
     server.pane_bytes(1, ROWS[(k % 2) as usize])?;
     let mut sum: u64 = 0;
@@ -361,7 +361,7 @@ fn keep_for(
     Ok(sum)
 }
 
-// Eight screens are kept for each of so many starts, and where these are kept too, each has its eight.
+// Keeps eight screens for each of so many starts, and, if the starts are kept too, eight at each.
 fn keep(alloc: Global, starts: u64, with_starts: bool) -> Result<u64, Fault> {
     let mut server = server_of(alloc, 24, 80, 0)?;
     keep_for(alloc, &mut server, starts, with_starts)
@@ -377,7 +377,7 @@ pub fn try_once(rt: &HostRuntime) -> anyhow::Result<()> {
     Ok(())
 }
 
-/// Ticks, and takes rounds, at the size that the words say, so often; the ticks after a key are of one client start and of nine.
+/// Ticks, and takes rounds, at the size in the words, that many times. The ticks after a key are for one client start and for nine.
 pub fn measure(rt: &HostRuntime, words: &mut Args) -> anyhow::Result<()> {
     let rows = words::size(words, "ROWS")?;
     let cols = words::size(words, "COLS")?;

@@ -1,9 +1,9 @@
-//! The same bytes in one flat list, filled and moved plainly: what a grid is measured against.
+//! The same bytes in one flat list, filled and moved plainly, as a yardstick for a grid.
 ghost use Rattle.std.specs.Prelude.{◌≤◌};
 
 use roam_cells::{Cell, Style};
 
-/// What is done to the list.
+/// The work on the list.
 #[derive(Clone, Copy)]
 pub enum Flat {
     /// One row is filled.

@@ -13,7 +13,7 @@ use std::time::Instant;
 /// The slices that the work is done in.
 const SLICES: u64 = 10;
 
-// A line of the output: what was done, on which size, how often, and the microseconds since the start.
+// Prints a line of output: the work, the size, the count, and the microseconds since the start.
 fn report(
     rt: &HostRuntime,
     name: &str,
@@ -114,8 +114,8 @@ pub fn try_once(rt: &HostRuntime) -> anyhow::Result<()> {
     Ok(())
 }
 
-/// Does the work of as many million characters as the words say, in slices, one size after the other, so that other work on the machine
-/// slows neither alone.
+/// Does the work of as many million characters as the words ask for, in slices, one size after another. So other work on the machine slows
+/// none of them alone.
 pub fn measure(rt: &HostRuntime, words: &mut Args) -> anyhow::Result<()> {
     let millions = words::number(words, "MILLIONS")?;
     let count = u64::from(millions) * 1_000_000 / SLICES;

@@ -40,12 +40,12 @@ fn print(rt: &HostRuntime, text: Result<Vec<u8>, Fault>) -> anyhow::Result<()> {
     Ok(())
 }
 
-/// Which texts are told.
+/// The texts to print.
 #[derive(Clone, Copy)]
 pub enum Texts {
-    /// The change of version 2, that of version 1 between what version 1 shows of both screens, and what the painter writes.
+    /// The change of version 2, that of version 1 between the screens as version 1 shows them, and the painting.
     Hop,
-    /// What the painter that moves rows writes, and what the other one does.
+    /// The painting with moved rows, and the one without.
     Moved,
 }
 
@@ -70,8 +70,8 @@ fn tell(rt: &HostRuntime, line: &str, texts: Texts) -> anyhow::Result<()> {
     }
 }
 
-/// For each line `ROWS COLS HEX ROWS COLS HEX` of standard input, two screens given by their sizes and the bytes that make them (`-` for
-/// none), prints texts that lead from the first to the second, each a line of hexadecimal digits.
+/// Prints texts that lead from one screen to another, each as a line of hexadecimal digits. Each line `ROWS COLS HEX ROWS COLS HEX` of
+/// standard input has two screens: their sizes and the bytes that make them, `-` for none.
 pub fn tell_all(rt: &HostRuntime, texts: Texts) -> anyhow::Result<()> {
     let alloc = rt.alloc();
     for line in BufReader::new(alloc, rt.reader())?.lines(alloc) {

@@ -1,17 +1,24 @@
-//! Measures a grid, changes and paintings of screens, and the two cores; the scripts of `bench/` drive it.
+//! Measures a grid, changes and paintings of screens, and the two cores; the scripts of `bench/` run it.
 //!
-//! `roam_bench grid MILLIONS` does the work of that many million characters in ten slices, and for each slice and way prints its name, the
-//! rows, the columns, how often it was done and the microseconds. `roam_bench paint ROWS COLS TIMES` paints a screen that stays, an echoed
-//! key, a scrolled screen and a full one that many times; it prints for each its name, the bytes, TIMES and the microseconds. `speed update
-//! ROWS COLS STYLES TIMES` writes and applies changes of screens in both versions, each that many times, and prints the version, the
-//! change, the cells, TIMES, the microseconds of writing and of applying, and the bytes of the text. `roam_bench cores ROWS COLS TIMES`
-//! copies a screen, ticks an idle server with one client start and with 64, takes as many rounds of a tick and its datagrams at the client
-//! start after one changed row, a scroll, a redraw and a key, and as many ticks after a key with one client start and with nine; it prints
-//! for each its name, TIMES, the nanoseconds that passed and a number that depends on the work: of a key the bytes of all datagrams. `speed
-//! records N` makes a server that keeps eight screens for each of N client starts, and `speed clients N` keeps these starts too, with eight
-//! screens each, so that a caller can see how much memory that takes. `roam_bench hops` and `roam_bench moved` measure nothing: of each
-//! line of standard input, which gives two screens, they tell texts that lead from one to the other. Without words it does a moment's work
-//! of each, and tells the texts of the lines of standard input.
+//! `roam_bench grid MILLIONS` does the work of that many million characters in ten slices. For each slice and way it prints the name, rows,
+//! columns, count and microseconds.
+//!
+//! `roam_bench paint ROWS COLS TIMES` paints an unchanged screen, an echoed key, a scrolled screen and a full one, that many times each. It
+//! prints the name, bytes, TIMES and microseconds.
+//!
+//! `roam_bench update ROWS COLS STYLES TIMES` writes and applies changes of screens in both versions, that many times each. It prints the
+//! version, the change, the cells, TIMES, the microseconds of writing and of applying, and the bytes of the text.
+//!
+//! `roam_bench cores ROWS COLS TIMES` copies a screen, and ticks an idle server with one client start and with 64. It takes as many rounds
+//! of a tick and its datagrams after one changed row, a scroll, a redraw and a key. It takes as many ticks after a key with one client
+//! start and with nine. It prints the name, TIMES, the nanoseconds, and a number that depends on the work: for a key the bytes of all
+//! datagrams.
+//!
+//! `roam_bench records N` makes a server that keeps eight screens for each of N client starts. `roam_bench clients N` keeps these starts too, with
+//! eight screens each. A caller can then read how much memory that takes.
+//!
+//! `roam_bench hops` and `roam_bench moved` measure nothing. For each line of standard input, which has two screens, they print texts that
+//! lead from one to the other. Without words the program does a little of each, and prints the texts of the lines of standard input.
 #![tactic(auto)]
 
 mod changes;

@@ -21,7 +21,7 @@ fn fill(term: &mut Term, rows: u16, cols: u16, first: u8) -> Result<(), Fault> {
     Ok(())
 }
 
-// What a terminal shows once it is full of letters and something more was written.
+// Returns the screen of a terminal full of letters after some more output.
 fn write(
     alloc: Global,
     term: &mut Term,

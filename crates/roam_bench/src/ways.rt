@@ -1,4 +1,4 @@
-//! What is done to a grid, again and again.
+//! The repeated work on a grid.
 use roam_cells::{Cell, Extent, Style};
 use roam_grid::{Grid, Writing};
 
@@ -10,7 +10,7 @@ const WRITING: Writing = Writing {
 /// Bytes of a run: more than a row of either size.
 const RUN: usize = 1000;
 
-/// What is done to it.
+/// The work on the grid.
 #[derive(Clone, Copy)]
 pub enum Way {
     /// Characters one by one, with a scroll at each row's end.
@@ -91,7 +91,7 @@ fn shift_cells(grid: &mut Grid, times: u64) {
     }
 }
 
-// Lines of all columns on the bottom margin, where the buffer's first row stands in the middle of the screen.
+// Writes lines of all columns at the bottom margin, with the buffer's first row in the middle of the screen.
 fn scroll_between(grid: &mut Grid, times: u64) {
     write_pages(grid, false, 1);
     grid.scroll_up(grid.rows() / 2);

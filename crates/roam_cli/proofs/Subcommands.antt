@@ -1,4 +1,4 @@
--- A subcommand's options ask for what the words do.
+-- The options of a subcommand give the request of the words.
 use Rattle.std.proofs.Common.{◌≡◌, ℕ, List, Some, sym, ap, ◌∙◌}
 use Rattle.std.specs.Prelude.{Result, Ok, Err, IfOk, codes, option_map}
 use Rattle.clap.specs.Matches.{found_of, subcommand_name_of}

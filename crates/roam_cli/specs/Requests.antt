@@ -1,4 +1,4 @@
--- What words ask for, by what `clap` found in them.
+-- The request of the words, given the matches of `clap`.
 use Rattle.std.specs.Prelude.{◌≡◌, ◌-◌, ◌==◌, ◌^◌, ◌<◌, ℕ, Bool, true, false, List, Option, Some, None, MatchOption, option_map, unwrap_or, if◌then◌else◌, codes}
 use Rattle.std.specs.Option.{SomeIff}
 use Rattle.std.specs.Str.Parse.{IsNumeral, digits_value, without_leading_plus}
@@ -19,21 +19,21 @@ use Rattle.roam_cli.specs.declared.words.Wire.TheVariants.{One, Two}
 
 -- ---- one option
 
--- the id that is given of an option, where one is: the word writes it
+-- the id of an option, if it is given, as the word writes it
 abbrev pub IsIdOf : Found → List ℕ → Option ℕ → Type 0
 IsIdOf found name id = option_map id_in (first_value found name) ≡ option_map Some id
 
--- the number of so many bits that a text writes in decimals, where it does
+-- the number of so many bits that a text writes in decimals
 abbrev pub IsNumberIn : ℕ → List ℕ → Option ℕ → Type 0
 IsNumberIn bits text number =
     let digits = without_leading_plus text in
     SomeIff number (IsNumeral 10 digits × (digits_value 10 digits < 2 ^ bits)) (digits_value 10 digits)
 
--- the number that is given of an option, where one is
+-- the number of an option, if it is given
 abbrev pub IsNumberOf : ℕ → Found → List ℕ → Option ℕ → Type 0
 IsNumberOf bits found name number = MatchOption (one_text found name) (number ≡ None) (λ text. IsNumberIn bits text number)
 
--- as many turns as can be counted, where no number is given
+-- the default number of turns: as many as can be counted
 abbrev pub most_turns : ℕ
 most_turns = 2 ^ 64 - 1
 
@@ -41,7 +41,7 @@ abbrev pub IsTurnsOf : Found → ℕ → Type 0
 IsTurnsOf found turns =
     (number : Option ℕ) × IsNumberOf 64 found (codes "turns") number × (turns ≡ unwrap_or number most_turns)
 
--- the first version where it is asked for, else the second
+-- the first version if it is asked for, else the second
 abbrev pub version_of : Option ℕ → Wire
 version_of None = Two
 version_of (Some number) = if number == 1 then One else Two
@@ -55,7 +55,7 @@ pub record IsFlagOf (found : Found) (name : List ℕ) (flag : Bool) : Type 0 whe
   pub given : one_text found name ≡ Some (codes "true") → flag ≡ true
   pub other : one_text found name ≡ Some (codes "false") → flag ≡ false
 
--- ---- where a server is, and where acts come from
+-- ---- the server, and the source of acts
 
 abbrev pub IsServerOf : Found → Server → Type 0
 IsServerOf found (server.Folder path) = first_value found (codes "dir") ≡ Some path.now

@@ -1,4 +1,4 @@
-//! The words of a run and what they ask for; where that is no run, it is told, and the run has an exit status.
+//! The words of a run and their request. If they are no run, a message is printed, and the run has an exit status.
 ghost use Rattle.std.specs.Prelude.{◌≤◌, IfErr};
 ghost use Rattle.std.specs.Process.{exit_status};
 
@@ -10,7 +10,8 @@ use std::env::{Env, FillError};
 use std::io::ErrorKind;
 use std::process::ExitCode;
 
-/// The program's words, its own name first. Where they can't be had, says why on standard error and gives the exit status.
+/// Returns the program's words, its own name first. If the system doesn't give them, prints the reason to standard error and returns the
+/// exit status.
 pub fn words_of(rt: &HostRuntime) -> Result<Vec<String>, ExitCode>
     ensures refused { IfErr result (λ status. exit_status status ≤ 2) }
 {
@@ -20,8 +21,8 @@ pub fn words_of(rt: &HostRuntime) -> Result<Vec<String>, ExitCode>
     }
 }
 
-/// What the words ask for, the program's own name first. Where that is a text, or they are refused, prints it and gives the exit status:
-/// 0 for a text, 2 for a refusal, 1 for want of memory or where it can't be written.
+/// Returns the request of the words, the program's own name first. For a text or a refusal, prints it and returns the exit status: 0 for a
+/// text, 2 for a refusal, 1 for `OutOfMemory` or a failed write.
 pub fn asked<'a>(rt: &HostRuntime, words: &'a [String]) -> Result<Request<'a>, ExitCode>
     ensures refused { IfErr result (λ status. exit_status status ≤ 2) }
 {
@@ -31,7 +32,7 @@ pub fn asked<'a>(rt: &HostRuntime, words: &'a [String]) -> Result<Request<'a>, E
     }
 }
 
-/// Whether the environment asks that a run tells why it ended, by the variable ROAM_WHY: it is there, and not empty.
+/// Returns true if the environment asks for the reason for which a run ended: the variable ROAM_WHY is set and not empty.
 pub fn asks_why(env: &impl Env) -> bool {
     match env.var("ROAM_WHY", &mut [0u8; 16]) {
         Ok(length) => length > 0,

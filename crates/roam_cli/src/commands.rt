@@ -3,7 +3,7 @@ use crate::options::{Choice, Needed, Reads};
 use clap::Command;
 use std::alloc::{AllocError, Global};
 
-/// What `roam world --help` says of a script.
+/// The part of `roam world --help` about a script.
 const LINES: &str = "\
 Lines, with one space between words:
   session ID R C      A session begins, of R rows and C columns; the first line
@@ -38,7 +38,7 @@ Example:
                       |[1]     |
                       cursor 1 3 shown";
 
-/// What `roam rows --help` says of records.
+/// The part of `roam rows --help` about records.
 const RECORDS: &str = "\
 Records, a line each, with one space between words; N is a terminal, 0 to 1023:
   pane N R C          A new terminal of R rows and C columns stands at N
@@ -60,7 +60,7 @@ Example:
   x
   y";
 
-/// A subcommand: its name, what it does, what else its help says, and its options.
+/// A subcommand: its name, its summary, the rest of its help, and its options.
 struct Subcommand {
     name: &'static str,
     about: &'static str,

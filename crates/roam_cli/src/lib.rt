@@ -1,6 +1,6 @@
-//! The command line of `roam`: what its words ask for.
+//! The command line of `roam`: the request of its words.
 //!
-//! It stands beside what the program runs, so that nothing else reads the command line's library.
+//! It is a crate of its own, so that no other crate reads the command line's library.
 #![tactic(auto)]
 
 mod asking;

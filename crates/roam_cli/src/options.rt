@@ -2,8 +2,8 @@
 use clap::{Arg, ArgAction, value_parser};
 use std::alloc::{AllocError, Global};
 
-/// An option: its long name, what its value is called, its help, how the value is read, whether it has to be given, which others have to be
-/// given beside it, and which can't be.
+/// An option: its long name, the name of its value, its help, how its value is read, if it is required, and the options that it requires or
+/// excludes.
 pub struct Choice<'a> {
     pub name: &'a str,
     pub value: &'a str,
@@ -14,7 +14,7 @@ pub struct Choice<'a> {
     pub excludes: &'a [&'a str],
 }
 
-/// Whether an option has to be given: always, never, or where another isn't.
+/// If an option is required: always, never, or without another.
 #[derive(Clone, Copy)]
 pub enum Needed<'a> {
     Always,
@@ -22,7 +22,7 @@ pub enum Needed<'a> {
     Unless(&'a str),
 }
 
-/// How the value of an option is read: as a word, as a number up to 65,535 or to 2^64 - 1, as a version, 1 or 2; or it has none.
+/// How the value of an option is read: as a word, as a number up to 65,535 or to 2^64 - 1, or as a version, 1 or 2; or it has none.
 #[derive(Clone, Copy)]
 pub enum Reads {
     Word,

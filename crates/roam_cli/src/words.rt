@@ -1,4 +1,4 @@
-//! What the words of the command line ask for.
+//! The request of the words of the command line.
 ghost use Rattle.std.specs.Prelude.{◌≡◌, IfOk, IfErr, codes};
 ghost use Rattle.clap.specs.Matches.{found_of};
 ghost use Rattle.roam_cli.specs.Requests.{IsAttach, IsIdOf, IsNumberOf, IsRows, IsServe, IsServerOf, IsShow, IsSourceOf, IsTurnsOf, IsWireOf, Asks};
@@ -10,7 +10,7 @@ use roam_tokens::id;
 use std::alloc::Global;
 use std::convert::AsStr;
 
-/// What the words ask for. Ports, rows and columns are numbers up to 65,535, turns up to 2^64 - 1, ids are read from 1 to 16 hexadecimal
+/// The request of the words. Ports, rows and columns are numbers up to 65,535, turns up to 2^64 - 1; ids are read from 1 to 16 hexadecimal
 /// digits.
 #[derive(Drop)]
 pub enum Request<'a> {
@@ -20,7 +20,7 @@ pub enum Request<'a> {
         cols: u16,
     },
 
-    /// `roam rows`: the rows are told that leave terminals; what their programs write may be read as it is meant.
+    /// `roam rows`: prints the rows that leave terminals. The bytes of their programs may be normalized.
     Rows {
         normalize: bool,
     },
@@ -28,8 +28,8 @@ pub enum Request<'a> {
     /// `roam world`: a script is played.
     World,
 
-    /// `roam serve`: a server of this session, or of one by chance, for so many turns (2^64 - 1 where the words name none), with its
-    /// sockets in this folder, and on this port of loopback where there is one; what panes' programs write may be read as it is meant.
+    /// `roam serve`: a server of this session, or of a random one, for so many turns, 2^64 - 1 by default. Its sockets are in this folder,
+    /// and its port is on loopback if one is given. The bytes of panes' programs may be normalized.
     Serve {
         folder: &'a str,
         port: Option<u16>,
@@ -38,8 +38,8 @@ pub enum Request<'a> {
         normalize: bool,
     },
 
-    /// `roam attach`: a client start with this id, or one by chance, for so many turns, of the session that is served in this folder or on
-    /// this port of loopback, with the acts that come from this source; it speaks this version, and may only watch.
+    /// `roam attach`: a client start with this id, or a random one, for so many turns. Its session is served in this folder or on this port
+    /// of loopback. It types the acts of this source, has this version, and may be read-only.
     Attach {
         server: Server<'a>,
         session: Option<u64>,
@@ -81,8 +81,7 @@ pub enum Wire {
     Two,
 }
 
-/// Why the words ask for nothing: want of memory; words that are no text; an id that is none; or `clap`'s answer, a refusal or a text
-/// that was asked for.
+/// The reason for which words have no request: memory was refused; words aren't text; an id is bad; or `clap` gave a refusal or a text.
 #[derive(Drop)]
 pub enum Refusal {
     Memory,
@@ -91,7 +90,7 @@ pub enum Refusal {
     Clap(Error),
 }
 
-// The id that a word writes, where there is one. `BadId` where the word writes none.
+// Returns the id of a word, if there is one. `BadId` if the word writes none.
 fn id_in(matches: &ArgMatches<'_>, name: &str) -> Result<Option<u64>, Refusal>
     ensures id { IfOk result (IsIdOf (found_of matches.now) name.now) }
 {
@@ -104,21 +103,21 @@ fn id_in(matches: &ArgMatches<'_>, name: &str) -> Result<Option<u64>, Refusal>
     }
 }
 
-// The number up to 65,535 of an option, where there is one.
+// Returns the number up to 65,535 of an option, if there is one.
 fn small_in(matches: &ArgMatches<'_>, name: &str) -> Option<u16>
     ensures number { IsNumberOf 16 (found_of matches.now) name.now result }
 {
     matches.get_one::<u16>(name)
 }
 
-// How many turns a run takes: as many as can be counted, where no number is given.
+// Returns the number of turns of a run: as many as can be counted by default.
 fn turns_in(matches: &ArgMatches<'_>) -> u64
     ensures turns { IsTurnsOf (found_of matches.now) result }
 {
     matches.get_one::<u64>("turns").unwrap_or(u64::MAX)
 }
 
-// What `roam serve` is asked for. `BadId` where an id is none.
+// Returns the request of `roam serve`. `BadId` for a bad id.
 fn serve_of<'a>(matches: &ArgMatches<'a>) -> Result<Request<'a>, Refusal>
     ensures serve { IfOk result (IsServe (found_of matches.now)) }
 {
@@ -136,7 +135,7 @@ fn serve_of<'a>(matches: &ArgMatches<'a>) -> Result<Request<'a>, Refusal>
     }
 }
 
-// The version that a client start speaks: the second, where the first isn't asked for.
+// Returns the version of a client start: the second, unless the first is asked for.
 fn wire_in(matches: &ArgMatches<'_>) -> Wire
     ensures wire { IsWireOf (found_of matches.now) result }
 {
@@ -174,7 +173,7 @@ fn source_in<'a>(matches: &ArgMatches<'a>) -> Source<'a>
     }
 }
 
-// What `roam attach` is asked for. `BadId` where an id is none.
+// Returns the request of `roam attach`. `BadId` for a bad id.
 fn attach_of<'a>(matches: &ArgMatches<'a>) -> Result<Request<'a>, Refusal>
     ensures attach { IfOk result (IsAttach (found_of matches.now)) }
 {
@@ -189,7 +188,7 @@ fn attach_of<'a>(matches: &ArgMatches<'a>) -> Result<Request<'a>, Refusal>
     })
 }
 
-// What `roam show` is asked for.
+// Returns the request of `roam show`.
 fn show_of<'a>(matches: &ArgMatches<'a>) -> Result<Request<'a>, Refusal>
     ensures show { IfOk result (IsShow (found_of matches.now)) }
 {
@@ -200,7 +199,7 @@ fn show_of<'a>(matches: &ArgMatches<'a>) -> Result<Request<'a>, Refusal>
     }
 }
 
-// What `roam rows` is asked for.
+// Returns the request of `roam rows`.
 fn rows_of<'a>(matches: &ArgMatches<'_>) -> Request<'a>
     ensures rows { IsRows (found_of matches.now) result }
 {
@@ -209,7 +208,7 @@ fn rows_of<'a>(matches: &ArgMatches<'_>) -> Request<'a>
     }
 }
 
-/// What the words ask for, as `clap` matched them: of each option what was found of it. `BadId` where an id is none.
+/// Returns the request of the words, given the matches of `clap` for each option. `BadId` for a bad id.
 pub fn request_of<'a>(matches: &ArgMatches<'a>) -> Result<Request<'a>, Refusal>
     ensures asks { IfOk result (Asks matches.now) }
 {
@@ -224,7 +223,7 @@ pub fn request_of<'a>(matches: &ArgMatches<'a>) -> Result<Request<'a>, Refusal>
     }
 }
 
-/// What the words ask for, the program's own name first.
+/// Returns the request of the words, the program's own name first.
 pub fn read_words<'a, S: AsStr>(alloc: Global, words: &'a [S]) -> Result<Request<'a>, Refusal> {
     let Ok(program) = program(alloc) else {
         return Err(Refusal::Memory);

@@ -1,4 +1,4 @@
--- What is true of what was found.
+-- A property of an element that a search found.
 use Rattle.std.proofs.Common.{◌≡◌, Option, Some, None, subst}
 use Rattle.std.specs.Prelude.{IfSome}
 

@@ -1,4 +1,4 @@
--- What was said leads on.
+-- The records sent so far lead on.
 use Rattle.std.proofs.Common.{◌≡◌, ◌⊎◌, ℕ, ◌≤◌, Bool, true, false, eqb, List, [], ◌∷◌, ◌++◌, map, append-nil, append_assoc, Option, Some, None, refl, sym, ap, ◌∙◌, subst, inl, inr, arith}
 use Rattle.std.proofs.lemmas.Bool.{eqb-true}
 use Rattle.std.proofs.lemmas.List.{map-append}
@@ -43,7 +43,7 @@ fits_last : (rows cols lines : ℕ) (log : List Item) (told : Option (ℕ × ℕ
 fits_last rows cols lines log told [] h = h
 fits_last rows cols lines log told (r ∷ said) h = fits_last rows cols lines log (size_after told r) said h.1
 
--- ---- the size of what is painted is told before
+-- ---- the size precedes the painting
 
 both_true : (a b : Bool) → (a && b) ≡ true → (a ≡ true) × (b ≡ true)
 both_true true b h = (refl, h)
@@ -106,7 +106,7 @@ shows_joined rows cols lines log first later s size led =
     (led.displays, record { rows = led.size.rows ∙ size.rows; cols = led.size.cols ∙ size.cols }) in
     record { displays = both.0; size = both.1 }
 
--- ---- a screen is told
+-- ---- a screen is sent
 
 module _ (said : List Record) (old : DisplayStateView) (view : Screenshot) (placed : Option (ℕ × ℕ)) (text : Bor (List ℕ)) where
   abbrev Before : List Record

@@ -1,4 +1,4 @@
--- The text of a painting is that of another one where the same places differ, and show the same then.
+-- Two paintings have one text if the same places differ and get the same content.
 use Rattle.std.proofs.Common.{◌≡◌, ◌⊎◌, ℕ, zero, suc, ◌+◌, ◌-◌, Bool, true, false, eqb, List, [], ◌∷◌, ◌++◌, map, refl, sym, ap, ◌∙◌, subst, arith, inl, inr}
 use Rattle.std.proofs.lemmas.Bool.{eq-eqb}
 use Rattle.std.specs.List.{flat_map}
@@ -23,7 +23,7 @@ use Rattle.roam_display_state.specs.Masking.{IsBeside, MaskedCellsStay}
 abbrev Marks : Type 0
 Marks = ℕ → ℕ → Bool
 
--- the same places are drawn, what is drawn is the same, and so is which of them go on
+-- the same places are drawn, with the same content, and the same ones continue a run
 record Alike (d d' : Marks) (new new' : Places) : Type 0 where
   pub drawn : (r c : ℕ) → is_drawn d new r c ≡ is_drawn d' new' r c
   pub shown : (r c : ℕ) → is_drawn d new r c ≡ true → new r c ≡ new' r c

@@ -1,4 +1,4 @@
--- What a terminal is told in records, and what is kept of it (this project's profile).
+-- The records of a terminal, and the state behind them (this project's profile).
 use Rattle.std.specs.Borrow.{Bor}
 use Rattle.std.specs.Prelude.{◌≡◌, ℕ, Bool, true, false, ◌&&◌, ◌==◌, List, [], ◌∷◌, ◌++◌, length, Option, Some, None, nat_lt, if◌then◌else◌, Result, Ok, Err}
 use Rattle.roam_cells.specs.Limits.{IsSize}
@@ -25,8 +25,8 @@ use Rattle.roam_display_state.specs.declared.scopes.Scope.TheVariants.{Whole, Ex
 abbrev pub most_masks : ℕ
 most_masks = 4
 
--- which part of the screen is shown; which cells of the terminal aren't painted; what it shows, where that is known; the size and the place
--- that were told last; the screen that it asked for; and the lines that were taken
+-- The part of the screen to show; the cells that stay unpainted; the terminal's screen, if it is known; the size and the place that were
+-- sent last; the requested screen; and the taken lines.
 pub record DisplayStateView : Type 0 where
   pub scope : Scope
   pub masks : List Part
@@ -36,14 +36,14 @@ pub record DisplayStateView : Type 0 where
   pub looking : Option Looking
   pub taken : TakenView
 
--- nothing is told yet: the whole screen is to be shown
+-- nothing is sent yet: the whole screen is to be shown
 abbrev pub nothing_told : DisplayStateView
 nothing_told =
     record { scope = Whole; masks = []; view = None; sized = None; placed = None; looking = None; taken = nothing_taken }
 
--- ---- what is to be shown
+-- ---- the part to show
 
--- another part is shown from now on, or other cells are masked: what the terminal shows isn't known any more, and is painted anew
+-- Another part is to be shown from now on, or other cells are masked. The terminal's screen is unknown then, and is painted anew.
 abbrev pub shown_so : Showing → DisplayStateView → DisplayStateView
 shown_so showing.Whole t = record t { scope = Whole; view = None; placed = None }
 shown_so (showing.Exactly part) t = record t { scope = Exactly part; view = None; placed = None }
@@ -62,32 +62,32 @@ has_room_for showing.Unmask t = true
 
 -- ---- a painting
 
--- a text leads a terminal from what it shows to a screen; where that isn't known it leads any terminal
+-- a text leads a terminal from its screen to another; if its screen is unknown, the text leads any terminal
 abbrev pub LeadsFrom : Option Screenshot → List ℕ → Screenshot → Type 0
 LeadsFrom None text s = ShowsSized None text s
 LeadsFrom (Some old) text s = Leads old s text
 
--- where cells are masked the text writes each place that differs, and no other
+-- if cells are masked, the text writes each place that differs, and no other
 abbrev pub IsStill : List Part → Option Screenshot → List ℕ → Screenshot → Type 0
 IsStill [] before text s = Unit {0}
 IsStill (mask ∷ masks) None text s = Unit {0}
 IsStill (mask ∷ masks) (Some old) text s = text ≡ text_between old s
 
--- two numbers were told last
+-- these two numbers were sent last
 abbrev pub is_told : Option (ℕ × ℕ) → ℕ → ℕ → Bool
 is_told None first second = false
 is_told (Some told) first second = told.0 == first && told.1 == second
 
--- the size of what is painted is told where another was told last
+-- the size of the painting is sent if another was sent last
 abbrev pub sizes_said : Option (ℕ × ℕ) → Screenshot → List Record
 sizes_said told s = if is_told told s.rows s.cols then [] else Size s.rows s.cols ∷ []
 
--- where a part begins is told where another place was told last
+-- the place of a part is sent if another was sent last
 abbrev pub places_said : Option (ℕ × ℕ) → Option (ℕ × ℕ) → List Record
 places_said told None = []
 places_said told (Some place) = if is_told told place.0 place.1 then [] else Place place.0 place.1 ∷ []
 
--- a painting is told: one that opens the terminal first where it isn't known what that shows
+-- a painting is sent; it opens the terminal first if its screen is unknown
 abbrev pub painting_said : Option Screenshot → Bor (List ℕ) → Record
 painting_said None text = Anew text
 painting_said (Some before) text = Paint text
@@ -98,9 +98,9 @@ pub record IsCurrent (part : Part) (view : Screenshot) (t : DisplayStateView) : 
   pub sized : sizes_said t.sized view ≡ []
   pub placed : places_said t.placed (place_told t.scope part) ≡ []
 
--- A screen is to be shown. The terminal shows the wanted part of it already, and is sent nothing; or no screen has the size of that part, or
--- memory was refused, and nothing is sent and nothing changes; or the part is painted, its size and its place are sent before, and the terminal
--- shows it from then on.
+-- The results for a screen to show. The terminal shows its part already, and nothing is sent. Or no screen has the size of that part, or
+-- memory was refused, and nothing is sent or changed. Or the part is painted, its size and place are sent before, and the terminal shows it
+-- from then on.
 pub data Tells (screen : Screenshot) (said : List Record) (old new : DisplayStateView) : Type 0 where
   current : (part : Part) → part ≡ part_for old.scope screen → IsCurrent part (part_of part old.masks screen) old → said ≡ [] → new ≡ old
       → Tells screen said old new
@@ -122,10 +122,10 @@ pub data Tells (screen : Screenshot) (said : List Record) (old new : DisplayStat
       }
       → Tells screen said old new
 
--- ---- what was asked for
+-- ---- the requested screen
 
--- No screen was asked for, and nothing is sent; or memory was refused, and nothing is sent and nothing changes; or the screen that was asked
--- for is sent cell by cell.
+-- No screen was requested, and nothing is sent; or memory was refused, and nothing is sent or changed; or the requested screen is sent cell
+-- by cell.
 pub data TellsLook (screen : Screenshot) (said : List Record) (old new : DisplayStateView) : Type 0 where
   unasked : old.looking ≡ None → said ≡ [] → new ≡ old → TellsLook screen said old new
   no_memory : said ≡ [] → new ≡ old → TellsLook screen said old new
@@ -133,17 +133,17 @@ pub data TellsLook (screen : Screenshot) (said : List Record) (old new : Display
       → said ≡ Screen text ∷ []
       → new ≡ record old { looking = None } → TellsLook screen said old new
 
--- So many acts are acknowledged. The number of lines that were taken, with all their acts acknowledged, did not rise, and nothing is sent; or
--- memory was refused, and nothing is sent and nothing changes; or it rose, and is sent.
+-- So many acts are acknowledged. The count of taken lines with all acts acknowledged didn't rise, and nothing is sent; or memory was
+-- refused, and nothing is sent or changed; or it rose, and is sent.
 pub data TellsTaken (acknowledged : ℕ) (said : List Record) (old new : DisplayStateView) : Type 0 where
   same : risen old.taken.told (done_after acknowledged old.taken) ≡ None → said ≡ [] → new ≡ old → TellsTaken acknowledged said old new
   no_memory : said ≡ [] → new ≡ old → TellsTaken acknowledged said old new
   rose : (lines : ℕ) → risen old.taken.told (done_after acknowledged old.taken) ≡ Some lines → said ≡ Taken lines ∷ []
       → new ≡ record old { taken = acknowledged_of acknowledged old.taken } → TellsTaken acknowledged said old new
 
--- ---- what a call returns
+-- ---- the result of a call
 
--- what a call returns that has sent so much
+-- the result of a call that sent these records
 abbrev pub answer_of_screen : {screen : Screenshot} {said : List Record} {old new : DisplayStateView} → Tells screen said old new → Result (Unit {0}) Fault
 answer_of_screen (current part is_part is_current none stays) = Ok tt
 answer_of_screen (bad_size part is_part is_none none stays) = Err BadSize

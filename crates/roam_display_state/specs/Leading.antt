@@ -1,4 +1,4 @@
--- What a terminal is told in records leads it to what is to be shown (this project's profile).
+-- The records of a terminal lead it to the screen to show (this project's profile).
 use Rattle.std.specs.Prelude.{◌≡◌, ◌⊎◌, ℕ, ◌≤◌, List, [], ◌∷◌, ◌++◌, Option, Some, None}
 use Rattle.roam_display_records.specs.declared.records.Record.{Record}
 use Rattle.roam_display_records.specs.declared.records.Record.TheVariants.{Events, Size, Place, Paint, Anew, Screen, Silent, Heard, Refused, Taken, Full}
@@ -9,7 +9,7 @@ use Rattle.roam_turns.specs.Painting.{DisplaysNoted, ShowsAt}
 use Rattle.roam_display_state.specs.Saying.{painting_in, paintings_in}
 use Rattle.roam_display_state.specs.DisplayState.{DisplayStateView, Tells}
 
--- the size that a record tells, else the one that was told before
+-- the size in a record, else the last one before
 abbrev pub size_after : Option (ℕ × ℕ) → Record → Option (ℕ × ℕ)
 size_after told Events = told
 size_after told (Size rows cols) = Some (rows, cols)
@@ -23,25 +23,24 @@ size_after told (Refused line words) = told
 size_after told (Taken lines) = told
 size_after told Full = told
 
--- the size that was told last
+-- the size that was sent last
 abbrev pub last_size : Option (ℕ × ℕ) → List Record → Option (ℕ × ℕ)
 last_size told [] = told
 last_size told (r ∷ said) = last_size (size_after told r) said
 
--- a terminal has the rows and columns of a size that was told at least
+-- a terminal has at least the rows and columns of a sent size
 abbrev pub FitsSize : (rows cols lines : ℕ) → List Item → Option (ℕ × ℕ) → Type 0
 FitsSize rows cols lines log None = Unit {0}
 FitsSize rows cols lines log (Some size) =
     (size.0 ≤ (term rows cols lines log).live.screen.rows) × (size.1 ≤ (term rows cols lines log).live.screen.cols)
 
--- of each size that was told
+-- the same for each sent size
 abbrev pub FitsSaid : (rows cols lines : ℕ) → List Item → Option (ℕ × ℕ) → List Record → Type 0
 FitsSaid rows cols lines log told [] = FitsSize rows cols lines log told
 FitsSaid rows cols lines log told (r ∷ said) =
     FitsSize rows cols lines log told × FitsSaid rows cols lines log (size_after told r) said
 
--- paintings lead any terminal that has each size which was told, in whatever state, to what it is to show; and the size of that was told
--- last
+-- paintings lead any terminal of at least each sent size, in any state, to the screen to show, whose size was sent last
 abbrev pub LeadsTo : List Record → Option (ℕ × ℕ) → List ℕ → Option Screenshot → Type 0
 LeadsTo said sized text None = Unit {0}
 LeadsTo said sized text (Some view) =
@@ -49,8 +48,8 @@ LeadsTo said sized text (Some view) =
     × ((rows cols lines : ℕ) (log : List Item) → DisplaysNoted rows cols lines log None → FitsSaid rows cols lines log None said
     → ShowsAt rows cols lines log text view)
 
--- What was said to a terminal since records began: the size that is noted is the one that was told last; and the paintings since it was
--- last painted anew lead to what it is to show.
+-- The records of a terminal since they began. The noted size is the one sent last. The paintings since the terminal was last painted anew
+-- lead to the screen to show.
 pub record IsSaid (said : List Record) (t : DisplayStateView) : Type 0 where
   pub earlier : List Record
   pub since : List Record
@@ -58,7 +57,7 @@ pub record IsSaid (said : List Record) (t : DisplayStateView) : Type 0 where
   pub sized : t.sized ≡ last_size None said
   pub leads : LeadsTo said t.sized (paintings_in since) t.view
 
--- these records paint nothing, and tell no size
+-- these records have no painting and no size
 abbrev pub AreQuiet : List Record → Type 0
 AreQuiet [] = Unit {0}
 AreQuiet (r ∷ said) =
@@ -66,16 +65,16 @@ AreQuiet (r ∷ said) =
 
 -- ---- the laws
 
--- where records begin nothing is said
+-- no records are sent at the beginning
 abbrev pub BeginsSaid : Type 0
 BeginsSaid = (t : DisplayStateView) → t.view ≡ None → t.sized ≡ None → IsSaid [] t
 
--- once a screen is told, so it is
+-- the property stays after one more screen is sent
 abbrev pub TellsOn : Type 0
 TellsOn = (screen : Screenshot) (said more : List Record) (old new : DisplayStateView) → IsSaid said old → Tells screen more old new
     → IsSaid (said ++ more) new
 
--- and once anything is said that paints nothing, as long as what is shown and told stays, or isn't known any more
+-- and after records without a painting, if the shown screen and the sent size stay, or the screen becomes unknown
 abbrev pub QuietOn : Type 0
 QuietOn = (said more : List Record) (old new : DisplayStateView) → IsSaid said old → AreQuiet more → new.sized ≡ old.sized
     → (new.view ≡ old.view) ⊎ (new.view ≡ None) → IsSaid (said ++ more) new

@@ -1,4 +1,4 @@
--- What stands in masked cells stays where a terminal is painted round them (this project's profile).
+-- The content of masked cells stays while a terminal is painted around them (this project's profile).
 use Rattle.std.specs.Prelude.{◌≡◌, ℕ, ◌+◌, Bool, true, false, List}
 use Rattle.roam_cells.specs.Glyph.{is_wide, blank}
 use Rattle.roam_paint.specs.Painting.{text_between}
@@ -8,7 +8,7 @@ use Rattle.roam_screens.specs.Screenshot.{Screenshot, IsScreenshot}
 use Rattle.roam_scroll_paint.specs.Leads.{Leads}
 use Rattle.roam_term.specs.Ground.{shown_at}
 
--- one screen is another but for what stands in masked cells
+-- one screen is another except for the content of masked cells
 pub record IsBeside (masks : List Part) (s other : Screenshot) : Type 0 where
   pub rows : other.rows ≡ s.rows
   pub cols : other.cols ≡ s.cols
@@ -17,8 +17,8 @@ pub record IsBeside (masks : List Part) (s other : Screenshot) : Type 0 where
   pub visible : other.visible ≡ s.visible
   pub places : (r c : ℕ) → is_masked masks r c ≡ false → shown_at other r c ≡ shown_at s r c
 
--- A terminal is painted from one screen to another of its size, in both of which masked cells are blank: one that shows something else in
--- them, of which no wide character reaches out of them, shows the same in them afterwards, and round them the other screen.
+-- A terminal is painted from one screen to another of its size, both with blank masked cells. If it shows other content in them, of which
+-- no wide character crosses the edge, it shows that content afterwards, and the other screen around it.
 abbrev pub MaskedCellsStay : Type 0
 MaskedCellsStay =
     (masks : List Part) (before view there later : Screenshot) → view.rows ≡ before.rows → view.cols ≡ before.cols

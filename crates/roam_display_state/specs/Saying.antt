@@ -1,4 +1,4 @@
--- What is said to a terminal in records, and what of it is painted there (this project's profile).
+-- The records sent to a terminal, and the paintings in them (this project's profile).
 use Rattle.std.specs.Prelude.{◌≡◌, ℕ, List, [], ◌∷◌, ◌++◌}
 use Rattle.std.specs.List.{flat_map}
 use Rattle.roam_display_records.specs.Records.{text_of}
@@ -9,7 +9,7 @@ use Rattle.roam_display_records.specs.declared.records.Record.TheVariants.{Event
 abbrev pub texts_of : List Record → List ℕ
 texts_of said = flat_map text_of said
 
--- what a terminal is to be written for a record: a painting
+-- the bytes that a record paints on the terminal
 abbrev pub painting_in : Record → List ℕ
 painting_in Events = []
 painting_in (Size rows cols) = []

@@ -16,13 +16,13 @@ part_for Whole s = whole_of s
 part_for (Exactly part) s = part
 part_for (Following part) s = followed part s
 
--- what is shown from then on: the part with the cursor goes on from where it stands
+-- the scope after a part was shown: a part that follows the cursor goes on from its place
 abbrev pub scope_after : Scope → Part → Scope
 scope_after Whole part = Whole
 scope_after (Exactly exact) part = Exactly exact
 scope_after (Following before) part = Following part
 
--- where a part begins is told, but of the whole
+-- the place of a part is sent, unless it is the whole screen
 abbrev pub place_told : Scope → Part → Option (ℕ × ℕ)
 place_told Whole part = None
 place_told (Exactly exact) part = Some (part.row, part.col)

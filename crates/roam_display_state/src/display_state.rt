@@ -1,4 +1,4 @@
-//! What a terminal is told in records, and what is kept of it.
+//! The records of a terminal, and the state behind them.
 ghost use Rattle.std.specs.Prelude.{◌≡◌, ◌⊎◌, ◌++◌, ◌∷◌, [], ℕ, List, true, false, IfOk, IfSome, OnOk, Ok, None, IsErrOf, IsOkUnless, IfErr, is_some};
 ghost use Rattle.std.specs.Borrow.{Bor};
 ghost use Rattle.roam_viewport.specs.Parts.{part_of as part_in};
@@ -26,7 +26,7 @@ use std::marker::Model;
 /// How many parts of a terminal may be masked at once.
 const MOST_MASKS: usize = 4;
 
-/// What a terminal is told in records: which part of the screen it shows, which lines are taken, and the screen that it asked for.
+/// The state of a terminal with records: the part of the screen that it shows, the taken lines, and the screen that it asked for.
 #[derive(Drop)]
 pub struct DisplayState {
     scope: Scope,
@@ -54,7 +54,7 @@ impl Model for DisplayState {
     } };
 }
 
-// What is to be told of a screen: the text of its records, and the part that is shown then.
+// The records to send for a screen: their text, and the part that is shown then.
 #[derive(Drop)]
 struct Painting {
     text: Vec<u8>,
@@ -72,7 +72,7 @@ fn push_record(alloc: Global, text: &mut Vec<u8>, told: Record<'_>) -> Result<()
     Ok(())
 }
 
-// Whether two numbers were told last.
+// Returns true if these two numbers were sent last.
 fn is_told(told: Option<(u16, u16)>, first: u16, second: u16) -> bool
     ensures told { result ≡ is_told told first second }
 {
@@ -82,7 +82,7 @@ fn is_told(told: Option<(u16, u16)>, first: u16, second: u16) -> bool
     }
 }
 
-// Adds the size of what is painted, where another was told last.
+// Appends the size of the painting if another was sent last.
 fn push_size(
     alloc: Global,
     text: &mut Vec<u8>,
@@ -99,7 +99,7 @@ fn push_size(
     push_record(alloc, text, Record::Size(rows, cols))
 }
 
-// Adds where the part begins, where another place was told last.
+// Appends the place of the part if another was sent last.
 fn push_place(
     alloc: Global,
     text: &mut Vec<u8>,
@@ -118,7 +118,7 @@ fn push_place(
     push_record(alloc, text, Record::Place(row, col))
 }
 
-// Adds a painting, which opens the terminal first where it isn't known what that shows.
+// Appends a painting, which opens the terminal first if its screen is unknown.
 fn push_painting(
     alloc: Global,
     text: &mut Vec<u8>,
@@ -135,7 +135,7 @@ fn push_painting(
 }
 
 impl DisplayState {
-    /// Nothing is told yet: the whole screen is to be shown.
+    /// Returns a state before any record: the whole screen is to be shown.
     pub fn new() -> DisplayState
         ensures nothing { result ≡ nothing_told }
     {
@@ -150,21 +150,21 @@ impl DisplayState {
         }
     }
 
-    /// Whether it is known what the terminal shows.
+    /// Returns true if the terminal's screen is known.
     pub fn is_known(&self) -> bool
         ensures known { result ≡ is_some self.now.view }
     {
         self.view.is_some()
     }
 
-    /// What the terminal shows isn't known any more: it is opened and painted anew.
+    /// Makes the terminal's screen unknown: it is opened and painted anew.
     pub fn forget(&mut self)
         ensures forgotten { self.new ≡ record self.old { view = None } }
     {
         self.view = None;
     }
 
-    /// Something else of the screen is to be shown from now on; tells whether it can be: a fifth mask can't, and changes nothing.
+    /// Sets the part to show from now on. Returns false for a fifth mask, which changes nothing.
     pub fn show(&mut self, showing: Showing) -> bool
         ensures room { result ≡ has_room_for showing self.old }
         ensures shown { result ≡ true → self.new ≡ shown_so showing self.old }
@@ -200,7 +200,7 @@ impl DisplayState {
         self.placed = None;
     }
 
-    // A part of the terminal is masked too, where there is room for it.
+    // Masks one more part of the terminal, if there is room for it.
     fn mask(&mut self, part: Part) -> bool
         ensures room { result ≡ has_room_for (Showing.Mask part) self.old }
         ensures masked { result ≡ true → self.new ≡ record self.old { masks = self.old.masks ++ part ∷ []; view = None } }
@@ -221,14 +221,14 @@ impl DisplayState {
         self.looking = Some(looking);
     }
 
-    /// Whether a screen that was asked for isn't told yet.
+    /// Returns true if a requested screen isn't sent yet.
     pub fn is_asked(&self) -> bool
         ensures asked { result ≡ is_some self.now.looking }
     {
         self.looking.is_some()
     }
 
-    /// A line was taken; the last of its acts has this number, where it has acts.
+    /// Notes that a line was taken; its last act has this number, if it has acts.
     pub fn took(&mut self, last: Option<u64>)
         ensures took { self.new ≡ record self.old { taken = took last self.old.taken } }
     {
@@ -237,7 +237,7 @@ impl DisplayState {
 }
 
 impl DisplayState {
-    // Returns the records to send for a screen and what they show, or None if the terminal shows it already. Refuses want of memory.
+    // Returns the records to send for a screen and the part that they show; `None` if the terminal shows it already. `OutOfMemory`.
     fn painting(&self, alloc: Global, shot: &RowShot) -> Result<Option<Painting>, Fault>
         ensures painting { IfOk result (λ found. IfSome found (λ p. (text : Bor (List ℕ)) × (p.part ≡ part_for self.now.scope shot.now)
             × (p.view ≡ part_in p.part self.now.masks shot.now) × (IsCurrent p.part p.view self.now → ⊥)

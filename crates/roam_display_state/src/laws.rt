@@ -4,17 +4,17 @@ ghost use Rattle.roam_display_state.specs.Masking.{MaskedCellsStay};
 
 use roam_scroll_paint::laws::paint_leads;
 
-/// Where records begin nothing is said, and nothing is known of what the terminal shows.
+/// At the beginning no records are sent, and the terminal's screen is unknown.
 pub fn begins_said()
     ensures begins { BeginsSaid }
 {}
 
-/// What was said leads a terminal to what it is to show, also once a screen more is told, of which the size is told first.
+/// The records lead a terminal to the screen to show, also after one more screen, whose size is sent first.
 pub fn tells_on()
     ensures on { TellsOn }
 {}
 
-/// A terminal that is painted round masked cells shows in them what it showed.
+/// A terminal painted around masked cells keeps their content.
 pub fn masked_cells_stay()
     ensures stay { MaskedCellsStay }
 {

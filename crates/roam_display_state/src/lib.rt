@@ -1,4 +1,4 @@
-//! What a terminal is told in records: the part of the screen that it shows, lines that are taken, and screens that it asked for.
+//! The records of a terminal: the part of the screen that it shows, the taken lines, and the screens that it asked for.
 #![tactic(auto)]
 
 mod display_state;

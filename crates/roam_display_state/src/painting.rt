@@ -1,4 +1,4 @@
-//! What leads a terminal from what it shows to another part of a screen.
+//! The texts that lead a terminal from its screen to another part of a screen.
 ghost use Rattle.std.specs.Prelude.{◌≡◌, ◌↔◌, [], ◌∷◌, IfOk, IfSome, IsOkUnless, IsTrue, Some, None};
 ghost use Rattle.roam_scroll_paint.specs.Leads.{Leads};
 ghost use Rattle.roam_display_state.specs.DisplayState.{IsStill, LeadsFrom};
@@ -49,8 +49,8 @@ fn standing(alloc: Global, before: &RowShot, view: &RowShot) -> Result<Vec<u8>, 
     Ok(text)
 }
 
-/// A text that leads a terminal from what it shows, where that is known, to another screen; where cells are masked no row is moved: each
-/// place that differs is written, and no other. Refuses want of memory.
+/// Returns a text that leads a terminal from its screen, if it is known, to another. If cells are masked it moves no row: it writes each
+/// place that differs, and no other. `OutOfMemory`.
 pub(crate) fn text_to(
     alloc: Global,
     before: &Option<RowShot>,

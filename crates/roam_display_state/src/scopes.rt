@@ -14,7 +14,7 @@ pub enum Scope {
     /// This part of it.
     Exactly(Part),
 
-    /// So many rows and columns with the cursor, which stood here last.
+    /// So many rows and columns around the cursor, last at this place.
     Following(Part),
 }
 
@@ -35,7 +35,7 @@ impl Scope {
         }
     }
 
-    // What is shown from now on, once a part of it was.
+    // Returns the scope after a part was shown.
     pub(crate) fn after(self, part: Part) -> Scope
         ensures after { result ≡ scope_after self part }
     {
@@ -46,7 +46,7 @@ impl Scope {
         }
     }
 
-    // Where a part begins, where that is told: the whole begins nowhere else.
+    // Returns the place of a part; `None` for the whole screen.
     pub(crate) fn place(self, part: Part) -> Option<(u16, u16)>
         ensures place { result ≡ place_told self part }
     {

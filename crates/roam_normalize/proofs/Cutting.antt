@@ -1,11 +1,11 @@
--- What stands first stays, whatever comes, and is some of the bytes.
+-- The first sequence stays the same if more bytes follow, and is part of the bytes.
 use Rattle.std.proofs.Common.{◌≡◌, ◌≤◌, ◌<◌, ℕ, zero, suc, Bool, true, false, cond, List, [], ◌∷◌, ◌++◌, length, drop, refl, sym, ap, ◌∙◌, arith, append_assoc, length-drop}
 use Rattle.std.specs.Prelude.{⊤, ◌==◌}
 use Rattle.std.proofs.lemmas.List.{drop-append-le}
 use Rattle.roam_normalize.specs.Meanings.{hyphen}
 use Rattle.roam_normalize.specs.Normalized.{Scan, Unfinished, Neither, Sequence, Front, Held, Taken, Normalized, behind, escape_front, front, is_body, is_final, lead_front, normalized, normalized_from, most_body, most_held, one, onward, scan, sequence_front, with_byte}
 
--- what is found of some bytes is found of more
+-- the scan of some bytes is the scan of more
 abbrev SameScan : Scan → Scan → Type 0
 SameScan Unfinished t = ⊤
 SameScan s t = t ≡ s
@@ -110,7 +110,7 @@ front-fits (b ∷ rest) =
     fits-cond (suc (length rest)) (b == 0x1B) _ _ (escape-fits rest)
     (fits-cond (suc (length rest)) (b == 0xC2) _ (one b) (lead-fits rest) (omega arith, omega arith))
 
--- ---- how many are held back
+-- ---- the number of bytes kept back
 
 abbrev ScanShort : ℕ → ℕ → Scan → Type 0
 ScanShort n room Unfinished = n ≤ room
@@ -179,7 +179,7 @@ normalized_from-same (suc m) (suc n) bytes p q = go (λ xs a b. normalized_from-
         let left = length-drop count bytes in
         ap (behind out) (again (drop count bytes) (omega (arith, p, some, most, left)) (omega (arith, q, some, most, left)))
 
--- what stands first, and what follows it
+-- the first sequence, and the rest
 pub normalized-step : (bytes : List ℕ) → normalized bytes ≡ onward (front bytes) bytes normalized
 unfolding normalized normalized_from
 normalized-step [] = refl
@@ -216,7 +216,7 @@ within (suc n) (b ∷ rest) more few = go (λ xs a. within n xs more a) (front (
 pub normalized-append : (bytes more : List ℕ) → normalized (bytes ++ more) ≡ behind (normalized bytes).out (normalized ((normalized bytes).held ++ more))
 normalized-append bytes more = within (length bytes) bytes more (omega arith)
 
--- ---- what is held back is short
+-- ---- few bytes are kept back
 
 short-within : (n : ℕ) (bytes : List ℕ) → length bytes ≤ n → length (normalized bytes).held ≤ most_held
 short-within n [] few = let e = ap (λ (m : Normalized). length m.held) (normalized-step []) in omega (arith, e)

@@ -1,4 +1,4 @@
--- What a glance at a rendition tells.
+-- The results of a first look at a rendition.
 use Rattle.std.proofs.Common.{◌≡◌, ◌≤◌, ◌<◌, ◌+◌, ℕ, zero, suc, Bool, true, false, cond, nat_lt, List, [], ◌∷◌, ◌++◌, length, take, drop, refl, sym, ap, ◌∙◌, arith, append_assoc}
 use Rattle.std.specs.Prelude.{⊤, ◌==◌, ◌||◌, ◌&&◌, slice_index}
 use Rattle.std.proofs.lemmas.List.{append-nil, length-take-le, take_more}
@@ -86,7 +86,7 @@ no-lines (suc n) bytes h =
     ∙ and-false (nat_lt (group_length bytes) (length bytes)) (has_lines_from n (drop (group_length bytes + 1) bytes))
     (no-lines n (drop (group_length bytes + 1) bytes) (no-pair-left (group_length bytes + 1) bytes h))
 
--- ---- what a glance tells
+-- ---- the results of a first look
 
 record Glance (before semicolons : ℕ) (bytes : List ℕ) : Type 0 where
   colons : count_of 0x3A bytes ≡ 0
@@ -174,7 +174,7 @@ glance-end rest at before semicolons few so_far =
 not-mark : (b : ℕ) → b < 0x3C → (b == 0x3F) ≡ false
 not-mark b h = grind (arith, nat_tests)
 
--- digits and semicolons that haven't to be spelled out mean what they say
+-- digits and semicolons without special cases keep their meaning
 pub kind-plain : (body : List ℕ) (last : ℕ) → 0 < length body → slice_index body 0 < 0x3C → may_change 0 0 body ≡ false → AsItStands ≡ kind_of body last
 kind-plain [] last some low glance = absurd (omega (arith, some))
 kind-plain (b ∷ body) last some low glance =

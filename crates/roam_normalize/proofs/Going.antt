@@ -1,4 +1,4 @@
--- Runs of bytes that go through as they are, and what stands first behind ESC and 5B.
+-- Runs of bytes that pass unchanged, and the bytes behind ESC and 5B.
 use Rattle.std.proofs.Common.{◌≡◌, ◌≤◌, ◌<◌, ◌+◌, ◌-◌, ℕ, zero, suc, Bool, true, false, cond, List, [], ◌∷◌, ◌++◌, length, length-drop, take, drop, refl, sym, ap, ◌∙◌, arith, append_assoc, subst}
 use Rattle.std.specs.Prelude.{◌==◌, ◌||◌, not, slice_index}
 use Rattle.std.proofs.lemmas.List.{drop-drop, get_or-drop, length-take-le, take-append-drop, take_more}
@@ -76,7 +76,7 @@ goes-on bytes at k first later =
 abbrev lent : List ℕ → ℕ → List ℕ
 lent bytes at = take (length bytes - at) (drop at bytes)
 
--- still bytes behind what goes through
+-- plain bytes behind bytes that pass
 pub goes-still : (bytes : List ℕ) (at still : ℕ) → GoesThrough (take at bytes) (drop at bytes) → AreStill (take still (lent bytes at))
     → GoesThrough (take (at + still) bytes) (drop (at + still) bytes)
 goes-still bytes at still first quiet =

@@ -1,4 +1,4 @@
--- What is found at a front is what the definitions have there.
+-- The code finds the front that the definitions give.
 use Rattle.std.proofs.Common.{◌≡◌, ◌≤◌, ◌<◌, ◌+◌, ◌-◌, ◌⊎◌, ⊎_elim, inl, inr, ℕ, zero, suc, true, false, cond, List, [], ◌∷◌, ◌++◌, length, take, drop, refl, sym, ap, ◌∙◌, arith}
 use Rattle.std.specs.Prelude.{slice_index}
 use Rattle.std.proofs.lemmas.List.{drop_all, drop_more, take_more}
@@ -25,7 +25,7 @@ scan-nothing : (room : ℕ) → scan room [] ≡ Unfinished
 scan-nothing zero = refl
 scan-nothing (suc room) = refl
 
--- a byte that may stand between CSI and a final byte
+-- a byte allowed between CSI and a final byte
 scan-body : (room b : ℕ) (rest : List ℕ) → 0 < room → is_body b ≡ true → scan room (b ∷ rest) ≡ with_byte b (scan (room - 1) rest)
 scan-body zero b rest some is = absurd (omega (arith, some))
 scan-body (suc room) b rest some is =

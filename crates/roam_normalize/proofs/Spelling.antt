@@ -14,7 +14,7 @@ lt-yes a b h = grind (arith, nat_tests)
 lt-no : (a b : ℕ) → b ≤ a → nat_lt a b ≡ false
 lt-no a b h = grind (arith, nat_tests)
 
--- what is left behind a group
+-- the rest behind a group
 abbrev left : List ℕ → List ℕ
 left bytes = drop (group_length bytes + 1) bytes
 
@@ -69,7 +69,7 @@ spelled-step bytes =
 
 -- ---- from a place on
 
--- what is lent from a place on is all of the rest
+-- a slice from a place on is all of the rest
 pub rest-lent : (xs : List ℕ) (at : ℕ) → take (length xs - at) (drop at xs) ≡ drop at xs
 rest-lent xs at = take_all (length xs - at) (drop at xs) (omega (arith, length-drop at xs))
 
@@ -136,7 +136,7 @@ module _ (bytes : List ℕ) (at : ℕ) (old now : List ℕ) (so_far : now ++ spe
         ∙ ap (λ l. now ++ l) (sym (step-lent ∙ ap (λ t. text ++ cond t (spelled_out (left rest)) []) (lt-yes (group_length rest) (length rest) (omega (arith, size, more)))))
         ∙ so_far
 
--- what follows a group is within the parameters
+-- the bytes behind a group are among the parameters
 pub on-within : (bytes : List ℕ) (at n : ℕ) → at ≤ length bytes → n < length (lent bytes at) → at + (n + 1) ≤ length bytes
 on-within bytes at n few more =
     let a = length-drop at bytes in

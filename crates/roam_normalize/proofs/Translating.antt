@@ -1,4 +1,4 @@
--- What went out for some bytes, and what is still to be read of them.
+-- The output for some bytes, and the bytes still to be read.
 use Rattle.std.proofs.Common.{◌≡◌, ◌≤◌, ◌+◌, ◌-◌, ℕ, zero, suc, List, [], ◌++◌, length, take, drop, refl, sym, ap, ◌∙◌, append_assoc}
 use Rattle.std.proofs.lemmas.List.{append-nil, drop-drop, drop_all, take-append-drop}
 use Rattle.roam_normalize.specs.Normalized.{Taken, Goes, GoesThrough, Normalized, behind, front, held_part, normalized, normalized_part, onward}
@@ -31,7 +31,7 @@ module _ (bytes : List ℕ) (at : ℕ) (out : List ℕ) (so_far : normalized byt
         sym (ap (λ (m : Normalized). m.held) last),
       )
 
-  -- what stands first is held back
+  -- the front is kept back
   pub rest-held : (new : List ℕ) → Goes zero (lent bytes at) out new → (new ≡ normalized_part bytes) × (lent bytes at ≡ held_part bytes)
   rest-held new goes =
       let last : normalized bytes ≡ behind out (record { out = []; held = drop at bytes }) =

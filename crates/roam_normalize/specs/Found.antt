@@ -1,4 +1,4 @@
--- What is found at the front of some bytes.
+-- The front of some bytes, as the code finds it.
 use Rattle.std.specs.Prelude.{ℕ, ◌≡◌, ◌≤◌, ◌<◌, ◌+◌, ⊤, ◌==◌, ◌&&◌, ◌||◌, nat_le, nat_lt, Bool, true, not, List, [], ◌∷◌, take, drop, length, slice_index}
 use Rattle.memchr.specs.Find.{is_byte2}
 use Rattle.roam_normalize.specs.declared.fronts.Scanned.{Scanned}
@@ -8,13 +8,13 @@ use Rattle.roam_normalize.specs.declared.fronts.Found.TheVariants.{Held, Same, H
 use Rattle.roam_normalize.specs.Meanings.{hyphen, text_of}
 use Rattle.roam_normalize.specs.Normalized.{Scan, Unfinished as UnfinishedScan, Neither as NeitherScan, Sequence as SequenceScan, Held as HeldFront, Taken, front, most_body, scan, with_byte}
 
--- what was scanned of bytes behind ESC and 5B
+-- the scan of bytes behind ESC and 5B
 abbrev pub IsScan : Scanned → List ℕ → Type 0
 IsScan Unfinished bytes = scan most_body bytes ≡ UnfinishedScan
 IsScan Neither bytes = scan most_body bytes ≡ NeitherScan
 IsScan (Sequence count) bytes = (scan most_body bytes ≡ SequenceScan (take count bytes) (slice_index bytes count)) × (count < length bytes)
 
--- what stands first of some bytes
+-- the front of some bytes
 abbrev pub IsFound : Found → List ℕ → Type 0
 IsFound Held bytes = front bytes ≡ HeldFront
 IsFound (Same count) bytes = (front bytes ≡ Taken count (take count bytes)) × (0 < count) × (count ≤ length bytes)

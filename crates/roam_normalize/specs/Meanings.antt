@@ -1,4 +1,4 @@
--- What control sequences and the soft hyphen mean to programs where this project's profile reads them otherwise.
+-- The meaning of control sequences and of the soft hyphen to programs, if this project's profile reads them otherwise.
 use Rattle.std.specs.Prelude.{ℕ, ◌==◌, ◌||◌, ◌&&◌, Bool, true, false, nat_lt, nat_le, if◌then◌else◌, List, [], ◌∷◌, ◌++◌}
 use Rattle.roam_normalize.specs.Renditions.{is_changed, spelled_out}
 use Rattle.roam_normalize.specs.declared.meanings.Kind.{Kind}
@@ -8,7 +8,7 @@ use Rattle.roam_normalize.specs.declared.meanings.Kind.TheVariants.{AsItStands, 
 abbrev pub hyphen : List ℕ
 hyphen = 0xE2 ∷ 0x80 ∷ 0x90 ∷ []
 
--- a control sequence as it stands
+-- a control sequence as written
 abbrev pub whole : List ℕ → ℕ → List ℕ
 whole body last = 0x1B ∷ 0x5B ∷ (body ++ last ∷ [])
 
@@ -19,7 +19,7 @@ save_cursor = 0x1B ∷ 0x37 ∷ []
 abbrev pub restore_cursor : List ℕ
 restore_cursor = 0x1B ∷ 0x38 ∷ []
 
--- what DECCOLM does beside the width: full margins, nothing on the screen, the cursor at its home: CSI r, CSI 2 J, CSI H (VT220)
+-- the effects of DECCOLM other than the width: full margins, a cleared screen, the cursor at home: CSI r, CSI 2 J, CSI H (VT220)
 abbrev pub clearing : List ℕ
 clearing = 0x1B ∷ 0x5B ∷ 0x72 ∷ 0x1B ∷ 0x5B ∷ 0x32 ∷ 0x4A ∷ 0x1B ∷ 0x5B ∷ 0x48 ∷ []
 
@@ -59,7 +59,7 @@ abbrev pub kind_of : List ℕ → ℕ → Kind
 kind_of [] last = bare_kind last
 kind_of (b ∷ body) last = full_kind (b ∷ body) last
 
--- what goes out for it
+-- its output
 abbrev pub text_of : Kind → List ℕ → ℕ → List ℕ
 text_of AsItStands body last = whole body last
 text_of SaveCursor body last = save_cursor
@@ -67,7 +67,7 @@ text_of RestoreCursor body last = restore_cursor
 text_of Columns body last = whole body last ++ clearing
 text_of Rendition body last = spelled_out body
 
--- the meaning of a control sequence: CSI s and CSI u without parameters save and restore the cursor (SCOSC and SCORC), what sets or resets
--- DECCOLM clears, a rendition is spelled out where it has to be; all others are as they stand
+-- The meaning of a control sequence. CSI s and CSI u without parameters save and restore the cursor (SCOSC and SCORC). A sequence that sets
+-- or resets DECCOLM clears the screen. A rendition is spelled out if the profile reads it otherwise. All others stay as written.
 unfoldable pub meaning : List ℕ → ℕ → List ℕ
 meaning body last = text_of (kind_of body last) body last

@@ -1,4 +1,4 @@
--- What bytes mean, in bytes that this project's profile reads so.
+-- The meaning of bytes, in bytes that this project's profile reads so.
 use Rattle.std.specs.Prelude.{ℕ, zero, suc, ◌≡◌, ◌+◌, ◌==◌, ◌&&◌, Bool, cond, nat_lt, nat_le, if◌then◌else◌, List, [], ◌∷◌, ◌++◌, length, drop}
 use Rattle.roam_normalize.specs.Meanings.{hyphen, meaning}
 
@@ -6,7 +6,7 @@ use Rattle.roam_normalize.specs.Meanings.{hyphen, meaning}
 abbrev pub most_body : ℕ
 most_body = 255
 
--- the most bytes that are held back: ESC, 5B and so many
+-- the most bytes that are kept back: ESC, 5B and so many
 abbrev pub most_held : ℕ
 most_held = 257
 
@@ -18,7 +18,7 @@ is_body b = nat_le 0x20 b && nat_lt b 0x40
 abbrev pub is_final : ℕ → Bool
 is_final b = nat_le 0x40 b && nat_lt b 0x7F
 
--- what stands behind ESC and 5B: the beginning of a control sequence, a whole one by its bytes, or neither
+-- the scan behind ESC and 5B: the beginning of a control sequence, a whole one by its bytes, or neither
 pub data Scan : Type 0 where
   Unfinished : Scan
   Neither : Scan
@@ -30,13 +30,13 @@ with_byte b Unfinished = Unfinished
 with_byte b Neither = Neither
 with_byte b (Sequence body last) = Sequence (b ∷ body) last
 
--- of bytes behind ESC and 5B, where so many may come before the final byte
+-- the scan of bytes behind ESC and 5B, with so much room before the final byte
 abbrev pub scan : ℕ → List ℕ → Scan
 scan room [] = Unfinished
 scan zero (b ∷ rest) = cond (is_final b) (Sequence [] b) Neither
 scan (suc room) (b ∷ rest) = if is_body b then with_byte b (scan room rest) else cond (is_final b) (Sequence [] b) Neither
 
--- what stands first of some bytes: what may still become something else, or so many bytes and what goes out for them
+-- the front of some bytes: kept back, as its meaning may still change, or so many bytes with their output
 pub data Front : Type 0 where
   Held : Front
   Taken : ℕ → List ℕ → Front
@@ -61,12 +61,12 @@ abbrev pub lead_front : List ℕ → Front
 lead_front [] = Held
 lead_front (c ∷ rest) = cond (c == 0xAD) (Taken 2 hyphen) (one 0xC2)
 
--- what stands first
+-- the front
 abbrev pub front : List ℕ → Front
 front [] = Held
 front (b ∷ rest) = if b == 0x1B then escape_front rest else if b == 0xC2 then lead_front rest else one b
 
--- what goes out, and what is held back
+-- the output, and the bytes kept back
 pub record Normalized : Type 0 where
   pub out : List ℕ
   pub held : List ℕ
@@ -75,7 +75,7 @@ pub record Normalized : Type 0 where
 abbrev pub behind : List ℕ → Normalized → Normalized
 behind first m = record { out = first ++ m.out; held = m.held }
 
--- what stands first, and what follows it
+-- the front, and the rest
 abbrev pub onward : Front → List ℕ → (List ℕ → Normalized) → Normalized
 onward Held bytes go = record { out = []; held = bytes }
 onward (Taken count out) bytes go = behind out (go (drop count bytes))
@@ -85,7 +85,7 @@ unfoldable pub normalized_from : ℕ → List ℕ → Normalized
 normalized_from zero bytes = record { out = []; held = bytes }
 normalized_from (suc n) bytes = onward (front bytes) bytes (normalized_from n)
 
--- what some bytes mean
+-- the meaning of some bytes
 unfoldable pub normalized : List ℕ → Normalized
 normalized bytes = normalized_from (length bytes) bytes
 
@@ -93,7 +93,7 @@ normalized bytes = normalized_from (length bytes) bytes
 abbrev pub normalized_part : List ℕ → List ℕ
 normalized_part bytes = (normalized bytes).out
 
--- those of them that are held back, since what comes next may make something else of them
+-- the bytes kept back, since the next ones may change their meaning
 abbrev pub held_part : List ℕ → List ℕ
 held_part bytes = (normalized bytes).held
 
@@ -101,7 +101,7 @@ held_part bytes = (normalized bytes).held
 abbrev pub GoesThrough : List ℕ → List ℕ → Type 0
 GoesThrough run rest = normalized (run ++ rest) ≡ behind run (normalized rest)
 
--- so many bytes were taken of what stands first, and this went out for them: none, and nothing, where it is held back
+-- so many bytes of the front were taken, with this output; none, with empty output, if they are kept back
 abbrev pub Goes : ℕ → List ℕ → List ℕ → List ℕ → Type 0
 Goes zero bytes old new = (front bytes ≡ Held) × (new ≡ old)
 Goes (suc n) bytes old new = (out : List ℕ) × (front bytes ≡ Taken (suc n) out) × (new ≡ old ++ out)

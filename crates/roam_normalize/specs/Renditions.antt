@@ -18,7 +18,7 @@ fields_length separator (suc more) (b ∷ rest) =
 abbrev pub first_field : ℕ → List ℕ → List ℕ
 first_field separator bytes = take (fields_length separator 1 bytes) bytes
 
--- what stands behind the first field and its separator
+-- the text behind the first field and its separator
 abbrev pub after_field : ℕ → List ℕ → List ℕ
 after_field separator bytes = drop (fields_length separator 1 bytes + 1) bytes
 
@@ -27,7 +27,8 @@ abbrev pub count_of : ℕ → List ℕ → ℕ
 count_of separator [] = 0
 count_of separator (b ∷ rest) = cond (b == separator) (suc (count_of separator rest)) (count_of separator rest)
 
--- what a field of two characters begins: 38 and 48 set a colour, 58 that of a line under the text and 59 none, which the profile hasn't
+-- The kind of a field of two characters: 38 and 48 set a colour; 58 sets that of an underline and 59 resets it, which the profile doesn't
+-- have.
 abbrev pub two_kind : ℕ → ℕ → Field
 two_kind a b =
     if (a == 0x33 || a == 0x34) && b == 0x38 then Colour else
@@ -65,7 +66,7 @@ together otherwise field = number_together otherwise (without_zeros field)
 abbrev pub all_fields : ℕ
 all_fields = 256
 
--- how many fields the first one takes along; where 38 or 48 has neither 5 nor 2 behind it, nothing of the rest says anything by itself
+-- The number of fields in the group of the first one. If 38 or 48 isn't followed by 5 or 2, all later fields belong to it.
 abbrev pub group_size : Field → List ℕ → ℕ
 group_size Colour next = together all_fields next
 group_size LineColour next = together 1 next
@@ -75,7 +76,7 @@ group_size kind next = 1
 abbrev pub next_field : List ℕ → List ℕ
 next_field bytes = first_field 0x3B (after_field 0x3B bytes)
 
--- what stands first in some parameters
+-- the kind of the first parameter
 abbrev pub first_kind : List ℕ → Field
 first_kind bytes = field_kind (first_field 0x3B bytes)
 
@@ -134,7 +135,7 @@ number_parted_text field = []
 abbrev pub parted_text : List ℕ → List ℕ
 parted_text field = number_parted_text (without_zeros field)
 
--- what goes out for a field and those that it takes along
+-- the output for a field and its group
 abbrev pub group_text : Field → List ℕ → List ℕ
 group_text Plain group = rendition group
 group_text Colour group = rendition group
@@ -158,7 +159,7 @@ is_of_lines LineColour = true
 is_of_lines NoLineColour = true
 is_of_lines kind = false
 
--- whether a parameter stands among them that is of lines' colours
+-- a parameter sets the colour of an underline
 unfoldable pub has_lines_from : ℕ → List ℕ → Bool
 has_lines_from zero bytes = false
 has_lines_from (suc n) bytes =
@@ -180,8 +181,8 @@ is_changed bytes = nat_lt 0 (count_of 0x3A bytes) || (nat_lt most_semicolons (co
 abbrev pub is_pair : ℕ → ℕ → Bool
 is_pair first second = first == 0x35 && (second == 0x38 || second == 0x39)
 
--- whether there is a colon, 58 or 59 in some number, or too many semicolons, with what came before and so many semicolons in front: without
--- these a rendition hasn't to be spelled out
+-- A rendition may need spelling out: a colon, 58 or 59 in some number, or too many semicolons, given the byte before and the semicolons
+-- before.
 abbrev pub may_change : ℕ → ℕ → List ℕ → Bool
 may_change before semicolons [] = nat_lt most_semicolons semicolons
 may_change before semicolons (b ∷ rest) =

@@ -10,7 +10,7 @@ use std::marker::Model;
 /// U+2010 HYPHEN in UTF-8.
 const HYPHEN: [u8; 3] = [0xE2, 0x80, 0x90];
 
-// What stands first goes out as it is meant, and so many bytes are taken for it: none where it is held back. Refuses want of memory.
+// Appends the meaning of the front, and returns how many bytes were taken: 0 if it is kept back. `AllocError`.
 fn push_front(alloc: Global, out: &mut Vec<u8>, bytes: &[u8]) -> Result<usize, AllocError>
     ensures within { IfOk result (λ count. count ≤ length bytes.now) }
     ensures front { IfOk result (λ count. Goes count bytes.now out.old.items out.new.items) }
@@ -32,7 +32,7 @@ fn push_front(alloc: Global, out: &mut Vec<u8>, bytes: &[u8]) -> Result<usize, A
     }
 }
 
-/// What some bytes mean.
+/// The meaning of some bytes.
 #[derive(Drop)]
 struct Translation {
     out: Vec<u8>,
@@ -48,7 +48,7 @@ fn copy_of(alloc: Global, bytes: &[u8]) -> Result<Vec<u8>, AllocError>
     Ok(copy)
 }
 
-// All is read that can be: these bytes went out, and these are held back. Refuses want of memory.
+// Returns the translation once no more bytes can be read: this output, and these bytes kept back. `AllocError`.
 fn ended(alloc: Global, out: Vec<u8>, held: &[u8]) -> Result<Translation, AllocError>
     ensures out { IfOk result (λ t. t.out.items ≡ out.items) }
     ensures held { IfOk result (λ t. t.held.items ≡ held.now) }
@@ -57,7 +57,7 @@ fn ended(alloc: Global, out: Vec<u8>, held: &[u8]) -> Result<Translation, AllocE
     Ok(Translation { out, held })
 }
 
-// What some bytes mean. Refuses want of memory.
+// Returns the meaning of some bytes. `AllocError`.
 fn translate(alloc: Global, bytes: &[u8]) -> Result<Translation, AllocError>
     ensures out { IfOk result (λ t. t.out.items ≡ normalized_part bytes.now) }
     ensures held { IfOk result (λ t. t.held.items ≡ held_part bytes.now) }
@@ -104,7 +104,7 @@ impl Filter {
         }
     }
 
-    // What the bytes that are held back and a piece mean. Refuses want of memory.
+    // Returns the meaning of the kept bytes and a piece. `AllocError`.
     fn translation(&self, piece: &[u8]) -> Result<Translation, AllocError>
         ensures out { IfOk result (λ t. t.out.items ≡ normalized_part (self.now ++ piece.now)) }
         ensures held { IfOk result (λ t. t.held.items ≡ held_part (self.now ++ piece.now)) }
@@ -117,7 +117,7 @@ impl Filter {
         translate(self.alloc, &bytes)
     }
 
-    /// What goes out for a piece, after the pieces before it. Where there is no memory nothing was read, and the same piece may be given
+    /// Returns the output for a piece, after the pieces before it. After `AllocError` nothing was read, and the same piece may be given
     /// again.
     pub fn feed(&mut self, piece: &[u8]) -> Result<Vec<u8>, AllocError>
         ensures out { IfOk result (λ out. out.items ≡ normalized_part (self.old ++ piece.now)) }

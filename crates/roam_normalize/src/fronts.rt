@@ -1,4 +1,4 @@
-//! What stands at the front of some bytes.
+//! The front of some bytes.
 ghost use Rattle.std.specs.Prelude.{◌≡◌, ◌≤◌, ◌<◌, ◌+◌, ◌-◌, ◌⊎◌, ◌++◌, ◌==◌, false, cond, suc, length, take, drop, slice_index, OnOk};
 ghost use Rattle.roam_normalize.specs.Found.{AreStill, IsFound, IsScan, is_plain, is_still, with_bytes};
 ghost use Rattle.roam_normalize.specs.Renditions.{may_change};
@@ -11,7 +11,7 @@ use memchr::memchr2;
 /// The most bytes of a control sequence between CSI and its final byte that are looked at.
 pub const MOST_BODY: usize = 255;
 
-/// The most bytes that are held back.
+/// The most bytes that are kept back.
 pub const MOST_HELD: usize = 257;
 
 /// ESC (ECMA-48, 5.3).
@@ -26,7 +26,7 @@ const SOFT_HYPHEN: u8 = 0xAD;
 /// How many bytes are looked at one by one before they are searched.
 const NEAR: usize = 16;
 
-/// What stands behind ESC and 5B.
+/// The scan of the bytes behind ESC and 5B.
 #[derive(Clone, Copy)]
 pub enum Scanned {
     /// The beginning of a control sequence.
@@ -36,10 +36,10 @@ pub enum Scanned {
     Sequence(usize),
 }
 
-/// What stands first.
+/// The front.
 #[derive(Clone, Copy)]
 pub enum Found {
-    /// What may still become something else; or nothing.
+    /// Nothing, or bytes whose meaning may still change.
     Held,
     /// So many bytes that go through as they are.
     Same(usize),
@@ -63,7 +63,7 @@ fn is_final(byte: u8) -> bool
     0x40 <= byte && byte < 0x7F
 }
 
-// How many bytes may stand between CSI and a final byte, at most those that are looked at.
+// Returns the number of bytes allowed between CSI and a final byte, at most those that are looked at.
 fn body_run(bytes: &[u8]) -> usize
     ensures within { result ≤ length bytes.now }
     ensures few { result ≤ most_body }
@@ -110,8 +110,8 @@ fn counted(byte: u8, semicolons: usize) -> usize
     }
 }
 
-// How many digits and semicolons stand first behind ESC and 5B, where a rendition with these parameters hasn't to be spelled out; none
-// where it may have to be. Most control sequences have nothing else, and are told at a glance.
+// Returns the number of digits and semicolons behind ESC and 5B; 0 if a rendition with them may need spelling out. Most control sequences
+// have nothing else, so this first look decides.
 #[inline]
 fn plain_body(rest: &[u8]) -> usize
     ensures within { result ≤ length rest.now }
@@ -133,7 +133,7 @@ fn plain_body(rest: &[u8]) -> usize
     if semicolons > MOST_SEMICOLONS { 0 } else { at }
 }
 
-// What stands first, where ESC and 5B do.
+// Returns the front of bytes that begin with ESC and 5B.
 fn sequence_found(bytes: &[u8]) -> Found
     requires some { 2 ≤ length bytes.now }
     requires escape { slice_index bytes.now 0 ≡ 0x1B }
@@ -155,7 +155,7 @@ fn sequence_found(bytes: &[u8]) -> Found
     }
 }
 
-/// What stands first of some bytes.
+/// Returns the front of some bytes.
 pub fn find(bytes: &[u8]) -> Found
     ensures found { IsFound result bytes.now }
 {
@@ -212,7 +212,7 @@ fn still_run(bytes: &[u8]) -> usize
     near + far_run(&bytes[near..])
 }
 
-// How many bytes stand first that go through as they are; none where others do, or nothing stands there.
+// Returns the number of first bytes that pass unchanged; 0 if there are none.
 fn same_front(bytes: &[u8]) -> usize
     ensures within { result ≤ length bytes.now }
     ensures same { GoesThrough (take result bytes.now) (drop result bytes.now) }

@@ -3,15 +3,15 @@ ghost use Rattle.std.specs.Prelude.{◌≡◌, ◌≤◌, ℕ, List, ◌++◌, l
 ghost use Rattle.roam_normalize.specs.Found.{AreStill};
 ghost use Rattle.roam_normalize.specs.Normalized.{held_part, normalized_part, most_held};
 
-/// However bytes are cut, the same goes out for them: what goes out for some bytes and more is what goes out for them, and then what goes
-/// out for what is held back of them and for more.
+/// The output doesn't depend on the cuts. The output for some bytes and more is the output for the first bytes, then the output for their
+/// kept bytes and the rest.
 pub fn cuts_change_nothing()
     ensures out { (bytes more : List ℕ)
         → normalized_part (bytes ++ more) ≡ normalized_part bytes ++ normalized_part (held_part bytes ++ more) }
     ensures held { (bytes more : List ℕ) → held_part (bytes ++ more) ≡ held_part (held_part bytes ++ more) }
 {}
 
-/// What is held back is short: of a control sequence that isn't whole, at most ESC, 5B and 255 bytes.
+/// Few bytes are kept back: of an unfinished control sequence, at most ESC, 5B and 255 bytes.
 pub fn little_is_held()
     ensures few { (bytes : List ℕ) → length (held_part bytes) ≤ most_held }
 {}

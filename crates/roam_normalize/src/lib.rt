@@ -1,9 +1,9 @@
-//! A filter of a program's bytes: what the terminal of this project reads otherwise than programs mean it, in bytes that it reads so.
+//! A filter of a program's bytes. It rewrites sequences that this project's terminal reads otherwise than programs mean them.
 //!
-//! Programs are written for terminals that read more than this project's profile has: sub-parameters of SGR behind colons (ISO 8613-6, as
-//! xterm has them), colours of the line under a text, more than sixteen parameters, CSI s and CSI u (SCO), the clearing that DECCOLM brings
-//! (VT220), and the soft hyphen as a hyphen. The filter writes these as the profile has them, and lets everything else through, byte for
-//! byte. It needs to know nothing of what came before: ESC begins a sequence anew in whatever state, and C2 a character.
+//! Programs are written for terminals that read more than this project's profile. It lacks sub-parameters of SGR behind colons (ISO 8613-6,
+//! as in xterm), underline colours, and more than sixteen parameters. It lacks CSI s and CSI u (SCO), the clearing of DECCOLM (VT220), and
+//! the soft hyphen as a hyphen. The filter writes these as the profile has them, and passes everything else byte for byte. It needs no
+//! state of earlier bytes: ESC begins a sequence anew in any state, and C2 a character.
 #![tactic(auto)]
 
 mod filters;

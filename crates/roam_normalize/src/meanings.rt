@@ -1,4 +1,4 @@
-//! What control sequences mean to programs where this project's profile reads them otherwise.
+//! The meaning of control sequences to programs, if this project's profile reads them otherwise.
 ghost use Rattle.std.specs.Prelude.{◌≡◌, ◌++◌, true, OnOk};
 ghost use Rattle.roam_normalize.specs.Meanings.{are_numbers, are_parameters, bare_kind, clearing, full_kind, has_columns, has_three, kind_of, text_of, whole};
 
@@ -19,7 +19,7 @@ pub enum Kind {
     Rendition,
 }
 
-// Whether 3 is one of the numbers.
+// Returns true if 3 is one of the numbers.
 fn has_three(numbers: &[u8]) -> bool
     ensures three { result ≡ has_three true numbers.now }
 {
@@ -93,7 +93,7 @@ fn full_kind(body: &[u8], last: u8) -> Kind
     Kind::AsItStands
 }
 
-/// The meaning of a control sequence, by what stands between CSI and its final byte, and that byte.
+/// Returns the meaning of a control sequence, given the bytes between CSI and its final byte, and that byte.
 pub fn kind_of(body: &[u8], last: u8) -> Kind
     ensures kind { result ≡ kind_of body.now last }
 {
@@ -121,7 +121,7 @@ fn push_columns(out: &mut Vec<u8>, body: &[u8], last: u8) -> Result<(), AllocErr
     Ok(())
 }
 
-/// What a control sequence of this kind means goes out. Refuses want of memory, and something may have gone out then.
+/// Appends the meaning of a control sequence of this kind. `AllocError`; a part may be appended then.
 pub fn push_text(
     alloc: Global,
     out: &mut Vec<u8>,

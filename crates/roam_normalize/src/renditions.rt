@@ -10,7 +10,7 @@ const ALL_FIELDS: usize = 256;
 /// The most semicolons of parameters that the profile keeps all of.
 pub const MOST_SEMICOLONS: usize = 15;
 
-/// What a field of the parameters begins with, as far as it matters.
+/// The kind of a parameter, as far as it matters.
 #[derive(Clone, Copy)]
 pub enum Field {
     Plain,
@@ -150,7 +150,7 @@ fn group_length(bytes: &[u8]) -> usize
     fields_length(b';', group_size(first_kind(bytes), next), bytes)
 }
 
-/// Whether two characters are those of 58 or 59.
+/// Returns true if two characters are those of 58 or 59.
 #[inline]
 pub fn is_pair(first: u8, second: u8) -> bool
     ensures pair { result ≡ is_pair first second }
@@ -167,7 +167,7 @@ fn is_of_lines(kind: Field) -> bool
     }
 }
 
-// Whether a parameter stands among them that is of lines' colours.
+// Returns true if a parameter sets the colour of an underline.
 fn has_lines(bytes: &[u8]) -> bool
     ensures lines { result ≡ has_lines bytes.now }
 {
@@ -185,8 +185,8 @@ fn has_lines(bytes: &[u8]) -> bool
     }
 }
 
-// Whether a rendition may have to be spelled out: it has a colon, 58 or 59 in some number, or too many semicolons. Most have none of these,
-// and are told at a glance.
+// Returns true if a rendition may need spelling out: it has a colon, 58 or 59 in some number, or too many semicolons. Most have none of
+// these, so this first look decides.
 #[inline]
 fn may_change(bytes: &[u8]) -> bool
     ensures may { result ≡ may_change 0 0 bytes.now }
@@ -208,7 +208,7 @@ fn may_change(bytes: &[u8]) -> bool
     semicolons > MOST_SEMICOLONS
 }
 
-/// Whether a rendition with these parameters has to be spelled out.
+/// Returns true if a rendition with these parameters needs spelling out.
 pub fn is_changed(bytes: &[u8]) -> bool
     ensures changed { result ≡ is_changed bytes.now }
 {
@@ -289,7 +289,7 @@ fn push_colour(alloc: Global, out: &mut Vec<u8>, layer: u8, parts: &[u8]) -> Res
     }
 }
 
-// Whether the value of a number is 0; an empty one has none of its own.
+// Returns true if the value of a number is 0; an empty one has no value of its own.
 fn is_zero(number: &[u8]) -> bool
     ensures zero { result ≡ is_zero number.now }
 {

@@ -1,4 +1,4 @@
--- What is noted of terminals was shown before, whatever is shown later.
+-- The noted screens of terminals were shown before, whatever is shown later.
 use Rattle.std.proofs.Common.{◌≡◌, ℕ, Bool, true, false, List, [], ◌∷◌, ◌++◌, Option, None, Some, sym, subst, arith, ◌∙◌, ap, append-nil, length, take, drop, inl, inr}
 use Rattle.std.proofs.Math.Seq.{drop-length, take-length}
 use Rattle.std.specs.Prelude.{◌⊎◌}
@@ -59,7 +59,7 @@ pub each_filtered : {S F : Type 0} (R : F → Terminal S → Bool → F → Type
 each_filtered R f xs ys n s is h =
     subst (λ l. AreEachBehind l n s) (sym is.4) (chosen (λ t. IsBehind t.outer n s) is.0 xs h)
 
--- what is put back into a list of as many is all of it
+-- a part put back into a list of its length is the whole list
 pub whole_back : {X : Type 0} (n : ℕ) (new old : List X) → length new ≡ length old → n ≡ length old
     → take n (new ++ drop (length new) old) ≡ new
 whole_back n new old len is =

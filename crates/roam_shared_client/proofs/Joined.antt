@@ -79,7 +79,7 @@ module _ {S : Type 0} (remaining contents : S → Option (List ℕ)) (to : Addr)
       let is : new ≡ mid = others ∙ ap (λ l. record mid { all = l }) err in
       subst (λ s. Runs remaining contents to calls calls' old s) (sym is) (runs_asked (came true) calls between calls' old mid h tells)
 
--- one who came was taken in where there was room and memory
+-- a terminal that connected was added if there was room and memory
 pub arrived : {S : Type 0} (stream : S) (result : Result (Unit {0}) Fault) (old new : Shared S)
     → OnOk result ((t : Terminal S) × (t.stream ≡ stream) × IsFresh t × (new.all ≡ old.all ++ t ∷ []))
     → length old.all < most_terminals → OnErr result (new.all ≡ old.all) → new ≡ record old { all = new.all } → Arrives old new

@@ -39,8 +39,8 @@ pub record Comes {S : Type 0} (stream : S) (old new : Shared S) : Type 0 where
 
 -- ---- steps
 
--- a step of a run: the door was asked something; a terminal came there at the other end of a stream; or a round was taken, at which the
--- start knew of a silence, and which may be followed by so long a wait
+-- a step of a run: a call of the door; a terminal that connected at the other end of a stream; or a round, with the start's knowledge of a
+-- silence and the longest wait after it
 pub data RunStep (S : Type 0) : Type 0 where
   Asks : (call : DoorCall) → RunStep S
   Came : (stream : S) → RunStep S
@@ -53,7 +53,7 @@ IsStep remaining contents to (Asks call) calls calls' old new = Tells calls call
 IsStep remaining contents to (Came stream) calls calls' old new = Tells calls calls' (Asked (came true) ∷ []) × Comes stream old new
 IsStep remaining contents to (Took silence wait) calls calls' old new = Rounds remaining contents to silence wait calls calls' old new
 
--- these steps were taken, each where the one before ended
+-- these steps were taken, each from the end of the one before
 abbrev pub RunsBy : {S : Type 0} → (S → Option (List ℕ)) → (S → Option (List ℕ)) → Addr → List (RunStep S)
     → Option (List PortCall) → Option (List PortCall) → Shared S → Shared S → Type 0
 RunsBy remaining contents to [] calls calls' old new = (calls' ≡ calls) × (new ≡ old)
@@ -66,7 +66,7 @@ abbrev pub Runs : {S : Type 0} → (S → Option (List ℕ)) → (S → Option (
     → Option (List PortCall) → Option (List PortCall) → Shared S → Shared S → Type 0
 Runs {S} remaining contents to calls calls' old new = (steps : List (RunStep S)) × RunsBy remaining contents to steps calls calls' old new
 
--- ---- who comes
+-- ---- new terminals
 
 -- so many are asked for at most before a round
 abbrev pub most_asked : ℕ
@@ -86,7 +86,7 @@ ArriveAll {S} (suc n) calls calls' old new =
     (mid : Shared S) × (between : Option (List PortCall)) × ArriveAll n calls between old mid
     × Tells between calls' (Asked (came true) ∷ []) × Arrives mid new
 
--- those who came were taken in or let go: until nobody came, or so many had as are asked for
+-- new terminals were added or refused, until none was left or so many were asked for
 pub data TakesIn {S : Type 0} (calls calls' : Option (List PortCall)) (old new : Shared S) : Type 0 where
   until_nobody : (n : ℕ) (between : Option (List PortCall)) → n < most_asked → ArriveAll n calls between old new
       → Tells between calls' (Asked (came false) ∷ []) → TakesIn calls calls' old new
@@ -98,7 +98,7 @@ pub data TakesIn {S : Type 0} (calls calls' : Option (List PortCall)) (old new :
 abbrev pub longest_end : ℕ
 longest_end = 1000
 
--- a run is over at a moment, as a terminal asked: every act that was typed is acknowledged, or a second passed since it first asked
+-- a run that a terminal asked to end is over: every typed act is acknowledged, or a second passed since the first such request
 pub data IsOver {S : Type 0} (s : Shared S) (moment : ℕ) : Type 0 where
   settled : (since : ℕ) → s.ending ≡ Some since → s.client.kept.acts.acts ≡ [] → IsOver s moment
   late : (since : ℕ) → s.ending ≡ Some since → longest_end ≤ moment - since → IsOver s moment
@@ -107,13 +107,12 @@ pub data IsOver {S : Type 0} (s : Shared S) (moment : ℕ) : Type 0 where
 abbrev pub is_for_good : ℕ → Bool
 is_for_good rounds = rounds == 2 ^ 64 - 1
 
--- no longer than so many milliseconds, where that is so
+-- at most so many milliseconds, on this condition
 abbrev pub within : Bool → ℕ → ℕ → ℕ
 within is_so longest wait = if is_so then min wait longest else wait
 
--- How many milliseconds are rested at most after a round that may be followed by so long a wait: where a terminal is there, until a silence
--- is to be told next; where the end was asked for, no longer than it goes on; and ten where the rounds are counted, so that they end by
--- themselves.
+-- The longest rest after a round that allows such a wait. If a terminal is there, until the next notice of silence. If the end was asked
+-- for, no longer than that allows. Ten milliseconds if the rounds are counted, so that they end.
 abbrev pub longest_rest : {S : Type 0} → Shared S → Silence → ℕ → ℕ → ℕ
 longest_rest s silence wait rounds =
     within (not (is_for_good rounds)) 10
@@ -130,14 +129,13 @@ pub record IsIdle {S : Type 0} (s : Shared S) : Type 0 where
   pub goes_on : s.ending ≡ None
   pub settled : s.client.kept.acts.acts ≡ []
 
--- How a start rests behind a round, so many milliseconds at most: one that is idle sleeps; any other waits until it next has something due.
+-- The rest after a round, at most so many milliseconds: an idle start sleeps; any other waits until its next due work.
 pub data Rests {S : Type 0} (longest : ℕ) (calls calls' : Option (List PortCall)) (s : Shared S) : Type 0 where
   sleeps : IsIdle s → Tells calls calls' (Asked (Slept longest) ∷ []) → Rests longest calls calls' s
   waits : (due : Option ℕ) → (IsIdle s → ⊥) → IsNextDue s.client due → Tells calls calls' (Asked (Rested longest due) ∷ [])
       → Rests longest calls calls' s
 
--- What follows a round: the server has ended; or it hasn't, and the run is over, and that is told as it was heard of the server; or
--- neither, and the start rests.
+-- The step after a round: the server has ended; or the run is over, and the result is what was heard of the server; or the start rests.
 pub data Follows {S : Type 0} (rounds : ℕ) (silence : Silence) (wait : ℕ) (end : Option End) (calls calls' : Option (List PortCall))
     (s : Shared S) : Type 0 where
   ended : Tells calls calls' (Asked (HasEnded true) ∷ []) → end ≡ Some Gone → Follows rounds silence wait end calls calls' s
@@ -148,7 +146,7 @@ pub data Follows {S : Type 0} (rounds : ℕ) (silence : Silence) (wait : ℕ) (e
 
 -- ---- a whole run
 
--- A turn of a run: those who came are taken in, a round is taken, and what follows it tells whether that is the end.
+-- A turn of a run: new terminals are added, a round is taken, and the step after it may be the end.
 pub record TakesTurn {S : Type 0} (remaining contents : S → Option (List ℕ)) (to : Addr) (rounds : ℕ) (silence : Silence) (end : Option End)
     (calls calls' : Option (List PortCall)) (old new : Shared S) : Type 0 where
   pub mid : Shared S
@@ -168,8 +166,8 @@ TakesTurns {S} remaining contents to rounds (suc n) calls calls' old new =
     × TakesTurns remaining contents to rounds n calls between old mid
     × TakesTurn remaining contents to rounds silence None between calls' mid new
 
--- A whole run of so many rounds at most: all of them were taken, and what was heard of the server is told at last; or fewer were, and one
--- more that was the end.
+-- A whole run of at most so many rounds: all were taken, and the result is what was heard of the server; or fewer were, and one more that
+-- was the end.
 pub data RunsOut {S : Type 0} (remaining contents : S → Option (List ℕ)) (to : Addr) (rounds : ℕ) (last : Silence) (end : End)
     (calls calls' : Option (List PortCall)) (old new : Shared S) : Type 0 where
   counted : TakesTurns remaining contents to rounds rounds calls calls' old new → end ≡ end_of last

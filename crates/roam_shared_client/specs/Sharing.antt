@@ -1,5 +1,5 @@
--- A client start with its outer terminals, and a round of it: each is heard, a turn is taken, each that is ready is painted, and what waits
--- is written.
+-- A client start with its outer terminals, and a round of it: each is heard, a turn is taken, each ready one is painted, and queued bytes
+-- are written.
 use Rattle.std.specs.Prelude.{◌≡◌, ℕ, ◌-◌, ◌^◌, min, nat_le, Bool, true, false, not, ◌||◌, ◌&&◌, List, [], ◌∷◌, ◌++◌, take, drop, filter, Option, Some, None, if◌then◌else◌}
 use Rattle.std.specs.List.{All, list_any}
 use Rattle.roam_hub.specs.Clients.{ClientView}
@@ -26,13 +26,13 @@ use Rattle.roam_outer_terminal.specs.declared.terminal.Terminal.{Terminal}
 abbrev pub most_terminals : ℕ
 most_terminals = 16
 
--- a client start and its terminals; and since when it is to end, where one asked for that
+-- a client start and its terminals; and since when it is to end, if a terminal asked for that
 pub record Shared (S : Type 0) : Type 0 where
   pub client : ClientView
   pub all : List (Terminal S)
   pub ending : Option ℕ
 
--- what is noted of each terminal was shown by the start before
+-- the noted screen of each terminal was shown by the start before
 abbrev pub AreEachBehind : {S : Type 0} → List (Terminal S) → ℕ → Screenshot → Type 0
 AreEachBehind all n s = All (λ terminal. IsBehind terminal.outer n s) all
 
@@ -57,8 +57,8 @@ HearsAll remaining contents (t ∷ ts) (t' ∷ ts') client client' ending =
     (mid : ClientView) × (entry : Option Entry) × (later : Bool) × HearsOne remaining contents entry t t' client mid
     × HearsAll remaining contents ts ts' mid client' later × (ending ≡ (asks_end t.watches entry || later))
 
--- how many milliseconds may be waited at most after what became of a line: not at all where it was taken, since another may stand behind
--- it; ten where memory was wanting; else as long as may be, which 64 bits count
+-- The longest wait after the result of a line: none if it was taken, since another may follow; ten milliseconds if memory was refused; else
+-- as long as 64 bits count.
 abbrev pub wait_after : Taking → ℕ
 wait_after taking.Nothing = 2 ^ 64 - 1
 wait_after taking.Line = 0
@@ -88,7 +88,7 @@ ending_after false moment ending = ending
 ending_after true moment None = Some moment
 ending_after true moment (Some since) = Some since
 
--- ---- who stays
+-- ---- the terminals that stay
 
 -- those that stay, in their order
 abbrev pub who_stay : {S : Type 0} → List (Terminal S) → List (Terminal S)
@@ -104,8 +104,8 @@ turned_round xs = drop 1 xs ++ take 1 xs
 abbrev pub is_any_waiting : {S : Type 0} → List (Terminal S) → Bool
 is_any_waiting all = list_any (λ t. not (is_empty t.waiting)) all
 
--- How many milliseconds may be waited at most, where it is no longer than a wait: a second where something waits to be written; 20 where
--- something is predicted, since predictions go by and by, but in a silence, in which none is shown.
+-- The longest wait, at most this one: a second if bytes are queued; 20 milliseconds if a terminal has predictions, except in a silence, in
+-- which none is shown.
 abbrev pub wait_for : {S : Type 0} → ℕ → Silence → List (Terminal S) → ℕ
 wait_for wait silence all =
     if is_any_waiting all then min wait 1000
@@ -119,9 +119,9 @@ round_wait wait heard silence new =
 
 -- ---- a round
 
--- A round: all terminals are heard first, and so what they typed stands in one instruction; the start is to end once one of them asked for
--- that; then it takes a turn that shows nothing; then each terminal that is ready is painted; then each is told of a silence or not, and
--- what waits for it is written. Those that left go, and the others are asked in another order next time. So long may be waited then.
+-- A round. All terminals are heard first, so their acts are in one instruction. The start is to end once one of them asked for that. Then
+-- it takes a turn that shows nothing, each ready terminal is painted, and each gets its notice of a silence and its queued bytes. Those
+-- that left are removed, and the order changes for the next round. The result is the longest wait.
 pub record Rounds {S : Type 0} (remaining contents : S → Option (List ℕ)) (to : Addr) (silence : Silence) (wait : ℕ)
     (calls calls' : Option (List PortCall)) (old new : Shared S) : Type 0 where
   pub client : ClientView

@@ -15,7 +15,7 @@ use roam_turns::Ports;
 pub struct Listening<P> {
     ports: P,
     silence: Silence,
-    // Whether the start slept since the moment was told last. It listened to nothing meanwhile, so silence counts from the next moment on.
+    // True if the start slept since the last moment. It heard nothing meanwhile, so silence counts from the next moment on.
     has_slept: bool,
 }
 
@@ -46,7 +46,7 @@ impl<P: Ports + Drop> Listening<P> {
 }
 
 impl<P: Ports + Drop> Listening<P> {
-    // The stream of a terminal that comes, where one does.
+    // Returns the stream of a new terminal, if there is one.
     pub(crate) fn next<S>(&mut self) -> Option<S>
     where
         P: Door<S>,
@@ -56,7 +56,7 @@ impl<P: Ports + Drop> Listening<P> {
         self.ports.next()
     }
 
-    // Whether the server is known to have ended.
+    // Returns true if the server is known to have ended.
     pub(crate) fn has_ended<S>(&mut self) -> bool
     where
         P: Door<S>,

@@ -18,30 +18,29 @@ const FOR_GOOD: u64 = u64::MAX;
 /// How many terminals are asked for at most before a round.
 const MOST_ASKED: usize = 64;
 
-/// What one above sixteen is told.
+/// The text for a terminal above sixteen.
 const FULL: &[u8] = b"full\n";
 
 /// How many milliseconds a start waits at most whose rounds are counted, so that they end by themselves.
 const SHORT: u64 = 10;
 
-/// Where outer terminals come, and where their start rests between two rounds: a socket, or memory in a test. It has the start's ports;
-/// what it is asked is told among their calls.
+/// The door for outer terminals, at which their start rests between two rounds: a socket, or memory in a test. It has the start's ports,
+/// and records its own calls among theirs.
 pub trait Door<S>: Ports {
-    /// The stream of a terminal that comes, where one does.
+    /// Returns the stream of a new terminal, if there is one.
     fn next(&mut self) -> Option<S>
         ensures tells { Tells (Self.told self.old) (Self.told self.new) (Asked (Came (is_some result)) ∷ []) };
 
-    /// Whether the server is known to have ended.
+    /// Returns true if the server is known to have ended.
     fn has_ended(&mut self) -> bool
         ensures tells { Tells (Self.told self.old) (Self.told self.new) (Asked (HasEnded result) ∷ []) };
 
-    /// Waits until something comes, so many milliseconds at most, not at all where these are none, and no longer than until a moment at
-    /// which something is due.
+    /// Waits for input, at most so many milliseconds, 0 for no wait, and no longer than until a due moment.
     fn rest(&mut self, longest: u64, due: Option<u64>)
         ensures tells { Tells (Self.told self.old) (Self.told self.new) (Asked (Rested longest due) ∷ []) };
 
-    /// Waits until a terminal comes, the server has news, or it has ended, so many milliseconds at most. Until a moment anything that comes
-    /// ends the wait; behind it what is no news is dropped.
+    /// Waits until a terminal connects, the server has news, or it has ended, at most so many milliseconds. Before the due moment any input
+    /// ends the wait; after it, input without news is dropped.
     fn sleep(&mut self, longest: u64, due: Option<u64>)
         ensures tells { Tells (Self.told self.old) (Self.told self.new) (Asked (Slept longest) ∷ []) };
 }
@@ -49,11 +48,11 @@ pub trait Door<S>: Ports {
 // Says to one above sixteen that there is no room, and lets it go.
 fn turn_away<S: Duplex + Drop>(stream: S) {
     let mut stream = stream;
-    // Whoever takes nothing isn't told.
+    // A terminal that accepts no bytes gets no reason.
     let _ = stream.write_some(FULL);
 }
 
-// Takes those in that come; those above sixteen are told so and let go; so are those for which there is no memory: they may come again.
+// Adds new terminals. Those above sixteen get a reason and are dropped. So are those for which memory is refused: they may connect again.
 fn take_in<S: Duplex + Drop, D: Door<S> + Drop>(
     alloc: Global,
     shared: &mut SharedClient<S>,
@@ -76,7 +75,7 @@ fn take_in<S: Duplex + Drop, D: Door<S> + Drop>(
     }
 }
 
-// No longer than so many milliseconds, where that is so.
+// Returns the wait, at most so many milliseconds on this condition.
 fn within(is_so: bool, longest: u64, wait: u64) -> u64
     ensures wait { result ≡ within is_so longest wait }
 {
@@ -97,8 +96,8 @@ fn longest_rest<S: Duplex + Drop>(
     within(rounds != FOR_GOOD, SHORT, while_ending)
 }
 
-// Rests behind a round, so many milliseconds at most: until the start next has something due, or longer if no terminal is there and nothing
-// is left to do.
+// Rests after a round, at most so many milliseconds: until the start's next due work, or longer if no terminal is there and no work is
+// left.
 fn rest_behind<S: Duplex + Drop, D: Door<S> + Drop>(
     shared: &SharedClient<S>,
     door: &mut Listening<D>,
@@ -114,8 +113,7 @@ fn rest_behind<S: Duplex + Drop, D: Door<S> + Drop>(
     }
 }
 
-// A turn of a run: those who come are taken in, a round is taken, and the start rests. Where that was the end it is answered what was heard
-// of the server.
+// Takes a turn of a run: adds new terminals, takes a round, and rests. At the end it returns what was heard of the server.
 fn take_turn<S: Duplex + Drop, D: Door<S> + Drop>(
     alloc: Global,
     shared: &mut SharedClient<S>,
@@ -140,9 +138,9 @@ fn take_turn<S: Duplex + Drop, D: Door<S> + Drop>(
     None
 }
 
-/// Is the start of all outer terminals that come to a door, for so many rounds at most: those that come are taken in, a round is taken, and
-/// the start rests. Answers what was heard of the server in the end, also where a terminal asked for the end and all acts that were typed
-/// are acknowledged, or a second passed.
+/// Runs the start of all outer terminals that connect to a door, for at most so many rounds: adds new ones, takes a round, and rests.
+/// Returns what was heard of the server at the end. The run also ends if a terminal asks for that and all typed acts are acknowledged, or a
+/// second passed.
 pub fn run_shared<S: Duplex + Drop, D: Door<S> + Drop>(
     alloc: Global,
     shared: &mut SharedClient<S>,

@@ -22,7 +22,7 @@ use std::marker::Model;
 /// How many terminals there may be at once.
 pub const MOST_TERMINALS: usize = 16;
 
-/// How many milliseconds a start waits at most where there was no memory for a line, and where something waits to be written.
+/// The longest wait of a start in milliseconds if memory was refused for a line, and if bytes are queued.
 const SOON: u64 = 10;
 
 const LATER: u64 = 1000;
@@ -30,7 +30,7 @@ const LATER: u64 = 1000;
 /// How many milliseconds it goes on at most after a terminal asked for its end.
 pub(crate) const LONGEST_END: u64 = 1000;
 
-/// How many milliseconds it waits at most where a terminal has predictions: they go by and by.
+/// The longest wait in milliseconds if a terminal has predictions, which expire.
 const PREDICTED: u64 = 20;
 
 /// A client start with its outer terminals.
@@ -38,7 +38,7 @@ const PREDICTED: u64 = 20;
 pub struct SharedClient<S> {
     client: Client,
     all: Vec<Terminal<S>>,
-    // Since when it is to end, where one of its terminals asked for that.
+    // The moment since which it is to end, if one of its terminals asked for that.
     ending: Option<u64>,
 }
 
@@ -52,14 +52,14 @@ impl<S> Model for SharedClient<S> {
     ghost invariant = { λ s. AreEachBehind s.all.items s.client.kept.receiver.newest.number s.client.kept.receiver.newest.state };
 }
 
-// Whether one of two is so.
+// Returns true if one of two is true.
 fn is_either(one: bool, other: bool) -> bool
     ensures either { result ≡ (one || other) }
 {
     one || other
 }
 
-// Hears each terminal, and tells how long may be waited for more, and whether one asked for the end.
+// Hears each terminal. Returns the longest wait for more, and true if one asked for the end.
 fn hear_all<S: Duplex + Drop>(
     alloc: Global,
     all: &mut [Terminal<S>],
@@ -101,7 +101,7 @@ fn paint_all<S: Duplex + Drop>(
     paint_all(alloc, others, client, silence);
 }
 
-// Tells each terminal of a silence, and writes what waits for it.
+// Shows each terminal a silence, and writes its queued bytes.
 fn write_all<S: Duplex + Drop>(alloc: Global, all: &mut [Terminal<S>], silence: Silence)
     ensures settles { AreEach (Settles S.remaining S.contents silence) all.old all.new }
     ensures len { length all.new ≡ length all.old }
@@ -171,7 +171,7 @@ impl<S: Duplex + Drop> SharedClient<S> {
         self.all.len()
     }
 
-    /// Whether one of them asked for the start's end.
+    /// Returns true if one of them asked for the start's end.
     pub fn is_ending(&self) -> bool
         ensures ending { result ≡ is_some self.now.ending }
     {
@@ -185,7 +185,7 @@ impl<S: Duplex + Drop> SharedClient<S> {
         self.all.is_empty() && self.ending.is_none() && self.client.is_settled()
     }
 
-    /// Whether it is over at a moment, as one of them asked: all acts that were typed are acknowledged, or a second passed since.
+    /// Returns true if the start is over at a moment, as one of them asked: all typed acts are acknowledged, or a second passed since.
     pub fn is_over(&self, silence: Silence) -> bool
         ensures over { IsTrue result ↔ IsOver self.now silence.moment }
     {
@@ -195,7 +195,7 @@ impl<S: Duplex + Drop> SharedClient<S> {
         }
     }
 
-    /// Adds a terminal at the other end of a stream. `Busy` where 16 are there, `OutOfMemory`; then the stream is closed.
+    /// Adds a terminal at the other end of a stream. `Busy` if 16 are there, `OutOfMemory`; the stream is closed then.
     pub fn add(&mut self, alloc: Global, stream: S) -> Result<(), Fault>
         ensures added { OnOk result ((terminal : TerminalOf S) × (terminal.stream ≡ stream) × IsFresh terminal
             × (self.new.all ≡ self.old.all ++ terminal ∷ [])) }
@@ -212,21 +212,21 @@ impl<S: Duplex + Drop> SharedClient<S> {
         Ok(())
     }
 
-    // Whether something waits to be written to one of them.
+    // Returns true if bytes are queued for one of them.
     fn is_waiting(&self) -> bool
         ensures waits { result ≡ is_any_waiting self.now.all }
     {
         self.all.iter().any(|terminal| terminal.is_waiting())
     }
 
-    // Whether something is predicted of what one of them is to show.
+    // Returns true if one of them has predictions.
     fn is_predicting(&self) -> bool
         ensures guesses { result ≡ list_any is_predicting self.now.all }
     {
         self.all.iter().any(|terminal| terminal.is_predicting())
     }
 
-    // How many milliseconds may be waited at most, where it is no longer than a wait. In a silence no prediction is shown.
+    // Returns the longest wait in milliseconds, at most the given one. In a silence no prediction is shown.
     fn wait_for(&self, wait: u64, silence: Silence) -> u64
         ensures wait { result ≡ wait_for wait silence self.now.all }
     {
@@ -239,7 +239,7 @@ impl<S: Duplex + Drop> SharedClient<S> {
         }
     }
 
-    // Hears each terminal, and tells how long may be waited for more, and whether one asked for the end.
+    // Hears each terminal. Returns the longest wait for more, and true if one asked for the end.
     fn hear(&mut self, alloc: Global) -> (u64, bool)
         ensures hears { AreHeard S.remaining S.contents self.old.all self.new.all self.old.client self.new.client result.1 result.0 }
         ensures others { self.new ≡ record self.old { client = self.new.client; all = self.new.all } }
@@ -273,7 +273,7 @@ impl<S: Duplex + Drop> SharedClient<S> {
         paint_all(alloc, &mut self.all, &self.client, silence);
     }
 
-    // Tells each terminal of a silence, and writes what waits for it; those that left go, and the first is the last from now on.
+    // Shows each terminal a silence, and writes its queued bytes. Removes those that left, and moves the first one to the end.
     fn write(&mut self, alloc: Global, silence: Silence)
         ensures settles { (settled : List (TerminalOf S)) × AreEach (Settles S.remaining S.contents silence) self.old.all settled
             × (self.new.all ≡ turned_round (who_stay settled)) }
@@ -284,9 +284,9 @@ impl<S: Duplex + Drop> SharedClient<S> {
         rotate(&mut self.all);
     }
 
-    /// A round of the start with its terminals, round ports: of each the line that stands first is taken; then the start takes a turn,
-    /// whose datagrams go to an address; then each terminal that is ready is painted, and what waits for them is written. They are asked in
-    /// another order each time. Answers how many milliseconds may be waited at most until the next round where nothing comes.
+    /// Takes a round of the start with its terminals, over ports: takes the first line of each; then the start takes a turn, whose
+    /// datagrams go to an address; then each ready terminal is painted, and queued bytes are written. The order of terminals changes each
+    /// time. Returns the longest wait in milliseconds until the next round without input.
     pub fn round<P: Ports + Drop>(
         &mut self,
         alloc: Global,

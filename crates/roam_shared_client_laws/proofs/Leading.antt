@@ -1,4 +1,4 @@
--- What a terminal was written leads to what is noted of it, step after step.
+-- The bytes of a terminal lead to its noted screen, step by step.
 use Rattle.std.proofs.Common.{◌≡◌, ◌⊎◌, ℕ, Bool, true, false, List, [], ◌∷◌, ◌++◌, map, take, append-nil, append_assoc, Option, Some, None, refl, sym, ap, ◌∙◌, subst, inl, inr, arith}
 use Rattle.std.proofs.KnownBytes.{Appends-kept, Appends-nil, Appends-trans}
 use Rattle.std.proofs.lemmas.List.{map-append, take-append-drop}
@@ -91,7 +91,7 @@ module _ {S : Type 0} (laid : OverlayOf → ℕ → Type 0) (remaining contents 
     leads = leads_any_more screens extra h.since (on_show t.over t.outer) h.leads;
   }
 
-  -- more waits behind what did, and what is noted and laid over it stay with nothing more, or nothing is noted
+  -- more bytes are queued, and the noted screen and the overlay stay with no more bytes, or none is noted
   data Stays (old new : Terminal S) : Type 0 where
     same : new.waiting ≡ old.waiting → new.outer ≡ old.outer → new.over ≡ old.over → Stays old new
     lost : (text : List ℕ) → new.waiting ≡ old.waiting ++ text → new.outer ≡ None → Stays old new
@@ -189,7 +189,7 @@ module _ {S : Type 0} (laid : OverlayOf → ℕ → Type 0) (remaining contents 
           told_on laid remaining contents came screens old mid t t more.0 keeps more.1
           (ap (λ t. t.waiting) is ∙ ap (λ l. old.waiting ++ l) more.2) (inr (ap (λ t. t.outer) is)) refl (inl (refl, refl)) led
 
-  -- nothing of it changed but what is told
+  -- nothing of it changed except its records
   same_followed : (came : List S) (screens : List Screenshot) (old new : Terminal S) → new ≡ old
       → IsFollowed laid contents came screens old old.display_state → IsFollowed laid contents came screens new new.display_state
   same_followed came screens old new is h = subst (λ t. IsFollowed laid contents came screens t t.display_state) (sym is) h
@@ -210,7 +210,7 @@ module _ {S : Type 0} (laid : OverlayOf → ℕ → Type 0) (remaining contents 
           told_on laid remaining contents came screens old new t t more.0 keeps more.1
           (ap (λ t. t.waiting) to.2 ∙ ap (λ l. old.waiting ++ l) more.2) (inr (ap (λ t. t.outer) to.2)) refl (inl (refl, refl)) led
 
-  -- where records begin nothing was told
+  -- at the beginning of records none was sent
   begin_bare : (count : ℕ) (o : Option DisplayStateView) → may_take Events count o ≡ true → o ≡ None
   begin_bare count None may = refl
   begin_bare count (Some t) may = by (count == 0) may
@@ -307,7 +307,7 @@ module _ {S : Type 0} (laid : OverlayOf → ℕ → Type 0) (remaining contents 
       size_if (is_long o.delays.last o.predictions.list now) (overlay (underlined o.predictions) s) (overlay o.predictions s) s.rows s.cols
       (size_overlay (underlined o.predictions) s) (size_overlay o.predictions s)
 
-  -- what is on show has the size of what is noted
+  -- the shown screen has the size of the noted one
   fits_show : (rows cols lines : ℕ) (log : List Item) (now : ℕ) (predicting : Option OverlayOf) (noted : Noted) (over : Option Screenshot)
       (shown : Noted) → IsOver now predicting (Some noted) over → on_show over (Some noted) ≡ Some shown
       → Fits rows cols lines log noted.screen → Fits rows cols lines log shown.screen
@@ -349,7 +349,7 @@ module _ {S : Type 0} (laid : OverlayOf → ℕ → Type 0) (remaining contents 
     cols_fit = omega (arith, fits.cols_fit, size.cols);
   }
 
-  -- what leads from what was shown leads any terminal behind what led it there; and where nothing was known, alone
+  -- a text that leads on from a shown screen leads any terminal behind the text that led it there; and on its own if no screen was known
   pub leads_on : (screens : List Screenshot) (since text : List ℕ) (old new : Option Noted) → LeadsAny screens since old
       → LeadsSized old text new
       → ((n : Noted) → new ≡ Some n → (rows cols lines : ℕ) (log : List Item) → FitsAll rows cols lines log screens
@@ -380,7 +380,7 @@ module _ {S : Type 0} (laid : OverlayOf → ℕ → Type 0) (remaining contents 
   size_shown screens now predicting (Some outer) over noted is n e rows cols lines log fits =
       fits_show rows cols lines log now predicting outer over n is e (fits_one rows cols lines log screens outer.screen fits noted)
 
-  -- what is noted then was shown
+  -- the new noted screen was shown
   noted_painted : (screens : List Screenshot) (shown : Noted) (old noted new : Option Noted) → IsNotedOf screens old
       → ((noted ≡ Some shown) ⊎ ((noted ≡ old) ⊎ (noted ≡ None))) → ((new ≡ noted) ⊎ (new ≡ None))
       → IsNotedOf (screens ++ shown.screen ∷ []) new
@@ -479,7 +479,7 @@ module _ {S : Type 0} (laid : OverlayOf → ℕ → Type 0) (remaining contents 
       (subst (λ c. IsFollowed laid contents c (screens ++ (shown_of client).screen ∷ []) old old.display_state) (append-nil came)
       (followed_more came [] screens ((shown_of client).screen ∷ []) old old.display_state h))
 
-  -- ---- what waits is written
+  -- ---- queued bytes are written
 
   said_followed : (came : List S) (screens : List Screenshot) (seen : Silence) (old new : Terminal S) (t : DisplayStateView)
       → SaysSilence seen old new → IsToldAs laid contents came screens old t → IsToldAs laid contents came screens new t
@@ -503,7 +503,7 @@ module _ {S : Type 0} (laid : OverlayOf → ℕ → Type 0) (remaining contents 
   said_display_state seen old new (is_silent seconds h due empty here is) = ap (λ t. t.display_state) is
   said_display_state seen old new (is_as_it_was is) = ap (λ t. t.display_state) is
 
-  -- one that isn't told in records
+  -- a terminal without records
   bare_followed : (came : List S) (screens : List Screenshot) (old new : Terminal S) → is_some old.display_state ≡ false
       → new.display_state ≡ old.display_state → new.stream ≡ old.stream → Stays old new → IsFollowed laid contents came screens old old.display_state
       → IsFollowed laid contents came screens new new.display_state
@@ -657,7 +657,7 @@ module _ {S : Type 0} (laid : OverlayOf → ℕ → Type 0) (remaining contents 
     RunLaid [] calls calls' old new h = Unit {0}
     RunLaid (step ∷ steps) calls calls' old new h = StepLaid step calls h.1 old h.0 h.2 × RunLaid steps h.1 calls' h.0 new h.3
 
-    -- what was laid in a run is among what was laid
+    -- an overlay painted in a run is among the painted ones
     some_laid : (o : Option OverlayOf) (now : ℕ) → ((overlay : OverlayOf) → o ≡ Some overlay → laid overlay now)
         → IfSome o (λ overlay. laid overlay now)
     some_laid None now each = tt

@@ -1,4 +1,4 @@
--- What a terminal that asked for records was told, step after step.
+-- The records of a terminal that asked for them, step by step.
 use Rattle.std.proofs.Common.{◌≡◌, ◌⊎◌, ℕ, Bool, true, false, List, [], ◌∷◌, ◌++◌, take, append-nil, append_assoc, Option, Some, None, refl, sym, ap, ◌∙◌, subst, inl, inr}
 use Rattle.std.proofs.KnownBytes.{Appends-kept, Appends-trans}
 use Rattle.std.proofs.lemmas.Grind.{flat_map-append}
@@ -41,7 +41,7 @@ module _ (laid : OverlayOf → ℕ → Type 0) where
   part_more screens extra masks None h = tt
   part_more screens extra masks (Some view) h = (h.0, h.1, laid_more screens extra h.1 h.2, h.3)
 
--- what is to be shown stays, with the same cells masked, or isn't known any more
+-- the screen to show stays, with the same cells masked, or becomes unknown
 abbrev pub Kept : DisplayStateView → DisplayStateView → Type 0
 Kept t t' = ((t'.view ≡ t.view) × (t'.masks ≡ t.masks)) ⊎ (t'.view ≡ None)
 
@@ -69,7 +69,7 @@ parts_more written waiting waiting' before said more parts is =
 
 -- ---- a line of it
 
--- what is told of it after a line that doesn't begin records
+-- the records after a line that doesn't begin records
 abbrev pub is_events_entry : Entry → Bool
 is_events_entry (Acts acts) = false
 is_events_entry (Paste acts) = false
@@ -94,7 +94,7 @@ untold_after LookStyled watches client none = refl
 untold_after (Show showing) watches client none = refl
 untold_after End watches client none = refl
 
--- of one that is told what stays
+-- the same for a terminal whose state stays
 abbrev pub GoesOn : Option DisplayStateView → DisplayStateView → Type 0
 GoesOn after t = (t' : DisplayStateView) × (after ≡ Some t') × (t'.sized ≡ t.sized) × Kept t t'
 
@@ -124,7 +124,7 @@ refusal_quiet text (inl none) = ([], tt, none)
 refusal_quiet text (inr (line, words, is)) =
     (records.Refused line words ∷ [], (refl, λ told. refl, tt), is ∙ sym (append-nil (text_of (records.Refused line words))))
 
--- ---- what is told at once
+-- ---- records that are sent at once
 
 record Quiet (said : List Record) (old new : DisplayStateView) : Type 0 where
   pub quiet : AreQuiet said
@@ -161,7 +161,7 @@ look_quiet screen said old new (looked looking text asked is said_is to) = recor
 }
 
 module _ (laid : OverlayOf → ℕ → Type 0) where
-  -- what was said, and what is shown of these screens
+  -- the records, and the part of these screens to show
   record Follows (screens : List Screenshot) (said : List Record) (t : DisplayStateView) : Type 0 where
     pub leads : IsSaid said t
     pub shows : IsPartOf laid screens t.masks t.view
@@ -224,7 +224,7 @@ module _ (laid : OverlayOf → ℕ → Type 0) where
       shows = part_more laid screens extra display_state.masks display_state.view h.shows;
     }
 
-    -- records begin behind what waits
+    -- records begin behind the queued bytes
     pub told_begins : (came : List S) (screens : List Screenshot) (old new : Terminal S) (display_state : DisplayStateView)
         → Keeps (contents old.stream) (contents new.stream) → new.outer ≡ None → display_state.view ≡ None → display_state.sized ≡ None
         → IsLed contents came screens old → IsToldAs laid contents came screens new display_state
@@ -241,7 +241,7 @@ module _ (laid : OverlayOf → ℕ → Type 0) where
       shows = subst (IsPartOf laid screens display_state.masks) (sym unknown) tt;
     }
 
-    -- more is said that paints nothing, and what is to be shown stays or isn't known any more
+    -- more records without a painting, and the screen to show stays or becomes unknown
     pub told_on : (came : List S) (screens : List Screenshot) (old new : Terminal S) (t t' : DisplayStateView) (more : List Record)
         → Keeps (contents old.stream) (contents new.stream) → AreQuiet more → new.waiting ≡ old.waiting ++ texts_of more
         → (new.outer ≡ old.outer) ⊎ (new.outer ≡ None) → t'.sized ≡ t.sized → Kept t t' → IsToldAs laid contents came screens old t
@@ -263,7 +263,7 @@ module _ (laid : OverlayOf → ℕ → Type 0) where
         by (inl same) = subst (IsNotedOf screens) (sym same) h.noted
         by (inr none) = subst (IsNotedOf screens) (sym none) tt
 
-    -- some of what waits is written
+    -- some queued bytes are written
     pub told_flushed : (came : List S) (screens : List Screenshot) (now : ℕ) (old new : Terminal S) (display_state : DisplayStateView)
         → Flushes remaining contents now old new → IsToldAs laid contents came screens old display_state → IsToldAs laid contents came screens new display_state
     told_flushed came screens now old new display_state f h =
@@ -292,7 +292,7 @@ module _ (laid : OverlayOf → ℕ → Type 0) where
     noted_told screens shown old new h (inr same) =
         subst (IsNotedOf (screens ++ shown.screen ∷ [])) (sym same) (noted_of_more screens (shown.screen ∷ []) old h)
 
-    -- it was told what it is to know
+    -- the terminal got its records
     pub told_all : (came : List S) (screens : List Screenshot) (silence : ℕ) (client : ClientView) (old mid new : Terminal S)
         (before : DisplayStateView) → (mid.outer ≡ Some (shown_of client)) ⊎ (mid.outer ≡ old.outer)
         → IfSome mid.predicting (λ overlay. laid overlay silence) → IsOver silence mid.predicting mid.outer mid.over → mid ≡ record old { outer = mid.outer; predicting = mid.predicting; over = mid.over }

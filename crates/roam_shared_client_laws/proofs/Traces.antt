@@ -1,4 +1,4 @@
--- What was typed in a run are the lines of its terminals, step after step.
+-- The typed acts of a run are the lines of its terminals, step by step.
 use Rattle.std.proofs.Common.{◌≡◌, ◌⊎◌, ℕ, zero, suc, ◌+◌, ◌≤◌, ◌<◌, Bool, true, false, List, [], ◌∷◌, ◌++◌, length, append-nil, append_assoc, Option, Some, None, refl, sym, ap, ◌∙◌, subst, inl, inr, arith}
 use Rattle.std.proofs.KnownBytes.{Consumes-kept, Consumes-nil, Consumes-trans}
 use Rattle.std.proofs.lemmas.Bool.Decides.{eqb_tells, leb_tells}
@@ -82,7 +82,7 @@ acts_more_other : (m n : ℕ) (typed : List Typed) (acts : List Act) → n ≢ m
 acts_more_other m n typed acts other =
     acts_both m typed (numbered n acts) ∙ (ap (λ l. acts_of m typed ++ l) (acts_other m n acts other) ∙ append-nil (acts_of m typed))
 
--- ---- what stands at a place
+-- ---- the element at a place
 
 at_more : {X : Type 0} (xs more : List X) (n : ℕ) (x : X) → IsAt xs n x → IsAt (xs ++ more) n x
 at_more [] more n x h = absurd h
@@ -257,7 +257,7 @@ module _ {S : Type 0} (remaining contents : S → Option (List ℕ)) (came : Lis
       heard_untaken typed a mid new client client' h (ap (λ t. t.stream) to) (ap (λ t. t.lines) to) (ap (λ t. t.watches) to)
       (λ on gone. on (ap (λ t. t.state) to ∙ gone)) c
 
-  -- one that is there stands for what was read of it
+  -- a connected terminal models the bytes read from it
   there_stands : (typed : List Typed) (a : Trace S) → is_gone a.last ≡ false → IsTrace remaining came typed a
       → Stands a.last.lines.kept a.last.watches a.read (acts_of a.number typed)
   there_stands typed a there h = h.stands (λ gone. by (ap (λ s. is_let_go s a.last.lines.kept) (sym gone) ∙ there))
@@ -367,9 +367,9 @@ module _ {S : Type 0} (remaining contents : S → Option (List ℕ)) (came : Lis
             ∙ (ap (λ l. l ++ acts_of n rest.more) (acts_other n a.number one.acts (λ same. other.0 (sym same))) ∙ rest.nobody n other.1);
       }
 
-  -- ---- it is painted, and what waits is written
+  -- ---- painting, and writing of queued bytes
 
-  -- what was typed and read of a terminal stays where it changes otherwise
+  -- the typed acts and the bytes of a terminal stay through its other changes
   trace_stays : (typed : List Typed) (a : Trace S) (new : Terminal S) → Keeps (remaining a.last.stream) (remaining new.stream)
       → new.lines ≡ a.last.lines → new.watches ≡ a.last.watches → (new.state ≢ Gone → a.last.state ≢ Gone)
       → IsTrace remaining came typed a → IsTrace remaining came typed (record a { last = new })
@@ -407,7 +407,7 @@ module _ {S : Type 0} (remaining contents : S → Option (List ℕ)) (came : Lis
   if_gone true = refl
   if_gone false = refl
 
-  -- who is let go stays so
+  -- a disconnected terminal stays so
   gone_later : (waits has_taken : Bool) (now : ℕ) (stuck : Option ℕ) → state_after waits has_taken now stuck Gone ≡ Gone
   gone_later true has_taken now stuck = refl
   gone_later false has_taken now stuck = by _
@@ -479,7 +479,7 @@ module _ {S : Type 0} (remaining contents : S → Option (List ℕ)) (came : Lis
         counts = λ n. count_same n a (record a { last = t }) all rest.they refl (rest.counts n);
       }
 
-  -- ---- who stays, and who goes
+  -- ---- the terminals that stay, and the others
 
   record Parted (all : List (Trace S)) (typed : List Typed) : Type 0 where
     stay : List (Trace S)

@@ -1,4 +1,4 @@
--- What was typed at a start in a run: the lines of its terminals, one terminal's between another's.
+-- The acts typed at a start in a run: the lines of its terminals, those of one between those of another.
 use Rattle.std.specs.Prelude.{◌≡◌, ◌≢◌, ℕ, zero, suc, ◌+◌, ◌==◌, ◌≤◌, ◌<◌, Bool, true, false, List, [], ◌∷◌, ◌++◌, map, length, Option, None, if◌then◌else◌}
 use Rattle.std.specs.Io.KnownBytes.{Consumes}
 use Rattle.roam_acts.specs.declared.acts.Act.{Act}
@@ -23,13 +23,13 @@ came_in (Asks call ∷ steps) = came_in steps
 came_in (Came stream ∷ steps) = stream ∷ came_in steps
 came_in (Took silence wait ∷ steps) = came_in steps
 
--- what stands at a place of a list, from 0
+-- the element at a place of a list, from 0
 abbrev pub IsAt : {X : Type 0} → List X → ℕ → X → Type 0
 IsAt [] n x = ⊥
 IsAt (y ∷ ys) zero x = y ≡ x
 IsAt (y ∷ ys) (suc n) x = IsAt ys n x
 
--- ---- what was typed
+-- ---- the typed acts
 
 -- an act that was typed, and the number of its terminal: so many came before it
 pub record Typed : Type 0 where
@@ -63,15 +63,15 @@ pub record AreActsOf (read : List ℕ) (acts : List Act) : Type 0 where
   pub is : read ≡ ended_all lines ++ rest
   pub takes : TakesAll lines false watches acts
 
--- a terminal of a run: its number, its stream as it came, what it is, or was when it was let go, and the bytes that were read of it
+-- a terminal of a run: its number, its stream at the beginning, its present or last state, and the bytes read from it
 pub record Trace (S : Type 0) : Type 0 where
   pub number : ℕ
   pub came : S
   pub last : Terminal S
   pub read : List ℕ
 
--- it is the terminal of its number; its bytes were read of its stream; the acts typed for it are those of its lines; and where it isn't let
--- go, all lines that aren't typed are kept
+-- It is the terminal of its number. Its bytes were read from its stream. The acts typed for it are those of its lines. Unless it is
+-- disconnected, all lines that aren't typed are kept.
 pub record IsTrace {S : Type 0} (remaining : S → Option (List ℕ)) (came : List S) (typed : List Typed) (a : Trace S) : Type 0 where
   pub at : IsAt came a.number a.came
   pub consumed : Consumes (remaining a.came) (remaining a.last.stream) a.read
@@ -101,8 +101,8 @@ AreGone (a ∷ all) = (is_gone a.last ≡ true) × AreGone all
 abbrev pub lasts : {S : Type 0} → List (Trace S) → List (Terminal S)
 lasts all = map (λ a. a.last) all
 
--- Of a run: what was typed, each act with its terminal's number; an account of each that is there and of each that was let go, of each that
--- came one; and nothing else was typed at the start, and nothing for one that didn't come.
+-- The account of a run: the typed acts, each with its terminal's number, and one trace for each terminal that connected. Nothing else was
+-- typed at the start, and nothing for a terminal that didn't connect.
 pub record IsTyped {S : Type 0} (remaining : S → Option (List ℕ)) (to : Addr) (came : List S) (first : ClientView) (s : Shared S)
     : Type 0 where
   pub typed : List Typed

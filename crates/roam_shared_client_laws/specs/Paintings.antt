@@ -1,4 +1,4 @@
--- What a terminal of a run was written: it leads a terminal to what is noted of it.
+-- The bytes written to a terminal of a run lead a terminal to its noted screen.
 use Rattle.std.specs.Prelude.{◌≡◌, ◌⊎◌, ℕ, List, [], ◌∷◌, ◌++◌, Option, Some, None}
 use Rattle.std.specs.Io.KnownBytes.{Appends}
 use Rattle.roam_cells.specs.declared.addresses.Addr.{Addr}
@@ -33,8 +33,8 @@ abbrev pub FitsAll : (rows cols lines : ℕ) → List Item → List Screenshot �
 FitsAll rows cols lines log [] = Unit {0}
 FitsAll rows cols lines log (s ∷ screens) = Fits rows cols lines log s × FitsAll rows cols lines log screens
 
--- A text leads any terminal that has the size of these screens at least, in whatever state, to what is noted with what is laid over it: it
--- shows that, as a ground terminal of its size.
+-- A text leads any terminal of at least the size of these screens, in any state, to the noted screen with its overlay, as a ground terminal
+-- of its size.
 abbrev pub LeadsAny : List Screenshot → List ℕ → Option Noted → Type 0
 LeadsAny screens text None = Unit {0}
 LeadsAny screens text (Some noted) =
@@ -46,14 +46,13 @@ abbrev pub IsOneOf : {X : Type 0} → X → List X → Type 0
 IsOneOf x [] = ⊥
 IsOneOf x (y ∷ ys) = (y ≡ x) ⊎ IsOneOf x ys
 
--- what is noted, where something is, is one of these screens
+-- a noted screen is one of these screens
 abbrev pub IsNotedOf : List Screenshot → Option Noted → Type 0
 IsNotedOf screens None = Unit {0}
 IsNotedOf screens (Some noted) = IsOneOf noted.screen screens
 
--- A terminal that came at the other end of one of these streams: what is noted of it is one of the screens that were shown; what it was
--- written and what waits for it are what was before it was last painted anew, and then a text that leads any terminal to what is noted,
--- with what is laid over that.
+-- A terminal at the other end of one of these streams. Its noted screen is one that was shown. Its bytes, written and queued, are two
+-- parts: those before it was last painted anew, and a text that leads any terminal to the noted screen with its overlay.
 pub record IsLed {S : Type 0} (contents : S → Option (List ℕ)) (came : List S) (screens : List Screenshot) (t : Terminal S) : Type 0 where
   pub stream : S
   pub is : IsOneOf stream came
@@ -95,15 +94,15 @@ IsLaidOf laid screens s =
     (base : Screenshot) × IsOneOf base screens
     × ((s ≡ base) ⊎ ((overlay : OverlayOf) × (now : ℕ) × laid overlay now × (s ≡ laid_over overlay base now)))
 
--- what a terminal is to show is a part of such a screen, but for what is masked
+-- the screen to show is a part of such a screen, except for masked cells
 abbrev pub IsPartOf : (OverlayOf → ℕ → Type 0) → List Screenshot → List Part → Option Screenshot → Type 0
 IsPartOf laid screens masks None = Unit {0}
 IsPartOf laid screens masks (Some view) = (part : Part) × (s : Screenshot) × IsLaidOf laid screens s × (view ≡ part_of part masks s)
 
--- A terminal that asked for records and came at the other end of one of these streams: what is noted of it is one of the screens that were
--- shown; what it was written and what waits for it are what was before records began, and then records; the paintings among them, since it
--- was last painted anew, lead any terminal that has each size which was told to what it is to show, of which the size was told last; and
--- that is a part of one of these screens, without an overlay or with one of these.
+-- A terminal with records at the other end of one of these streams. Its noted screen is one that was shown. Its bytes, written and queued,
+-- are those before records began, and then records. The paintings since it was last painted anew lead any terminal of at least each sent
+-- size to the screen to show, whose size was sent last. That screen is a part of one of these screens, with or without one of these
+-- overlays.
 pub record IsToldAs {S : Type 0} (laid : OverlayOf → ℕ → Type 0) (contents : S → Option (List ℕ)) (came : List S) (screens : List Screenshot) (t : Terminal S)
     (display_state : DisplayStateView) : Type 0 where
   pub stream : S
@@ -129,7 +128,7 @@ AreLed laid contents came screens (t ∷ all) = IsFollowed laid contents came sc
 
 -- ---- the law
 
--- So it is of each terminal that is there after a run that begins without terminals, with the overlays that its terminals had when they were
+-- Each terminal after a run that begins without terminals has this property, with the overlays that its terminals had when they were
 -- painted.
 abbrev pub PaintingsLead : {S : Type 0} → (S → Option (List ℕ)) → (S → Option (List ℕ)) → Type 0
 PaintingsLead {S} remaining contents =

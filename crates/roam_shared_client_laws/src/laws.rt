@@ -4,14 +4,14 @@ ghost use Rattle.roam_shared_client_laws.specs.Paintings.{PaintingsLead};
 
 use roam_outer_terminal::Duplex;
 
-/// What was typed at a start in a run are the lines of its terminals: those of each in their order, each once, one terminal's between
-/// another's.
+/// The acts typed at a start in a run are the lines of its terminals: those of each in order, each once, those of one between those of
+/// another.
 pub fn lines_are_typed<S: Duplex>()
     ensures typed { LinesAreTyped S.remaining S.contents }
 {}
 
-/// What a terminal was written since it was last painted anew, and what still waits for it, lead any terminal to what is noted of it with
-/// what is laid over that, where it is of the size of each screen that the start showed at least.
+/// The bytes of a terminal since it was last painted anew, written and queued, lead any terminal to its noted screen with its overlay. The
+/// terminal has at least the size of each screen that the start showed.
 pub fn paintings_lead<S: Duplex>()
     ensures leads { PaintingsLead S.remaining S.contents }
 {}

@@ -1,4 +1,4 @@
-//! What follows of a run of a shared start, round after round: what was typed there, and what each of its terminals was written.
+//! The laws of a run of a shared start, round by round: the typed acts, and the bytes written to each of its terminals.
 #![tactic(auto)]
 
 pub mod laws;

@@ -1,6 +1,6 @@
-//! The program `roam` with the command `show` alone, which stands on the terminal and on nothing of the network.
+//! The program `roam` with the command `show` alone. It needs the terminal, and nothing of the network.
 //!
-//! `./roam show` runs it where the whole program is not built, since it is proved in a fraction of the time.
+//! `./roam show` runs it before the whole program is built, since it is proved in a fraction of the time.
 #![tactic(auto)]
 
 use roam_cli::{Request, asked, words_of};

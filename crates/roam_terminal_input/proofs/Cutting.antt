@@ -51,7 +51,7 @@ whole : (text : List ℕ) → IsWhole text
 whole [] = λ some never. absurd (omega (arith, some))
 whole (b ∷ bs) = whole_front b bs (whole bs)
 
--- where LF stands first, the first line ends
+-- the first line ends at the first LF
 pub first_cut : (text : List ℕ) (p : ℕ) → position (λ (b : ℕ). eqb b 10) text ≡ Some p → lines_of text ≡ take p text ∷ lines_of (drop (p + 1) text)
 first_cut text p e = by (ltb (prefix_len is_inner text) (length text)) refl e
   where
@@ -62,7 +62,7 @@ first_cut text p e = by (ltb (prefix_len is_inner text) (length text)) refl e
         cut_at text (ltb-true _ _ is) ∙ ap (λ (n : ℕ). take n text ∷ lines_of (drop (n + 1) text)) same
     by false is some = absurd cc
 
--- where none stands, a text that isn't empty is one line
+-- a text without LF is one line, if it isn't empty
 pub no_cut : (text : List ℕ) → 0 < length text → position (λ (b : ℕ). eqb b 10) text ≡ None → lines_of text ≡ text ∷ []
 no_cut [] some e = absurd (omega (arith, some))
 no_cut (b ∷ bs) some e = by (ltb (prefix_len is_inner (b ∷ bs)) (length (b ∷ bs))) refl e

@@ -1,4 +1,4 @@
--- What stands first of the bytes of a stream of lines.
+-- The first line of a stream's bytes.
 use Rattle.std.proofs.Common.{◌≡◌, ℕ, ◌+◌, ◌<◌, Bool, true, false, eqb, List, [], ◌∷◌, ◌++◌, length, take, drop, get_or, Option, Some, None, refl, sym, ap, ◌∙◌, arith, subst}
 use Rattle.std.specs.Prelude.{if◌then◌else◌, nat_lt}
 use Rattle.std.specs.List.{position}
@@ -21,7 +21,7 @@ by_some : (t : Bool) (end n : ℕ) → (if t then TooLong else Line end) ≡ Lin
 by_some true end n e = absurd cc
 by_some false end n e = cc
 
--- where a line stands first, its end is there
+-- a whole first line has its end
 pub line_end : (kept : List ℕ) (n : ℕ) → front_of kept ≡ Line n → (n < length kept) × (get_or kept n 0 ≡ 10)
 line_end kept n e = by (position is_end kept) refl e
   where
@@ -41,7 +41,7 @@ first_is_ended kept line rest is =
     rw (is.rest_is) (sym (take-append-drop (n + 1) kept) ∙ ap (λ (l : List ℕ). l ++ drop (n + 1) kept)
     (more ∙ ap (λ (l : List ℕ). l ++ 10 ∷ []) (sym is.line_is)))
 
--- where a line stands first, it is the bytes before its end
+-- a whole first line is the bytes before its end
 pub line_first : (kept : List ℕ) (n : ℕ) → front_of kept ≡ Line n → IsFirst kept (take n kept) (drop (n + 1) kept)
 line_first kept n e =
     let end = line_end kept n e in

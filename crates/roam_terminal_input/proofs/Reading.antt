@@ -1,4 +1,4 @@
--- What is known while the lines of a text are read.
+-- The state while the lines of a text are read.
 use Rattle.std.proofs.Common.{◌≡◌, ℕ, suc, ◌+◌, List, [], ◌∷◌, ◌++◌, length, sym, ap, ◌∙◌, arith}
 use Rattle.std.proofs.lemmas.List.{append_assoc, append-nil, length-append}
 use Rattle.roam_acts.specs.declared.acts.Act.{Act}

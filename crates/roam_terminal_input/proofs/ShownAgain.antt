@@ -1,4 +1,4 @@
--- What is to be shown is read from its text, and from no other.
+-- A wish about the shown part has exactly one text, and is read from it.
 use Rattle.std.proofs.Common.{◌≡◌, ◌≢◌, ℕ, ◌+◌, ◌^◌, ◌<◌, ◌≤◌, Bor, true, eqb, length, take, drop, get_or, List, [], ◌∷◌, ◌++◌, Option, Some, None, refl, sym, ap, ◌∙◌, arith, lit≤}
 use Rattle.std.proofs.lemmas.Fmt.{decimal_is_IsNumeral}
 use Rattle.std.proofs.lemmas.Bool.Decides.{Decides-eqb}
@@ -19,7 +19,7 @@ use Rattle.roam_terminal_input.specs.declared.showings.Showing.TheVariants.{Whol
 word : (n : ℕ) → n < 2 ^ 16 → IsWord (decimal n)
 word n small = digits_are_word 10 (decimal n) (lit≤ tt) (decimal_is_IsNumeral n (omega (arith, small))).0.1
 
--- ---- what has the text is read
+-- ---- the text of a wish is read
 
 short_again : (n : ℕ) → n < 2 ^ 16 → short_in (decimal n) ≡ Some n
 short_again n small = number_again 65535 n (omega (arith, small)) (omega (arith, small))
@@ -35,7 +35,7 @@ part_again part is p q =
     ∙ ap (part_behind (decimal part.row)) (word_again (decimal part.col) size (word part.col is.col))
     ∙ (λ i. part_of (pair_of (short_again part.row is.row i) (short_again part.col is.col i)) (pair_again part.rows part.cols p q i))
 
--- ---- what is read has the text
+-- ---- a wish that is read has the text
 
 pub record IsPair (text : List ℕ) (pair : ℕ × ℕ) : Type 0 where
   pub first : pair.0 < 2 ^ 16
@@ -102,7 +102,7 @@ part_found text part e = by (first_word text) refl e
     by None is e = absurd cc
     by (Some words) is e = behind words (word_found text words is) (first_word words.1) refl e
 
--- ---- what is shown
+-- ---- the wishes
 
 apart : {X : Type 0} (line other : List ℕ) → get_or line 0 0 ≢ get_or other 0 0 → line ≡ other → X
 apart line other is e = absurd (is (ap (λ (l : List ℕ). get_or l 0 0) e))
@@ -155,7 +155,7 @@ same_part a b e = cc
 pub same_pair : (a b : ℕ × ℕ) → Some a ≡ Some b → a ≡ b
 same_pair a b e = cc
 
--- what is left behind a head
+-- the rest behind a head
 pub behind_head : (line head all : List ℕ) (rest : Bor (List ℕ)) → head ≡ all
     → (pointwise eqb (take (length head) line) head ≡ true) × (rest.now ≡ drop (length head) line) × (length rest.now
     + length head ≡ length line) → line ≡ all ++ rest.now

@@ -1,4 +1,4 @@
--- What the acts of a stream's lines stand for after more of it was read.
+-- The acts of a stream's lines after more of it was read.
 use Rattle.std.proofs.Common.{◌≡◌, ◌≢◌, ℕ, ◌+◌, ◌≤◌, ◌<◌, List, [], ◌∷◌, ◌++◌, length, sym, ap, subst, ◌∙◌, arith, append_assoc, append-nil, length-append, Result, Ok, Err, Option}
 use Rattle.std.proofs.KnownBytes.{Consumes-kept, Consumes-nil}
 use Rattle.std.proofs.lemmas.List.{length-take}
@@ -154,7 +154,7 @@ shut Ended on = on
 shut (Spoiled number) on = on
 shut (SpoiledLast number) on = on
 
--- what a read gave was consumed
+-- the bytes of a read were consumed
 pub consumes_given : (old new : Option (List ℕ)) (answer : Result ℕ Error) (buf : List ℕ) → ReadConsumes old new answer buf
     → Consumes old new (bytes_given answer buf)
 consumes_given old new (Ok n) buf h = h.0

@@ -1,4 +1,4 @@
--- What the bytes of a stream make of its lines.
+-- The effect of a stream's bytes on its lines.
 use Rattle.std.proofs.Common.{◌≡◌, ◌≢◌, ℕ, ◌≤◌, eqb, false, List, [], ◌∷◌, ◌++◌, length, All, refl, sym, ap, subst, ◌∙◌, arith, append_assoc, append-nil, length-append}
 use Rattle.std.proofs.lemmas.Bool.{ne_eqb}
 use Rattle.std.proofs.lemmas.List.Concat.{flat_map-append}
@@ -18,7 +18,7 @@ is_inner b bs one = ne_eqb b 10 (All-head (λ (byte : ℕ). byte ≢ 10) b bs on
 rest_of : (b : ℕ) (bs : List ℕ) → IsOneLine (b ∷ bs) → IsOneLine bs
 rest_of b bs one = All-tail (λ (byte : ℕ). byte ≢ 10) b bs one
 
--- a line that has its end stands first
+-- a line with its end is the first line
 line_first : (line rest : List ℕ) → IsOneLine line → lines_of (line ++ 10 ∷ rest) ≡ line ∷ lines_of rest
 line_first [] rest one = refl
 line_first (b ∷ bs) rest one = rw (is_inner b bs one, line_first bs rest (rest_of b bs one)) refl
@@ -52,7 +52,7 @@ front_of b (c ∷ cs) more one =
     let f = front_of c cs more (rest_of b (c ∷ cs) one) in
     record { tail = f.tail; later = f.later; are = rw (is_inner b (c ∷ cs) one) (ap (in_front b) f.are) }
 
--- what follows the last end is one more line where it isn't empty
+-- the bytes behind the last end are one more line if there are any
 pub whole_line : (b : ℕ) (bs : List ℕ) → IsOneLine (b ∷ bs) → lines_of (b ∷ bs) ≡ (b ∷ bs) ∷ []
 whole_line b [] one = rw (is_inner b [] one) refl
 whole_line b (c ∷ cs) one = rw (is_inner b (c ∷ cs) one) (ap (in_front b) (whole_line c cs (rest_of b (c ∷ cs) one)))
@@ -69,7 +69,7 @@ acts_append (l ∷ lines) (a ∷ acts) line act are is = (are.0, acts_append lin
 -- ---- one more byte
 
 module _ (log begun : List ℕ) (acts : List Act) (came : Came log acts begun) where
-  -- the lines of all that was read and of what comes after it
+  -- the lines of the bytes that were read and of those that follow
   pub all_lines : (more : List ℕ) → lines_of (log ++ more) ≡ came.lines ++ lines_of (begun ++ more)
   all_lines more =
       ap (λ (t : List ℕ). lines_of (t ++ more)) came.are.is

@@ -1,4 +1,4 @@
--- What a line of an outer terminal asks for (this project's profile): a word of its connection, or acts, with ` ; ` between them.
+-- The request of a line of an outer terminal (this project's profile): a word about its connection, or acts, with ` ; ` between them.
 use Rattle.std.specs.Prelude.{◌≡◌, ◌≢◌, ℕ, zero, suc, ◌+◌, ◌==◌, ◌&&◌, Bool, true, false, List, [], ◌∷◌, take, drop, slice_index, Option, Some, None, codes, if◌then◌else◌}
 use Rattle.std.specs.Option.{option_map}
 use Rattle.std.specs.Str.{bytes_eq}
@@ -15,16 +15,16 @@ use Rattle.roam_terminal_input.specs.Showings.{IsShowing, showing_text}
 abbrev pub most_cuts : ℕ
 most_cuts = 63
 
--- ` ; ` stands first
+-- the text begins with ` ; `
 abbrev pub begins_separator : List ℕ → Bool
 begins_separator text = slice_index text 0 == 0x20 && (slice_index text 1 == 0x3B && slice_index text 2 == 0x20)
 
--- where it stands first
+-- the place of the first one
 abbrev pub cut_of : List ℕ → Option ℕ
 cut_of [] = None
 cut_of (byte ∷ bytes) = if begins_separator (byte ∷ bytes) then Some 0 else option_map suc (cut_of bytes)
 
--- what stands before the first separator and the parts of what follows it, or all where there is none
+-- the text before the first separator and the parts behind it, or the whole text if there is none
 abbrev pub cut_by : (List ℕ → List (List ℕ)) → List ℕ → Option ℕ → List (List ℕ)
 cut_by parts text None = text ∷ []
 cut_by parts text (Some at) = take at text ∷ parts (drop (at + 3) text)
@@ -34,7 +34,7 @@ unfoldable pub parts_of : ℕ → List ℕ → List (List ℕ)
 parts_of zero text = text ∷ []
 parts_of (suc n) text = cut_by (parts_of n) text (cut_of text)
 
--- what says when predictions are shown
+-- the line that says when predictions are shown
 abbrev pub predicting_line : Predicting → List ℕ
 predicting_line Always = codes "predict always"
 predicting_line Adaptive = codes "predict adaptive"
@@ -44,7 +44,7 @@ predicting_line Never = codes "predict never"
 abbrev pub is_pasted : List ℕ → Bool
 is_pasted line = bytes_eq (take 8 line) (codes "paste ; ")
 
--- a line is no word that stands alone
+-- a line is not a word on its own
 pub record IsNoBareWord (line : List ℕ) : Type 0 where
   pub told : line ≢ codes "events"
   pub repaint : line ≢ codes "repaint"

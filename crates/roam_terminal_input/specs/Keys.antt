@@ -9,7 +9,7 @@ abbrev pub in_front : ℕ → List (List ℕ) → List (List ℕ)
 in_front byte [] = (byte ∷ []) ∷ []
 in_front byte (line ∷ lines) = (byte ∷ line) ∷ lines
 
--- the lines of a text: LF ends each, and what follows the last LF is one more where it isn't empty
+-- the lines of a text: LF ends each, and the bytes behind the last LF are one more if there are any
 abbrev pub lines_of : List ℕ → List (List ℕ)
 lines_of [] = []
 lines_of (byte ∷ bytes) = if byte == 0x0A then [] ∷ lines_of bytes else in_front byte (lines_of bytes)

@@ -18,12 +18,12 @@ pub record LinesView : Type 0 where
 abbrev pub nothing_came : LinesView
 nothing_came = record { kept = []; count = 0 }
 
--- what stands first, by the place of the first LF, of so many bytes
+-- the state of the first line, given the place of the first LF and so many bytes
 abbrev pub front_by : Option ℕ → ℕ → Front
 front_by None count = if nat_lt longest_line count then TooLong else Part
 front_by (Some end) count = if nat_lt longest_line end then TooLong else Line end
 
--- what stands first of these bytes
+-- the state of the first line of these bytes
 abbrev pub front_of : List ℕ → Front
 front_of kept = front_by (position (λ byte. byte == 0x0A) kept) (length kept)
 
@@ -31,7 +31,7 @@ front_of kept = front_by (position (λ byte. byte == 0x0A) kept) (length kept)
 abbrev pub ended_all : List (List ℕ) → List ℕ
 ended_all lines = flat_map ended_line lines
 
--- a line stands first of these bytes, and then the rest
+-- these bytes begin with a whole line, and then the rest
 pub record IsFirst (kept line rest : List ℕ) : Type 0 where
   pub front : front_of kept ≡ Line (length line)
   pub line_is : line ≡ take (length line) kept

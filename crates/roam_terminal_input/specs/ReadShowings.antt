@@ -1,4 +1,4 @@
--- How the code reads what is to be shown, step by step. No public clause speaks of it: what reading means is said by the text of Showings.
+-- The steps by which the code reads a wish about the shown part. No public clause cites them: the texts of Showings define reading.
 use Rattle.std.specs.Prelude.{ℕ, List, Option, Some, None}
 use Rattle.roam_tokens.specs.Numbers.{number_in}
 use Rattle.roam_tokens.specs.Words.{first_word}

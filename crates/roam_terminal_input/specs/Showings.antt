@@ -1,4 +1,4 @@
--- What a line of an outer terminal asks to be shown there (this project's profile).
+-- The wish of a line about the part to show on an outer terminal (this project's profile).
 use Rattle.std.specs.Prelude.{ℕ, ◌^◌, ◌≤◌, ◌<◌, List, [], ◌∷◌, ◌++◌, codes, decimal}
 use Rattle.roam_cells.specs.Limits.{IsSize, most_columns, most_rows}
 use Rattle.roam_viewport.specs.declared.parts.Part.{Part}
@@ -33,7 +33,7 @@ pub record HasMaskSize (part : Part) : Type 0 where
   pub some_columns : 1 ≤ part.cols
   pub most_columns : part.cols ≤ most_columns
 
--- what is shown has the size of a screen
+-- the part has the size of a screen
 abbrev pub IsShowing : Showing → Type 0
 IsShowing Whole = Unit {0}
 IsShowing (Exactly part) = IsPlaced part × IsSize part.rows part.cols

@@ -39,8 +39,8 @@ pub record StopsAfter (acts : List Act) (text : List ℕ) : Type 0 where
 abbrev pub line_count : ℕ → ℕ
 line_count lines = min lines (2 ^ 64 - 1)
 
--- After these bytes of a stream the acts of its lines are these: none comes; its whole lines are these acts; at its end its lines are, as a
--- file's would be; or however it goes on, its lines are these acts and then one that is none; or at its end they are.
+-- The acts of a stream's lines after these bytes. No stream: none. Open: its whole lines are these acts. Ended: all its lines are, as of a
+-- file. Spoiled: its lines are these acts and then one that is no act, whatever follows; or so at its end.
 abbrev pub HasCome : Stream → List ℕ → List Act → List ℕ → Type 0
 HasCome Absent log acts begun = (log ≡ []) × (acts ≡ [])
 HasCome Open log acts begun = Came log acts begun
@@ -64,7 +64,7 @@ GoesOn Ended = ⊥
 GoesOn (Spoiled number) = Unit {0}
 GoesOn (SpoiledLast number) = ⊥
 
--- what a stream is at its end
+-- the state of a stream at its end
 abbrev pub last_of : Stream → Stream
 last_of Open = Ended
 last_of (Spoiled number) = SpoiledLast number
@@ -85,7 +85,7 @@ abbrev pub refused_at : Stream → List Act → Option ℕ
 refused_at stream [] = spoiled_at stream
 refused_at stream (act ∷ acts) = None
 
--- ---- what is read of it
+-- ---- reading
 
 -- the most bytes that are read at once
 abbrev pub longest_piece : ℕ
@@ -96,13 +96,13 @@ abbrev pub bytes_given : Result ℕ Error → List ℕ → List ℕ
 bytes_given (Ok n) buf = take n buf
 bytes_given (Err error) buf = []
 
--- A line that was begun is at its end: it is an act, which waits behind the others, and none is begun; or it is none.
+-- The end of a line arrived: the line is an act, which waits behind the others, and a new line begins; or it is no act.
 pub data EndsLine (old new : ActLines) : Type 0 where
   act : (a : Act) → IsLineOf old.begun.items a → new.waiting.items ≡ old.waiting.items ++ a ∷ [] → new.begun.items ≡ []
       → new.count ≡ line_count (old.count + 1) → new.stream ≡ old.stream → EndsLine old new
   none : IsNoAct old.begun.items → new ≡ record old { stream = Spoiled (line_count (old.count + 1)) } → EndsLine old new
 
--- more bytes of it were read: whatever was before, these stand behind
+-- more bytes were read, behind those before
 abbrev pub Reads : ActLines → List ℕ → ActLines → Type 0
 Reads old bytes new =
     (first : List Act) (log : List ℕ) (taken : List Act) → Stands old first log taken → Stands new first (log ++ bytes) taken

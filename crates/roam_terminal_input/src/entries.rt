@@ -1,4 +1,4 @@
-//! What a line of an outer terminal asks for.
+//! The request of a line of an outer terminal.
 ghost use Rattle.std.specs.Prelude.{◌≡◌, ◌≢◌, ◌⊎◌, ◌+◌, ◌<◌, ◌≤◌, ◌++◌, ◌∷◌, [], List, true, length, None, IfErr, IfOk, IsErrOf, IfSome, ◌-◌, MatchResult, OnOk, OnErr, IsTrue, ◌↔◌, codes};
 ghost use Rattle.std.specs.List.{All};
 ghost use Rattle.roam_acts.specs.declared.acts.Act.{Act as ActOf};
@@ -18,7 +18,7 @@ use std::alloc::Global;
 /// How many times a line is cut at most: it has one act more.
 const MOST_CUTS: u8 = 63;
 
-/// What leads a line of acts that were pasted.
+/// The beginning of a line of pasted acts.
 const PASTE: &[u8] = b"paste ; ";
 
 /// How many bytes a separator has.
@@ -30,32 +30,32 @@ pub enum Predicting {
     /// As soon as there is anything to show.
     Always,
 
-    /// Where what is typed takes long to be shown.
+    /// If input takes long to be shown.
     Adaptive,
 
     /// Never.
     Never,
 }
 
-/// What a line of an outer terminal asks for.
+/// The request of a line of an outer terminal.
 #[derive(Drop)]
 pub enum Entry {
     /// These acts are typed, 1 to 64, with nothing between them.
     Acts(Vec<Act>),
 
-    /// These acts are typed likewise, and nothing is predicted of what they show.
+    /// These acts are typed likewise, without predictions.
     Paste(Vec<Act>),
 
-    /// What is told from here on is told in records; the first line alone says so.
+    /// The terminal gets records from now on; only the first line asks for that.
     Events,
 
-    /// What is shown there isn't known any more: all is painted anew.
+    /// The terminal's screen isn't known any more: it is painted anew.
     Repaint,
 
-    /// None of its acts is taken; the first line alone says so, or the second behind `told`.
+    /// The terminal is read-only: none of its acts is taken. Only the first line asks for that, or the second behind `events`.
     Watch,
 
-    /// What its keys are predicted to show is shown from now on, or isn't any more.
+    /// Predictions of its keys are shown from now on, or aren't any more.
     Prediction(Predicting),
 
     /// The screen is asked for, cell by cell.
@@ -64,14 +64,14 @@ pub enum Entry {
     /// The same, with the style of each cell.
     LookStyled,
 
-    /// What of the screen is shown there.
+    /// The part of the screen to show.
     Show(Showing),
 
     /// The client start ends.
     End,
 }
 
-// Whether ` ; ` stands first.
+// Returns true if the text begins with ` ; `.
 fn begins_separator(text: &[u8]) -> bool
     ensures begins { result ≡ begins_separator text.now }
     ensures within { result ≡ true → 3 ≤ length text.now }
@@ -79,7 +79,7 @@ fn begins_separator(text: &[u8]) -> bool
     text.len() >= SEPARATOR && text[0] == b' ' && text[1] == b';' && text[2] == b' '
 }
 
-// Where ` ; ` stands first.
+// Returns the place of the first ` ; `.
 fn cut_of(text: &[u8]) -> Option<usize>
     ensures cut { result ≡ cut_of text.now }
     ensures within { IfSome result (λ at. at + 3 ≤ length text.now) }
@@ -92,7 +92,7 @@ fn cut_of(text: &[u8]) -> Option<usize>
     None
 }
 
-// The first part of a text that is cut so many times at most, and what follows its separator, where there is one.
+// Returns the first part of a text with at most so many cuts, and the text behind its separator, if there is one.
 fn first_part(text: &[u8], cuts: u8) -> (&[u8], Option<&[u8]>)
     ensures some { IfSome result.1 (λ rest. (0 < cuts) × (parts_of cuts text.now ≡ result.0.now ∷ parts_of (cuts - 1) rest.now)) }
     ensures none { result.1 ≡ None → parts_of cuts text.now ≡ result.0.now ∷ [] }
@@ -106,7 +106,7 @@ fn first_part(text: &[u8], cuts: u8) -> (&[u8], Option<&[u8]>)
     }
 }
 
-// Adds the act that a text spells. `BadAct` where it spells none, `OutOfMemory`.
+// Appends the act of a text. `BadAct` if it spells none, `OutOfMemory`.
 fn push_act(acts: &mut Vec<Act>, text: &[u8]) -> Result<(), Fault>
     ensures found { OnOk result ((act : ActOf) × IsLineOf text.now act × IsInRange act × (acts.new.items ≡ acts.old.items ++ act ∷ [])) }
     ensures only { (act : ActOf) → IsLineOf text.now act
@@ -118,7 +118,7 @@ fn push_act(acts: &mut Vec<Act>, text: &[u8]) -> Result<(), Fault>
     Ok(())
 }
 
-// Adds the acts of a text that is cut so many times at most. `BadAct` where a part spells none, `OutOfMemory`.
+// Appends the acts of a text with at most so many cuts. `BadAct` if a part spells none, `OutOfMemory`.
 fn push_acts(acts: &mut Vec<Act>, text: &[u8], cuts: u8) -> Result<(), Fault>
     ensures found { OnOk result ((more : List ActOf) × AreLinesOf (parts_of cuts text.now) more × All IsInRange more
         × (acts.new.items ≡ acts.old.items ++ more)) }
@@ -134,7 +134,7 @@ fn push_acts(acts: &mut Vec<Act>, text: &[u8], cuts: u8) -> Result<(), Fault>
     }
 }
 
-// When predictions are to be shown, where a line says so.
+// Returns when to show predictions, if a line says so.
 fn read_predicting(line: &[u8]) -> Option<Predicting>
     ensures found { IfSome result (λ predicting. line.now ≡ predicting_line predicting) }
     ensures none { result ≡ None → (predicting : PredictingOf) → line.now ≢ predicting_line predicting }
@@ -151,7 +151,7 @@ fn read_predicting(line: &[u8]) -> Option<Predicting>
     None
 }
 
-// What a line asks for that is one word, or one of the two for a screen.
+// Returns the request of a line with one word, or with one of the two about a screen.
 fn read_word(line: &[u8]) -> Option<Entry>
     ensures found { IfSome result (λ entry. Says line.now entry × (acts_in entry ≡ [])) }
     ensures none { result ≡ None → IsNoBareWord line.now }
@@ -177,7 +177,7 @@ fn read_word(line: &[u8]) -> Option<Entry>
     None
 }
 
-// Whether `paste ; ` leads a line.
+// Returns true if a line begins with `paste ; `.
 fn is_pasted(line: &[u8]) -> bool
     ensures pasted { result ≡ is_pasted line.now }
     ensures within { result ≡ true → 8 ≤ length line.now }
@@ -197,11 +197,11 @@ fn read_acts(alloc: Global, line: &[u8]) -> Result<Vec<Act>, Fault>
     Ok(acts)
 }
 
-/// What a line without its end asks for. `BadAct` where it asks for nothing, `OutOfMemory`.
+/// Returns the request of a line without its end. `BadAct` if there is none, `OutOfMemory`.
 pub fn read_entry(alloc: Global, line: &[u8]) -> Result<Entry, Fault>
-    // What is read is said so.
+    // The result has this line.
     ensures found { IfOk result (λ entry. Says line.now entry) }
-    // What is said so is read.
+    // A request with this line is the result.
     ensures only { (entry : EntryOf) → Says line.now entry → MatchResult result (λ e. Says line.now e) (λ f. f ≡ Fault.OutOfMemory) }
     ensures in_range { IfOk result (λ entry. All IsInRange (acts_in entry)) }
     // Memory is refused for acts alone.

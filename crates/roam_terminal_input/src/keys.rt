@@ -41,10 +41,10 @@ fn push(acts: &mut Vec<Act>, act: Act) -> Result<(), Fault>
 /// The acts of a text, one a line, each line ended by LF but maybe the last. `Act` with the number of the first line, from 1, that is no
 /// act, an empty one too; `OutOfMemory`.
 pub fn acts_of(alloc: Global, text: &[u8]) -> Result<Vec<Act>, RunFault>
-    // What is read has these lines.
+    // The acts that are read have these lines.
     ensures found { IfOk result (λ acts. AreLinesOf (lines_of text.now) acts.items) }
     ensures in_range { IfOk result (λ acts. All IsInRange acts.items) }
-    // What has these lines is read.
+    // Acts with these lines are read.
     ensures only { (all : List ActOf) → AreLinesOf (lines_of text.now) all
         → MatchResult result (λ acts. acts.items ≡ all) (λ fault. fault ≡ RunFault.Core Fault.OutOfMemory) }
     ensures faults { IfErr result (λ fault. (fault ≡ RunFault.Core Fault.OutOfMemory)

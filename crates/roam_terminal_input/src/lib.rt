@@ -1,4 +1,4 @@
-//! What types: the acts of a file, those that come over a stream while a start runs, and the lines of an outer terminal.
+//! Typed input: the acts of a file, the acts of a stream while a start runs, and the lines of an outer terminal.
 #![tactic(auto)]
 
 mod entries;

@@ -10,7 +10,7 @@ use std::marker::Model;
 /// The most bytes of a line without its end: `paste ; `, 64 acts of 14 bytes, as `size 9999 9999`, and 63 times the 3 bytes between two.
 pub const LONGEST_LINE: usize = 1093;
 
-/// What stands first of what came and isn't taken yet.
+/// The state of the first line that isn't taken yet.
 #[derive(Clone, Copy, Debug, PartialEq, Eq)]
 pub enum Front {
     /// A line of so many bytes, and its end.
@@ -45,7 +45,7 @@ fn end_in(kept: &[u8]) -> Option<usize>
     kept.iter().position(|byte| *byte == b'\n')
 }
 
-// What stands first, by the place of the first LF, of so many bytes.
+// Returns the state of the first line, given the place of the first LF and so many bytes.
 fn front_by(end: Option<usize>, count: usize) -> Front
     ensures front { result ≡ front_by end count }
 {
@@ -83,14 +83,14 @@ impl Lines {
         self.count
     }
 
-    /// What stands first. It takes no memory.
+    /// Returns the state of the first line. It takes no memory.
     pub fn front(&self) -> Front
         ensures front { result ≡ front_of self.now.kept }
     {
         front_by(end_in(self.kept.as_slice()), self.kept.len())
     }
 
-    /// The line that stands first, without its end, where one does whole. It takes no memory.
+    /// Returns the first line without its end, if it is whole. It takes no memory.
     pub fn first(&self) -> Option<&[u8]>
         ensures first { IfSome result (λ line. IsFirst self.now.kept line.now (drop (length line.now + 1) self.now.kept)) }
         ensures none { result ≡ None → (line rest : List ℕ) → IsFirst self.now.kept line rest → ⊥ }
@@ -111,7 +111,7 @@ impl Lines {
         Ok(())
     }
 
-    /// The line that stands first is taken, where one does whole. It takes no memory.
+    /// Removes the first line, if it is whole. It takes no memory.
     pub fn took(&mut self)
         ensures took { (line rest : List ℕ) → IsFirst self.old.kept line rest → self.new.kept ≡ rest }
         ensures none { ((line rest : List ℕ) → IsFirst self.old.kept line rest → ⊥) → self.new ≡ self.old }

@@ -1,4 +1,4 @@
-//! What a line of an outer terminal asks to be shown there.
+//! The wish of a line about the part to show on an outer terminal.
 ghost use Rattle.std.specs.Prelude.{◌≡◌, ◌++◌, ◌∷◌, ◌≢◌, None, Some, IfSome, IsTrue, ◌↔◌, codes};
 ghost use Rattle.roam_terminal_input.specs.ReadShowings.{pair_in, pair_of, part_in, short_in};
 ghost use Rattle.roam_terminal_input.specs.Showings.{HasMaskSize, IsShowing, showing_text};
@@ -8,7 +8,7 @@ use roam_cells::limits::{MOST_COLUMNS, MOST_ROWS, is_size};
 use roam_tokens::{first_word, number};
 use roam_viewport::Part;
 
-/// What an outer terminal is to show.
+/// The part to show on an outer terminal.
 #[derive(Clone, Copy, Debug, PartialEq, Eq)]
 pub enum Showing {
     /// The whole screen.
@@ -65,14 +65,14 @@ fn part(text: &[u8]) -> Option<Part>
     })
 }
 
-// Whether a part has some rows and columns, and no more than a screen.
+// Returns true if a part has at least a row and a column, and no more than a screen.
 fn is_mask(part: Part) -> bool
     ensures mask { IsTrue result ↔ HasMaskSize part }
 {
     1 <= part.rows && part.rows <= MOST_ROWS && 1 <= part.cols && part.cols <= MOST_COLUMNS
 }
 
-// What stands behind `part `: a part, or how many rows and columns are shown with the cursor.
+// Reads the text behind `part `: a part, or the rows and columns that follow the cursor.
 fn behind_part(text: &[u8]) -> Option<Showing>
     ensures found { IfSome result (λ showing. IsShowing showing × (codes "part " ++ text.now ≡ showing_text showing)) }
     ensures only { (showing : ShowingOf) → IsShowing showing → codes "part " ++ text.now ≡ showing_text showing → result ≡ Some showing }
@@ -90,7 +90,7 @@ fn behind_part(text: &[u8]) -> Option<Showing>
     Some(Showing::Following(rows, cols))
 }
 
-// What stands behind `mask `.
+// Reads the text behind `mask `.
 fn behind_mask(text: &[u8]) -> Option<Showing>
     ensures found { IfSome result (λ showing. IsShowing showing × (codes "mask " ++ text.now ≡ showing_text showing)) }
     ensures only { (showing : ShowingOf) → IsShowing showing → codes "mask " ++ text.now ≡ showing_text showing → result ≡ Some showing }
@@ -102,13 +102,13 @@ fn behind_mask(text: &[u8]) -> Option<Showing>
     Some(Showing::Mask(part))
 }
 
-/// What a line asks to be shown, without its LF: `whole`; `part ROW COL ROWS COLS`, a part of the screen from a row and a column on, both
-/// from 0; `part ROWS COLS`, so many with the cursor; `mask ROW COL ROWS COLS`, cells of the terminal that are left as they are; `unmask`.
-/// A part has 2 to 200 rows of 4 to 500 columns, a mask 1 to 200 and 1 to 500; a line that is something else asks for nothing.
+/// Returns the wish of a line, without its LF. `whole`; `part ROW COL ROWS COLS`, a part of the screen from a row and a column on, both
+/// from 0; `part ROWS COLS`, a part that follows the cursor; `mask ROW COL ROWS COLS`, cells of the terminal that stay unpainted; `unmask`.
+/// A part has 2 to 200 rows of 4 to 500 columns, a mask 1 to 200 and 1 to 500. `None` for any other line.
 pub fn read_showing(line: &[u8]) -> Option<Showing>
-    // What is read has this text.
+    // The result has this text.
     ensures found { IfSome result (λ showing. IsShowing showing × (line.now ≡ showing_text showing)) }
-    // What has this text is read.
+    // A wish with this text is the result.
     ensures only { (showing : ShowingOf) → IsShowing showing → line.now ≡ showing_text showing → result ≡ Some showing }
 {
     if line == b"whole".as_slice() {

@@ -34,7 +34,7 @@ pub enum Stream {
     /// It is at its end, and each of its lines is an act.
     Ended,
 
-    /// The line of this number, from 1, is no act, however it goes on; what follows it is let go.
+    /// The line of this number, from 1, is no act, whatever follows; later bytes are dropped.
     Spoiled(u64),
 
     /// The last line, of this number, from 1, has no end and is no act.
@@ -84,7 +84,7 @@ impl ActLines {
         }
     }
 
-    // Whether more may come.
+    // Returns true if more bytes may arrive.
     fn is_open(&self) -> bool
         ensures open { IsTrue result ↔ (self.now.stream ≡ Stream.Open) }
     {
@@ -109,7 +109,7 @@ impl ActLines {
         Ok(())
     }
 
-    // One more byte came. A line that is too long for any act isn't gathered to its end, and what follows a line that is no act is let go.
+    // Adds one byte. A line too long for any act isn't kept to its end, and the bytes behind a line that is no act are dropped.
     fn take_byte(&mut self, byte: u8) -> Result<(), Fault>
         requires goes { GoesOn self.old.stream }
         ensures reads { OnOk result (ReadsOn self.old (byte ∷ []) self.new) }
@@ -182,7 +182,7 @@ impl ActLines {
     }
 }
 
-// What a stream is that is at its end.
+// Returns the state of a stream at its end.
 fn last_of(stream: Stream) -> Stream
     ensures last { result ≡ last_of stream }
 {
@@ -229,9 +229,9 @@ impl<R: Read> Typist<R> {
         }
     }
 
-    /// Reads one piece of the stream, at most 1,024 bytes, where no act waits; else, and where the stream is at its end or a line of it is
-    /// no act, nothing. A reader that fails is at its end, but where it is `WouldBlock` or `Interrupted`. `OutOfMemory`; then what stands
-    /// of the stream isn't told.
+    /// Reads one piece of the stream, at most 1,024 bytes, if no act waits. It reads nothing at the stream's end, or after a line that is
+    /// no act. A reader that fails is at its end, except after `WouldBlock` or `Interrupted`. `OutOfMemory`; the state of the stream is
+    /// unspecified then.
     pub fn read_more(&mut self) -> Result<(), Fault>
         ensures reads { OnOk result ((bytes : List ℕ) × (length bytes ≤ longest_piece)
             × Consumes (R.remaining self.old.reader) (R.remaining self.new.reader) bytes × Reads self.old.lines bytes self.new.lines) }
@@ -248,7 +248,7 @@ impl<R: Read> Typist<R> {
         self.lines.hear(&answer, &piece)
     }
 
-    /// The act that is to be taken next, where one waits.
+    /// Returns the next act, if one waits.
     pub fn next(&self) -> Option<&Act>
         ensures next { (act : ActOf) → option_copied result ≡ Some act → (rest : List ActOf) × (self.now.lines.waiting.items ≡ act ∷ rest) }
         ensures none { option_copied result ≡ None → self.now.lines.waiting.items ≡ [] }
@@ -265,7 +265,7 @@ impl<R: Read> Typist<R> {
         let _taken = self.lines.waiting.pop_front();
     }
 
-    /// Whether the stream is at its end and each of its lines was an act; some of them may wait.
+    /// Returns true if the stream has ended and each of its lines was an act; some of them may wait.
     pub fn has_ended(&self) -> bool
         ensures ended { IsTrue result ↔ (self.now.lines.stream ≡ Stream.Ended) }
     {

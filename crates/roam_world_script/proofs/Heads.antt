@@ -1,4 +1,4 @@
--- A line's head tells its kind.
+-- The head of a line gives its kind.
 use Rattle.std.proofs.Common.{◌≡◌, ℕ, Bool, true, false, cond, List, [], ◌∷◌, Option, Some, None, ◌⊎◌, inl, inr, refl, sym, ap, subst, ◌∙◌, ◌++◌, ◌≤◌, length, drop, arith}
 use Rattle.std.proofs.Math.Seq.{drop-append_seam}
 use Rattle.std.specs.List.{find, starts_with}
@@ -24,7 +24,7 @@ chosen : {X : Type 0} (b : Bool) (y x : X) (r : Option X) → cond b (Some y) r 
 chosen true y x r e = inl (refl, cc)
 chosen false y x r e = inr e
 
--- what was found passes
+-- an element that a search found passes its test
 found : {X : Type 0} (p : X → Bool) (xs : List X) (x : X) → find p xs ≡ Some x → p x ≡ true
 found p [] x e = absurd cc
 found p (y ∷ ys) x e = elim (chosen (p y) y x (find p ys) e) [
@@ -52,7 +52,7 @@ head_found line k e =
     let passes = found (λ x. starts_with nat_eq line (head_of x)) kinds k e in
     (starts_is Decides-eqb line (head_of k) (starts_with nat_eq line (head_of k)) refl).0 passes
 
--- a line of whose kind a fault tells begins as one of a pane's bytes does
+-- a line whose kind has an error of its own begins like a line of pane bytes
 pub begins_pane : (line : List ℕ) (k : Kind) → headed_in kinds line ≡ Some k → k ≡ kind.PaneBytes → BeginsPane line
 begins_pane line k e is = (_, head_found line kind.PaneBytes (e ∙ ap Some is))
 
@@ -67,7 +67,7 @@ said line l s =
     let behind : drop (length head) line ≡ s.0 = ap (drop (length head)) s.1 ∙ drop-append_seam head s.0 in
     (ap (headed_in kinds) s.1 ∙ headed_again (kind_of l) s.0, subst (IsArgument l) (sym behind) s.2)
 
--- a line of a kind that is read tells what stands behind its head
+-- a line of a known kind is given by the text behind its head
 tells : (line : List ℕ) (k : Kind) (l : LineValue) → headed_in kinds line ≡ Some k → IsLine l → Says line l
     → IsLineWith k (drop (length (head_of k)) line) l
 tells line k l e is s =

@@ -1,4 +1,4 @@
--- What follows a line's head is read as the line that it says, and as no other.
+-- The text behind a line's head is read as the line that it means, and as no other.
 use Rattle.std.proofs.Common.{◌≡◌, ℕ, Bool, true, false, cond, eqb, inl, inr, ◌⊎◌, ◌<◌, ◌≤◌, ◌^◌, List, [], ◌∷◌, ◌++◌, Option, Some, None, refl, sym, ap, subst, ◌∙◌, arith, lit≤}
 use Rattle.std.specs.Fmt.{decimal}
 use Rattle.std.specs.Option.{option_map}
@@ -47,7 +47,7 @@ short_again n lt = number_again 65535 n (omega (arith, lt)) (omega (arith, lt))
 long_again : (n : ℕ) → n < 2 ^ 64 → long_in (decimal n) ≡ Some n
 long_again n lt = number_again 18446744073709551615 n (omega (arith, lt)) lt
 
--- ---- what is said is read
+-- ---- a line with a meaning is read
 
 -- kinds that take neither bytes nor an act
 abbrev pub IsPlain : Kind → Type 0
@@ -113,7 +113,7 @@ plain_again (Show slot) text plain is h = ap (plain_in kind.Show) h ∙ ap (opti
 plain_again Face text plain is h = ap (plain_in kind.Face) h
 plain_again (Output pane) text plain is h = ap (plain_in kind.Output) h ∙ ap (option_map Output) (byte_again pane is)
 
--- ---- what is read is said
+-- ---- a line that is read has the meaning
 
 moved : (k : Kind) (text : List ℕ) (a b : LineValue) → a ≡ b → IsLineWith k text a → IsLineWith k text b
 moved k text a b e t = subst (IsLineWith k text) e t
@@ -344,7 +344,7 @@ pane_bytes_found text p e =
 
 -- ---- acts
 
--- where an act's line begins
+-- the beginning of an act's line
 pub record IsTyped (text : List ℕ) (slot : ℕ) (act : Act) : Type 0 where
   pub words : List ℕ
   pub is : first_word text ≡ Some (decimal slot, words)
@@ -411,7 +411,7 @@ typed_found text p slot act e s is spells =
       argument = (p.1, spells, word_found text p e ∙ ap (λ (w : List ℕ). w ++ 0x20 ∷ p.1) n.text_is);
     }
 
--- ---- a text tells one line
+-- ---- a text means one line
 
 -- an act's line spells one act
 abbrev pub OneAct : Type 0

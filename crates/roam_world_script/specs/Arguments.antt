@@ -1,4 +1,4 @@
--- What a function answers that reads what follows a line's head. No public clause speaks of it.
+-- The result of a function that reads the text behind a line's head. No public clause cites it.
 use Rattle.std.specs.Prelude.{◌≡◌, ◌⊎◌, ℕ, List, Result, MatchResult}
 use Rattle.roam_world_script.specs.declared.kinds.Kind.{Kind}
 use Rattle.roam_world_script.specs.declared.lines.Line.{Line}

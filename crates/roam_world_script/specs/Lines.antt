@@ -1,4 +1,4 @@
--- The lines of a script as text (this project's profile). Words stand one space apart; decimals have no plus and no leading zero.
+-- The lines of a script as text (this project's profile). One space separates words; decimals have no plus and no leading zero.
 use Rattle.std.specs.Prelude.{◌≡◌, ◌⊎◌, ℕ, ◌<◌, List, [], ◌∷◌, ◌++◌, length, decimal, Ok}
 use Rattle.hex.specs.Hex.{decode_of}
 use Rattle.roam_acts.specs.Lines.{Spells as SpellsAct}
@@ -12,7 +12,7 @@ use Rattle.roam_world_script.specs.Values.{LineValue, Session, Start, Watch, Pan
 use Rattle.roam_world_script.specs.Kinds.{head_of, kind_of}
 use Rattle.roam_world_script.specs.declared.kinds.Kind.TheVariants.{PaneBytes as PaneBytesKind}
 
--- what a line of the code says, as the definitions name it
+-- the value of a line of the code
 abbrev pub value_of : Line → LineValue
 value_of (line.Session id rows cols) = Session id rows cols
 value_of (line.Start slot id version) = Start slot id version
@@ -38,7 +38,7 @@ abbrev pub IsStart : ℕ → Version → List ℕ → Type 0
 IsStart id version text =
     (word : List ℕ) × IsId word id × (((version ≡ One) × (text ≡ word)) ⊎ (text ≡ word ++ 0x20 ∷ decimal (number_of_version version)))
 
--- what may stand after the head of a line
+-- the text allowed behind the head of a line
 abbrev pub IsArgument : LineValue → List ℕ → Type 0
 IsArgument (Session id rows cols) text = (word : List ℕ) × IsId word id × (text ≡ word ++ 0x20 ∷ (decimal rows ++ 0x20 ∷ decimal cols))
 IsArgument (Start slot id version) text = (rest : List ℕ) × IsStart id version rest × (text ≡ decimal slot ++ 0x20 ∷ rest)
@@ -54,7 +54,7 @@ IsArgument (Show slot) text = text ≡ decimal slot
 IsArgument Face text = text ≡ []
 IsArgument (Output pane) text = text ≡ decimal pane
 
--- a line says this: its head, and what may stand after it
+-- the meaning of a line: its head, and a text allowed behind it
 abbrev pub Says : List ℕ → LineValue → Type 0
 Says line l = (text : List ℕ) × (line ≡ head_of (kind_of l) ++ text) × IsArgument l text
 

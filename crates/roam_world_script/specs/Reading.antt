@@ -1,4 +1,4 @@
--- How the code reads lines, step by step. No public clause speaks of it: what reading means is said by the grammar of Lines.
+-- The steps by which the code reads lines. No public clause cites them: the grammar of Lines defines reading.
 use Rattle.std.specs.Prelude.{ℕ, ◌+◌, ◌==◌, List, [], ◌∷◌, take, drop, Option, Some, None, option_and_then}
 use Rattle.std.specs.Option.{option_map}
 use Rattle.std.specs.Result.{result_ok}
@@ -23,7 +23,7 @@ pair_of None b = None
 pair_of (Some a) None = None
 pair_of (Some a) (Some b) = Some (a, b)
 
--- what the first word is read as, and what the rest is
+-- the readings of the first word and of the rest
 abbrev pub each_of : {A B : Type 0} → (List ℕ → Option A) → (List ℕ → Option B) → Option (List ℕ × List ℕ) → Option (A × B)
 each_of first rest None = None
 each_of first rest (Some words) = pair_of (first words.0) (rest words.1)
@@ -47,7 +47,7 @@ long_in text = number_in 18446744073709551615 text
 abbrev pub version_in : List ℕ → Option Version
 version_in text = option_and_then version_numbered (byte_in text)
 
--- an id, and a version behind the first space; the first version where there is none
+-- an id, and a version behind the first space; the first version without one
 abbrev pub start_at : List ℕ → Option (List ℕ × List ℕ) → Option (ℕ × Version)
 start_at text None = option_map (λ id. (id, One)) (id_in text)
 start_at text (Some words) = pair_of (id_in words.0) (version_in words.1)
@@ -55,7 +55,7 @@ start_at text (Some words) = pair_of (id_in words.0) (version_in words.1)
 abbrev pub start_in : List ℕ → Option (ℕ × Version)
 start_in text = start_at text (first_word text)
 
--- nothing more is to be told
+-- no more text follows
 abbrev pub face_in : List ℕ → Option LineValue
 face_in [] = Some Face
 face_in (_ ∷ _) = None

@@ -1,4 +1,4 @@
--- What a line of a script says (this project's profile).
+-- The value of a line of a script (this project's profile).
 use Rattle.std.specs.Prelude.{ℕ, ◌<◌, ◌^◌, List}
 use Rattle.roam_acts.specs.declared.acts.Act.{Act}
 use Rattle.roam_acts.specs.Acts.{IsAct}

@@ -1,4 +1,4 @@
-//! What holds of the lines of a script, whatever was read.
+//! The laws of the lines of a script.
 ghost use Rattle.std.specs.Prelude.{◌≡◌, ℕ, List};
 ghost use Rattle.roam_world_script.specs.Values.{LineValue, IsLine};
 ghost use Rattle.roam_world_script.specs.Lines.{Says};

@@ -17,7 +17,7 @@ use roam_wire::Version;
 use std::alloc::Global;
 use thiserror::Error;
 
-/// What a line of a script says. Slots are 0 to 7, moments are milliseconds, datagrams are numbered from 1.
+/// The value of a line of a script. Slots are 0 to 7, moments are milliseconds, datagrams are numbered from 1.
 #[derive(Debug, Drop)]
 pub enum Line {
     /// A session begins: its id, rows and columns.
@@ -60,7 +60,7 @@ pub enum Line {
     Output(u8),
 }
 
-/// Why a line can't be read.
+/// The reason for which a line can't be read.
 #[derive(Clone, Copy, Debug, PartialEq, Eq, Error)]
 pub enum LineFault {
     /// The line is no event of a script.
@@ -72,7 +72,7 @@ pub enum LineFault {
     OutOfMemory,
 }
 
-/// Whether a line is empty or begins with `#`, so that it is no event.
+/// Returns true if a line is empty or begins with `#`, so that it is no event.
 pub fn is_skipped(line: &[u8]) -> bool
     ensures skipped { result ≡ is_skipped line.now }
 {
@@ -92,7 +92,7 @@ fn session(text: &[u8]) -> Option<Line>
     Some(Line::Session(id, short(rows)?, short(cols)?))
 }
 
-// The version that a text tells.
+// Returns the version of a text.
 fn version(text: &[u8]) -> Option<Version>
     ensures version { result ≡ version_in text.now }
 {
@@ -103,7 +103,7 @@ fn version(text: &[u8]) -> Option<Version>
     }
 }
 
-// The id and the version of a client's start, the first where none is told.
+// Returns the id and the version of a client's start, the first version by default.
 fn started(text: &[u8]) -> Option<(u64, Version)>
     ensures started { result ≡ start_in text.now }
 {
@@ -256,12 +256,12 @@ fn argument(alloc: Global, kind: Kind, text: &[u8]) -> Result<Line, LineFault>
     }
 }
 
-/// What a line without its end says. `BadEvent` where it says nothing: an unknown word, a number outside its range, a bad act among them;
-/// `OutOfMemory`, for a pane's bytes alone.
+/// Returns the value of a line without its end. `BadEvent` for a line without meaning: an unknown word, a number outside its range, a bad
+/// act; `OutOfMemory`, only for pane bytes.
 pub fn read_line(alloc: Global, line: &[u8]) -> Result<Line, LineFault>
-    // What is read is said so.
+    // The result has this line.
     ensures found { IfOk result (λ l. IsLine (value_of l) × Says line.now (value_of l)) }
-    // What is said so is read.
+    // A value with this line is the result.
     ensures only { (l : LineValue) → IsLine l → Says line.now l
         → MatchResult result (λ r. value_of r ≡ l) (λ e. e ≡ LineFault.OutOfMemory) }
     // Memory is wanted for a pane's bytes alone.
