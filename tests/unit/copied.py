@@ -1,8 +1,9 @@
 """What copy mode is tried with beside tmux's: a text, keys by name with emacs' and vi's table, and what is copied by them here."""
 from modes_played import copy_keys
+from roam_live.common.cell_widths import width_of
 from roam_live.frontend.copymode.actions import COPY, LEAVE
 from roam_live.frontend.copymode.mode import CopyMode
-from roam_live.frontend.copymode.rows import Rows, width_of
+from roam_live.frontend.copymode.rows import Rows
 
 # Paragraphs, rows that go on, separators, brackets, blanks at the beginning and the end, wide and joined characters.
 TEXT = "".join(f"{line}\n" for line in (

@@ -9,6 +9,7 @@ from aids import Case
 from copied import CASES, KNOWN, TEXT, answer_all, copied_by_roam, found_row, mode_of, rows_of, typed
 from emulated import Emulated
 from modes_played import copy_keys
+from roam_live.common.cell_widths import width_of
 from roam_live.config.environment import wants_vi
 from roam_live.frontend.copymode import controller, motions, selection
 from roam_live.frontend.copymode.actions import COPY, LEAVE, REFRESH
@@ -16,7 +17,7 @@ from roam_live.frontend.copymode.keys import EMACS, VI, Count, Prompt
 from roam_live.frontend.copymode.mode import COMMANDS, MOVES, STEPS, CopyMode
 from roam_live.frontend.copymode.render import LinePainter, sgr_of
 from roam_live.frontend.copymode.rows import (MOST_BYTES, MOST_COLS, MOST_JOINED, MOST_ROW_BYTES, ROW_BYTES, Missing, MissingRows, Rows,
-                                              row_of, width_of)
+                                              row_of)
 from roam_live.frontend.copymode.search import MissingFind, matches
 from roam_live.input.keys import Key
 from roam_live.protocol.screen_cells import Style

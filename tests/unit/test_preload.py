@@ -8,7 +8,7 @@ from unittest import mock
 from aids import Case
 from roam_live.common import late_modules
 from roam_live.common.late_modules import LateModules
-from roam_live.frontend import bindings, status_line
+from roam_live.frontend import bindings
 from roam_live.frontend.commands import REPLACED
 from roam_live.frontend.copymode import controller
 from test_app import Fronts
@@ -114,8 +114,3 @@ class Gone(Fronts):
         self.assertEqual((self.front.display.row.told, commands.copying.state.is_on(), len(commands.copying.state.events)),
                          (REPLACED, False, 0))
         self.assertIn(REPLACED.encode(), self.shown())
-
-    def test_width(self):
-        """A row is written without the table of widths."""
-        with mock.patch.dict(sys.modules, {"roam_live.frontend.copymode.rows": None}):
-            self.assertEqual((status_line.columns("a\u00e9"), status_line.fitted("\u4e2d\u4e2d", 3)), (3, "\u4e2d "))

@@ -1,6 +1,7 @@
 """The text of the last row of a person's terminal, cut to its columns: the panes' labels, the windows, and what stands at its end."""
 from __future__ import annotations
 
+from roam_live.common.cell_widths import width_of
 from roam_live.common.text import printable
 from roam_live.config.styled_text import Styled
 
@@ -18,22 +19,9 @@ ALL_PANES = "keys go to all panes of this window"
 MOST_LETTERS = 4
 
 
-def columns_of(letter: str) -> int:
-    """How many columns a printable character takes."""
-    if letter.isascii():
-        return 1
-    # Most rows have none of these, and a front end is there sooner without the tables.
-    try:
-        from roam_live.frontend.copymode.rows import width_of
-    except ImportError:
-        # The files of this roam are gone: more columns than it may have, so that the row never overflows.
-        return 2
-    return width_of(letter)
-
-
 def columns(text: str) -> int:
     """How many columns a printable text takes."""
-    return len(text) if text.isascii() else sum(map(columns_of, text))
+    return len(text) if text.isascii() else sum(map(width_of, text))
 
 
 def cut(text: str, width: int) -> str:
@@ -43,7 +31,7 @@ def cut(text: str, width: int) -> str:
         return text[: max(width, 0)]
     used = 0
     for place, letter in enumerate(text):
-        used += columns_of(letter)
+        used += width_of(letter)
         if used > width:
             return text[:place]
     return text

@@ -5,8 +5,9 @@ from __future__ import annotations
 import functools
 import itertools
 
+from roam_live.common.cell_widths import width_of
 from roam_live.frontend.copymode.mode import CopyMode
-from roam_live.frontend.copymode.rows import LEAST_COLS, Line, Missing, ScrollbackRow, width_of
+from roam_live.frontend.copymode.rows import LEAST_COLS, Line, Missing, ScrollbackRow
 from roam_live.frontend.copymode.search import Match, matches
 from roam_live.frontend.copymode.state import CopyState
 from roam_live.frontend.popup import Popup

@@ -5,6 +5,7 @@ import unicodedata
 from collections import OrderedDict, namedtuple
 from collections.abc import Iterable
 
+from roam_live.common.cell_widths import width_of
 from roam_live.protocol.screen_cells import Style, styled
 
 # A row by its number, and a column from 0; and a line: a row, and which of the lines that it takes.
@@ -24,9 +25,6 @@ MOST_LEFT_OUT = 8
 # What no terminal is written, nor a buffer: controls, and the directions of writing. A joiner of other characters is none of those.
 UNSEEN = {"Cf", "Cc", "Cs", "Zl", "Zp"}
 JOINERS = "\u200c\u200d"
-
-# Hangul's medial vowels and final consonants join the consonant before them.
-HANGUL_JOINS = range(0x1160, 0x1200)
 
 # A line has so many columns at least, so that a wide character has room.
 LEAST_COLS = 2
@@ -76,15 +74,6 @@ class ScrollbackRow(namedtuple("ScrollbackRow", "goes_on letters styles length")
         if begin < end and self.is_right_half(begin):
             begin -= 1
         return "".join(self.letters[begin:end])
-
-
-def width_of(letter: str) -> int:
-    """How many columns a character takes, by Python's Unicode: another version of it than the program's knows other characters."""
-    if letter.isascii():
-        return 1
-    if unicodedata.category(letter) in ("Mn", "Me", "Cf") or ord(letter) in HANGUL_JOINS:
-        return 0
-    return 2 if unicodedata.east_asian_width(letter) in "WF" else 1
 
 
 class RowReader:
