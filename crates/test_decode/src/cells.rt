@@ -8,7 +8,7 @@ use roam_screens::*;
 use std::alloc::{AllocError, Global};
 use std::test::*;
 
-// Lines of cells. `fault` has the text of a refusal; `width` a character, its columns, and what it does (`unicode_width` gives U+17D8 three
+// Lines of cells. `fault` has the text of a refusal; `width` a character, its columns, and its effect (`unicode_width` gives U+17D8 three
 // columns); `cell` code points, and the cell that they make in a style and with a guard, or none.
 const LINES: &str = "\
 fault out of memory
@@ -106,7 +106,7 @@ fn bold() -> Style {
     style
 }
 
-// What kind of cell code points make, if one that keeps them, its style and its guard.
+// Returns the kind of cell of code points, if it keeps them, its style and its guard.
 fn kind_made(points: &[char]) -> Option<&'static str> {
     let Some(cell) = Cell::of(points, bold(), true) else {
         return Some("none");
@@ -265,7 +265,7 @@ static SIZES: [(u16, u16, bool); 8] = [
     (65_535, 65_535, false),
 ];
 
-// Whether a blank screen of a size is made where it fits, and refused where it doesn't.
+// Returns true if a blank screen of a size is made if it fits, and refused if it doesn't.
 fn is_blank_where(alloc: Global, rows: u16, cols: u16, fits: bool) -> bool {
     match Shot::blank(alloc, rows, cols) {
         Ok(shot) => {
@@ -284,7 +284,7 @@ fn sizes_of_a_blank_screen(rt: HostRuntime) {
     }
 }
 
-// The screen of 2 by 8 with these cells, or `None` where they make none.
+// Returns the screen of 2 by 8 with these cells; `None` if they make none.
 fn screen_of(cells: Vec<Cell>) -> Option<Shot>
     ensures cells { IfSome result (λ shot. shot.cells ≡ cells.items) }
 {
@@ -321,7 +321,7 @@ fn has_row(alloc: Global, shot: &Shot, row: u16, wanted: &[char]) -> Result<bool
     Ok(text.as_slice() == wanted)
 }
 
-// Whether the rows are those of the sample.
+// Returns true if the rows are those of the sample.
 fn has_rows(alloc: Global, shot: &Shot) -> Result<bool, Fault> {
     let first = has_row(
         alloc,
@@ -332,7 +332,7 @@ fn has_rows(alloc: Global, shot: &Shot) -> Result<bool, Fault> {
     Ok(first && has_row(alloc, shot, 1, &[' '; 8])?)
 }
 
-// Whether a copy is the same screen, and a blank one isn't.
+// Returns true if a copy is the same screen, and a blank one isn't.
 fn is_copied(alloc: Global, shot: &Shot) -> Result<bool, Fault> {
     let copy = shot.copy(alloc)?;
     Ok(copy.is_same(shot) && !is_blank(alloc, shot)?)
@@ -395,7 +395,7 @@ fn is_the_sample(shot: &Shot) -> bool {
     shot.rows() == 2 && shot.cols() == 8 && placed && bold_a
 }
 
-// Whether all that the sample is asked for is what it has.
+// Returns true if each call on the sample gives its content.
 fn is_told(alloc: Global, shot: &Shot) -> Result<bool, Fault> {
     shot.facts();
     let placed = is_the_sample(shot) && has_places(shot);
@@ -411,7 +411,7 @@ fn a_screen_of_cells_and_others(rt: HostRuntime) {
     assert!(rt; is_wider_blank(alloc) == Ok(false));
 }
 
-// Whether a call answered this, or wanted memory.
+// Returns true if a call had this result, or memory was refused.
 fn is_or_wants(answer: Result<bool, Fault>, wanted: bool) -> bool {
     match answer {
         Ok(answer) => answer == wanted,

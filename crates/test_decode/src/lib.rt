@@ -1,7 +1,7 @@
-//! Tests of what the terminal stands on, by public calls alone: the reader, what stands beside a screen, what bytes mean, the graphic sets,
-//! cells and screens.
+//! Tests of the crates below the terminal, by public calls alone: the reader, metadata, normalized bytes, the graphic sets, cells and
+//! screens.
 //!
-//! They lie here and not beside the code, since a crate with tests is proved twice by the gate.
+//! They have a crate of their own, since the gate proves a crate with tests twice.
 #![tactic(auto)]
 
 #[cfg(test)]

@@ -1,13 +1,13 @@
-//! Worked rows: what bytes say beside a screen, by xterm's list of control sequences and the VT510's DECSCUSR.
+//! Worked rows: the metadata of bytes, by xterm's list of control sequences and the VT510's DECSCUSR.
 use crate::readers::bytes_of;
 use roam_pane_metadata::{Metadata, Query, Settings, Tracking};
 use std::alloc::{AllocError, Global};
 use std::fmt::Write;
 
-/// Rows of a heading, bytes and what is said, with an empty line between them. A character of the bytes is the byte of its code, and `␊`
-/// LF. What is said is told where it isn't what it was at first: `buttons`, `drags` or `motion`, `sgr`, `focus`, `paste`, `other` for the
-/// other screen, `keypad` for its application codes, `keys N`, `shape N`, `bells N`, `title N TEXT`, or `title N taken back` where none stands any more, `clip N TEXT`,
-/// `asked N` and the last sixteen questions.
+/// Rows of a heading, bytes and their metadata, with an empty line between them. A character of the bytes is the byte of its code, and `␊`
+/// is LF. Metadata is listed if it differs from the first: `buttons`, `drags` or `motion`, `sgr`, `focus`, `paste`, `other` for the other
+/// screen, `keypad` for its application codes, `keys N`, `shape N`, `bells N`, `title N TEXT`, or `title N taken back` if none is left,
+/// `clip N TEXT`, `asked N` and the last sixteen questions.
 const ROWS: &str = "\
 nothing is said by text and renditions
 a\x1B[1;31mb\u{E2}\u{82}\u{AC}\x1B[2J\x1B[0m␊\x1B[6n\x1B[:m\x1B(0
@@ -254,7 +254,7 @@ fn push_title(text: &mut String, metadata: &Metadata) -> Result<(), AllocError> 
     Ok(())
 }
 
-// What is told of what stands beside.
+// Returns the metadata as text.
 fn told(alloc: Global, metadata: &Metadata) -> Result<String, AllocError> {
     let mut text = String::new(alloc);
     let settings = metadata.settings();
@@ -271,7 +271,7 @@ fn told(alloc: Global, metadata: &Metadata) -> Result<String, AllocError> {
     Ok(text)
 }
 
-// Whether what is told after pieces that are cut so is wanted.
+// Returns true if the metadata after pieces with this cut is the expected one.
 fn is_told(alloc: Global, bytes: &[u8], cut: usize, wanted: &str) -> bool {
     let mut metadata = Metadata::new(alloc);
     let (front, back) = bytes.split_at(cut.min(bytes.len()));
@@ -298,7 +298,7 @@ fn holds(alloc: Global, block: &str) -> bool {
         && is_told_by_bytes(alloc, &bytes, wanted)
 }
 
-// Feeds a text for the clipboard of so many characters, and tells how many of them are kept.
+// Feeds a clip of so many characters, and returns how many of them are kept.
 fn kept_of(alloc: Global, characters: usize) -> usize {
     let mut metadata = Metadata::new(alloc);
     metadata.feed(b"\x1B]52;c;");

@@ -1,11 +1,11 @@
-//! Worked rows: what bytes mean that this project's profile reads otherwise, by xterm's list of control sequences, ISO 8613-6 and the
+//! Worked rows: the meaning of bytes that this project's profile reads otherwise, by xterm's list of control sequences, ISO 8613-6 and the
 //! VT220.
 use crate::readers::bytes_of;
 use roam_normalize::{Filter, MOST_BODY, MOST_HELD};
 use std::alloc::{AllocError, Global};
 
-/// Rows of a heading, bytes and what goes out for them, with an empty line between them. A character is the byte of its code, `␊` LF, and
-/// `‐` the three bytes of U+2010.
+/// Rows of a heading, bytes and their output, with an empty line between them. A character is the byte of its code, `␊` is LF, and `‐` the
+/// three bytes of U+2010.
 const ROWS: &str = "\
 what has no other meaning goes through
 a\u{C3}\u{A9}\x1B[1;31mb\x1B[m\x1B[?25l\x1B]0;4:3\x07\x1B[>4;2m\x1B[3 q␊
@@ -79,7 +79,7 @@ a control inside a sequence leaves it as it is
 \x1B[4:␊3m\x1B[4:\x1B[4:3m
 \x1B[4:␊3m\x1B[4:\x1B[4m";
 
-// What goes out for some bytes that are cut there.
+// Returns the output for some bytes with a cut there.
 fn normalized(alloc: Global, bytes: &[u8], cut: usize) -> Result<Vec<u8>, AllocError> {
     let mut filter = Filter::new(alloc);
     let (front, back) = bytes.split_at(cut.min(bytes.len()));
@@ -97,7 +97,7 @@ fn normalized_by_bytes(alloc: Global, bytes: &[u8]) -> Result<Vec<u8>, AllocErro
     Ok(out)
 }
 
-// The bytes of a line, in which `‐` stands for those of U+2010.
+// Returns the bytes of a line, with `‐` for those of U+2010.
 fn wanted_of(alloc: Global, line: &str) -> Result<Vec<u8>, AllocError> {
     let mut bytes = Vec::new(alloc);
     for (place, part) in line.split('‐').enumerate() {

@@ -1,12 +1,12 @@
-//! Worked rows: what bytes ask for, by ECMA-48, ECMA-35, the Unicode Standard and this project's profile.
+//! Worked rows: the functions of bytes, by ECMA-48, ECMA-35, the Unicode Standard and this project's profile.
 use roam_text::{Dispatch, Dispatched, Function, Out, Reader};
 use std::alloc::{AllocError, Global};
 use std::fmt::Write;
 
-/// Rows of a heading, bytes and the functions that these ask for, with an empty line between them. A character is the byte of its code,
-/// but `␊` LF, `␍` CR, and `⇕` no byte: there a new size of 3 rows by 8 columns falls. Functions are written with all numbers but
-/// parameters and sizes in hexadecimal: `Print(41)`, `C0(0A)`, `C1(85)`, `Esc(28 30)` for intermediate bytes and final byte,
-/// `Csi(3F 2;4 20 71)` for private marker, parameters, intermediate bytes and final byte, `Size(3 8)`; `-` is none.
+/// Rows of a heading, bytes and their functions, with an empty line between them. A character is the byte of its code, but `␊` is LF, `␍`
+/// is CR, and `⇕` is no byte: a new size of 3 rows by 8 columns comes there. Functions are written with all numbers but parameters and
+/// sizes in hexadecimal: `Print(41)`, `C0(0A)`, `C1(85)`, `Esc(28 30)` for intermediate bytes and final byte, `Csi(3F 2;4 20 71)` for
+/// private marker, parameters, intermediate bytes and final byte, `Size(3 8)`; `-` is none.
 ///
 /// First come graphic characters and controls, then escape sequences, control sequences, control strings, characters of bytes, and sizes
 /// among bytes.
@@ -457,7 +457,7 @@ fn row_of<'a>(alloc: Global, line: &str, functions: &'a str) -> Result<Row<'a>, 
     })
 }
 
-// Reads a row, handed over so, and a size of 3 rows by 8 columns where one falls.
+// Reads a row in this way, with a size of 3 rows by 8 columns if there is one.
 fn read_row(text: &mut String, row: &Row<'_>, way: Way) -> Result<(), AllocError> {
     let mut reader = Reader::new();
     let Some(at) = row.size_after else {
@@ -479,7 +479,7 @@ fn holds_by(alloc: Global, row: &Row<'_>, way: Way) -> bool {
     read_row(&mut text, row, way).is_ok() && are_wanted(text.as_str(), row.functions)
 }
 
-// Whether a row's bytes ask for its functions however they are handed over.
+// Returns true if a row's bytes have its functions, in each way.
 fn is_read(alloc: Global, row: &Row<'_>) -> bool {
     for at in 0..row.bytes.len() {
         if !holds_by(alloc, row, Way::Cut(at)) {
@@ -504,13 +504,13 @@ fn rows_of_the_reader(rt: HostRuntime) {
     }
 }
 
-// What begins something long, a byte that goes on with it a million times, what ends it, and the functions that all ask for.
+// The beginning of a long sequence, a byte that continues it a million times, its end, and the functions of all.
 const LONG: &str = "\
 \x1BP|a|\u{C2}\u{9C}x|Print(78)
 \x1B[|9|m|Csi(9999 6D)
 \x1B[7|;|m|Csi(7;0;0;0;0;0;0;0;0;0;0;0;0;0;0;0 6D)";
 
-// Whether a byte, read a million times, completes nothing.
+// Returns true if a byte, read a million times, completes nothing.
 fn completes_nothing(reader: &mut Reader, byte: u8) -> bool {
     for _ in 0..500_000 {
         if !matches!(reader.dispatch(byte), Dispatched::Nothing)

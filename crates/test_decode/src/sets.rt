@@ -18,7 +18,7 @@ fn maps_special_graphics() -> bool {
         .eq(SPECIAL_GRAPHICS.chars())
 }
 
-// Whether characters outside those codes are themselves.
+// Returns true if characters outside those codes are themselves.
 fn keeps_others() -> bool {
     let below = ('!'..='^').all(|code| Charset::DecSpecialGraphics.map(code) == code);
     let ascii = CODES.chars().all(|code| Charset::Ascii.map(code) == code);
@@ -66,7 +66,7 @@ fn shifts_once() -> bool {
     spent && by_any && sets.map('q') == '\u{2500}' && sets.is_ascii()
 }
 
-// Whether an element has a set of its own, which goes back to ASCII.
+// Returns true if an element has a set of its own, which goes back to ASCII.
 fn is_designated(element: Element) -> bool {
     let mut sets = Sets::new();
     sets.designate(element, Charset::UnitedKingdom);

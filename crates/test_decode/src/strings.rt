@@ -4,8 +4,8 @@ use roam_text::{StringEnd, StringKind, StringReader, StringStep};
 use std::alloc::{AllocError, Global};
 use std::fmt::Write;
 
-/// Rows of a heading, bytes and the strings that count among them, each as its kind, its text between brackets and its end, with an empty
-/// line between them. A character of the bytes is the byte of its code; `-` is no string.
+/// Rows of a heading, bytes and their counted strings, each as its kind, its text between brackets and its end, with an empty line between
+/// them. A character of the bytes is the byte of its code; `-` is no string.
 const ROWS: &str = "\
 an operating system command that BEL ends
 \x1B]0;hi\x07x
@@ -115,7 +115,7 @@ fn holds(alloc: Global, block: &str) -> bool {
     are_wanted(alloc, line, wanted)
 }
 
-// Whether a reader of strings is at rest exactly outside all of them, and between characters.
+// Returns true if a reader of strings is at rest exactly outside all of them, and between characters.
 fn rests() -> bool {
     let mut reader = StringReader::new();
     let mut rested = reader.is_at_rest();

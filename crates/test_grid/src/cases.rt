@@ -1,8 +1,8 @@
-//! What operations leave on a grid, as text: cases with an empty line between them.
+//! The effect of operations on a grid, as text: cases with an empty line between them.
 //!
-//! A case has a name, and then a line as `2 8 mixed: CUP 1 1, ICH 1`: rows, columns, what is done before, and what is done. Then comes
-//! each row, beside what its cells look like (`.` plain, `b` bold, `g` guarded, `B` both; nothing where all are plain), and the cursor,
-//! `pending` where a wrap is.
+//! A case has a name, and then a line as `2 8 mixed: CUP 1 1, ICH 1`: rows, columns, the operations before, and the operations. Then comes
+//! each row with the look of its cells (`.` plain, `b` bold, `g` guarded, `B` both; empty if all are plain), and the cursor, `pending` with
+//! a wrap.
 use crate::operations::{pair, play};
 use crate::trials::{Trial, stands};
 use roam_cells::Cell;
@@ -18,7 +18,7 @@ const TWO: &str = "text a, guard on, text b, guard off, NEL, text c, guard on, t
 
 const FOUR: &str = "text a, NEL, text b, NEL, text c, NEL, text d";
 
-// What is done before a case's own operations: nothing; a row of narrow, wide and joined cells, up to a pending wrap; a wide character in
+// Returns the operations before a case's own: none; a row of narrow, wide and joined cells, up to a pending wrap; a wide character in
 // columns 4 and 5; two rows, guarded in part; four rows.
 fn operations_before(start: &str) -> Option<&'static str> {
     match start {
@@ -31,7 +31,7 @@ fn operations_before(start: &str) -> Option<&'static str> {
     }
 }
 
-/// Whether cells have these characters, and no others.
+/// Returns true if cells have exactly these characters.
 pub fn reads(row: &[Cell], wanted: &str) -> bool {
     let mut rest = wanted.chars();
     for cell in row {
@@ -60,7 +60,7 @@ fn looks(row: &[Cell], wanted: &str) -> bool {
     row.iter().map(|cell| sign_of(cell)).eq(wanted.chars())
 }
 
-// Whether a row is that of a line, `|text|signs|`.
+// Returns true if a row is that of a line, `|text|signs|`.
 fn is_row(cells: &[Cell], line: &str) -> bool {
     let mut parts = line.split('|').skip(1);
     reads(cells, parts.next().unwrap_or("?")) && looks(cells, parts.next().unwrap_or("?"))
@@ -71,7 +71,7 @@ fn is_cursor(grid: &Grid, line: &str) -> bool {
     pair(place.unwrap_or(line)) == Some(grid.cursor()) && grid.pending() == place.is_some()
 }
 
-// Whether the grid has these rows, and then this cursor.
+// Returns true if the grid has these rows, and then this cursor.
 fn shows(grid: &Grid, text: &str) -> bool {
     let mut lines = text.lines();
     for i in 0..grid.rows() {
@@ -82,7 +82,7 @@ fn shows(grid: &Grid, text: &str) -> bool {
     is_cursor(grid, lines.next().unwrap_or("")) && lines.next().is_none()
 }
 
-/// Whether operations, done after those before them, leave what a text shows.
+/// Returns true if operations, done after those before them, lead to the grid of a text.
 pub fn shows_after(
     alloc: Global,
     grid: &mut Grid,
@@ -93,7 +93,7 @@ pub fn shows_after(
     play(alloc, grid, before) && play(alloc, grid, operations) && shows(grid, text)
 }
 
-/// Whether a case holds, on a grid as it is made and on one whose first row was turned.
+/// Returns true if a case is true, on a new grid and on one whose first row was turned.
 pub fn holds(alloc: Global, case: &str) -> bool {
     let (_, rest) = case.split_once('\n').unwrap_or((case, ""));
     let (line, text) = rest.split_once('\n').unwrap_or((rest, ""));

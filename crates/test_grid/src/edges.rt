@@ -1,5 +1,5 @@
 //! Each operation of a grid at the edges, at the margins and outside them, for counts from none to the largest, on rows of narrow, wide and
-//! joined cells in two styles and guards; cells are compared with style and guard.
+//! joined cells in two styles and guards. Cells are compared with style and guard.
 use crate::cases::holds;
 use crate::trials::{Trial, stands};
 use roam_cells::Fault;
@@ -806,7 +806,7 @@ fn operations_at_the_edges(rt: HostRuntime) {
     }
 }
 
-/// Whether of three rows, scrolled up by one five times, the buffer begins with the third.
+/// Returns true if the buffer of three rows, scrolled up by one five times, begins with the third.
 pub fn goes_round_by_fives(grid: &mut Grid) -> bool {
     for _ in 0..5 {
         grid.scroll_up(1);
@@ -822,8 +822,8 @@ fn is_at(grid: &Grid, size: (usize, usize), cursor: (usize, usize)) -> bool {
     (grid.rows(), grid.cols()) == size && grid.cursor() == cursor
 }
 
-/// Whether sizes out of the limits are refused, and another is taken: with the cursor in the last row of four two rows leave at the top,
-/// and its column is pushed into the screen.
+/// Returns true if sizes out of the limits are refused, and another is taken. With the cursor in the last row of four, two rows leave at
+/// the top, and its column is pushed into the screen.
 pub fn takes_or_refuses(alloc: Global, grid: &mut Grid) -> bool {
     grid.move_to(3, 5);
     is_refused(alloc, grid, 1, 8)

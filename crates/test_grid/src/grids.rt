@@ -1,5 +1,4 @@
-//! What is written, moved, erased and scrolled on a grid, as cases of a text, on grids as made and with the first row turned; and how a
-//! grid is made.
+//! Writes, moves, erasures and scrolls on a grid, as cases of a text, on new grids and with the first row turned; and new grids.
 use crate::cases::{holds, reads};
 use crate::operations::{number, play};
 use crate::trials::{Trial, stands};
@@ -228,7 +227,7 @@ fn is_refused(alloc: Global, rows: usize, cols: usize) -> bool {
     matches!(Grid::new(alloc, rows, cols), Err(Fault::BadSize))
 }
 
-/// Whether a new grid is of this size.
+/// Returns true if a new grid is of this size.
 pub fn is_made(grid: &Grid, rows: usize, cols: usize) -> bool {
     (grid.rows(), grid.cols()) == (rows, cols)
         && grid.buffer().len() == rows.saturating_mul(cols)
@@ -288,7 +287,7 @@ fn first_rows(grid: &mut Grid) -> [usize; 3] {
     [up, down, grid.first()]
 }
 
-/// Whether the first row goes round; rows that scroll between margins leave it where it is.
+/// Returns true if the first row moves around the buffer; rows that scroll between margins leave it in place.
 pub fn goes_round(alloc: Global, grid: &mut Grid) -> bool {
     first_rows(grid) == [2, 1, 2]
         && reads(grid.buffer(), "8       9       7       ")
@@ -296,8 +295,8 @@ pub fn goes_round(alloc: Global, grid: &mut Grid) -> bool {
         && grid.first() == 2
 }
 
-// What is done on 2 by 8; the columns of a character that comes next, whether it wraps (DECAWM), and whether a row leaves: in the row above
-// the bottom margin; where one column is left; where two are wanted; without DECAWM; with a wrap pending.
+// The operations on 2 by 8; the columns of the next character, whether it wraps (DECAWM), and whether a row leaves. The cases are the row
+// above the bottom margin, one column left, two columns wanted, no DECAWM, and a pending wrap.
 const LEAVES: &str = "\
 CUP 1 8|2|wraps|stays
 CUP 1 8, CUP 2 7, text a|1|wraps|stays
@@ -305,7 +304,7 @@ CUP 1 8, CUP 2 7, text a|2|wraps|leaves
 CUP 1 8, CUP 2 7, text a|2|stands|stays
 CUP 1 8, CUP 2 7, text a, text b|1|wraps|leaves";
 
-/// Whether a row leaves where a line says so.
+/// Returns true if a row leaves as a line says.
 pub fn leaves_so(alloc: Global, grid: &mut Grid, line: &str) -> bool {
     let (operations, rest) = line.split_once('|').unwrap_or((line, ""));
     let (columns, rest) = rest.split_once('|').unwrap_or((rest, ""));

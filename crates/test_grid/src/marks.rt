@@ -1,7 +1,7 @@
-//! Tests of marks: which rows each call marks.
+//! Tests of marks: the rows that each call marks.
 //!
-//! A line has a name; what is done to a grid of 5 rows and 8 columns before its marks are cleared, and after; and the rows, from 1, that
-//! are marked then.
+//! A line has a name; the operations on a grid of 5 rows and 8 columns before its marks are cleared, and after; and the marked rows, from
+//! 1.
 use crate::operations::{number, play};
 use crate::trials::{Trial, stands};
 use roam_grid::Grid;
@@ -87,7 +87,7 @@ fn marks_are(grid: &Grid, marked: &str) -> bool {
     true
 }
 
-/// Whether operations mark these rows, done after those before them.
+/// Returns true if operations mark these rows, done after those before them.
 pub fn marks_so(
     alloc: Global,
     grid: &mut Grid,
@@ -100,7 +100,7 @@ pub fn marks_so(
     played && play(alloc, grid, operations) && marks_are(grid, marked)
 }
 
-// Whether a line holds on a grid as it is made, and again on ones whose first row is turned, since marks are of rows of the screen.
+// Returns true if a line is true on a new grid, and on ones whose first row is turned, since marks are of rows of the screen.
 fn holds(alloc: Global, line: &str) -> bool {
     let (_, rest) = line.split_once('|').unwrap_or((line, ""));
     let (before, rest) = rest.split_once('|').unwrap_or((rest, ""));
@@ -130,7 +130,7 @@ fn all_are(grid: &Grid, on: bool) -> bool {
     grid.marks().len() == grid.rows() && grid.marks().iter().all(|marked| *marked == on)
 }
 
-/// Whether all marks of a new grid are on, and off once they are cleared.
+/// Returns true if all marks of a new grid are on, and off once they are cleared.
 pub fn begins_marked(grid: &mut Grid) -> bool {
     let marked = all_are(grid, true);
     grid.clear_marks();
@@ -154,7 +154,7 @@ fn size_marks(alloc: Global, grid: &mut Grid, rows: usize, cols: usize) -> bool 
     grid.rows() == rows && all_are(grid, true)
 }
 
-/// Whether another frame and another size mark all rows of a grid of 5 by 8.
+/// Returns true if another frame and another size mark all rows of a grid of 5 by 8.
 pub fn are_all_after(alloc: Global, grid: &mut Grid) -> bool {
     matches!(Grid::new(alloc, 5, 8), Ok(other) if frame_marks(grid, &other))
         && size_marks(alloc, grid, 3, 8)

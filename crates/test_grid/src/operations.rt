@@ -1,7 +1,7 @@
-//! What is done to a grid, as text: operations with `, ` between them, a mnemonic with its numbers behind it (`max` is the largest), rows
-//! and columns from 1. `text` types each character by itself, `run` printable ASCII at once; `bold`, `guard`, `insert` (IRM) and `wraps`
-//! (DECAWM) are `on` or `off`, off but for `wraps` at first; `size` has rows, columns, and how many rows have left at the top; `moves` are
-//! all moves that stay between the margins, `mark` puts all marks on.
+//! The operations on a grid, as text, with `, ` between them: a mnemonic with its numbers behind it (`max` is the largest), rows and
+//! columns from 1. `text` types each character by itself, `run` printable ASCII at once. `bold`, `guard`, `insert` (IRM) and `wraps`
+//! (DECAWM) are `on` or `off`; only `wraps` is on at first. `size` has rows, columns, and the number of rows that left at the top; `moves`
+//! are all moves that stay between the margins, `mark` turns all marks on.
 //!
 //! It is text, since a table of text is proved at once, whatever its length.
 ghost use Rattle.std.specs.Prelude.{IsTrue};
@@ -252,7 +252,7 @@ fn operate(alloc: Global, grid: &mut Grid, pen: &mut Pen, words: &str) -> bool {
     }
 }
 
-/// Whether all operations are known; they are done up to the first that is not. No text is no act.
+/// Returns true if all operations are known, and does them up to the first unknown one. An empty text has none.
 pub fn play(alloc: Global, grid: &mut Grid, operations: &str) -> bool {
     let mut pen = Pen::new();
     for words in operations.split(", ") {

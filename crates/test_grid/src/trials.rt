@@ -1,4 +1,4 @@
-//! What is tried of a grid, which is made here alone: a function that owns one is dear to prove.
+//! The trials of a grid. It is made only here: a function that owns one is expensive to prove.
 use crate::cases::shows_after;
 use crate::edges::{goes_round_by_fives, takes_or_refuses};
 use crate::grids::{goes_round, is_made, leaves_so};
@@ -8,9 +8,9 @@ use std::alloc::Global;
 
 #[derive(Clone, Copy)]
 pub enum Trial<'a> {
-    /// What is done before, what is done, and what is left.
+    /// The operations before, the operations, and the result.
     Case(&'a str, &'a str, &'a str),
-    /// What is done before, what is done, and the rows that it marks.
+    /// The operations before, the operations, and the rows that they mark.
     Marks(&'a str, &'a str, &'a str),
     /// A new grid of this size, by its rows, columns, cursor, margins and buffer.
     Made(usize, usize),
@@ -18,7 +18,7 @@ pub enum Trial<'a> {
     AllMarks,
     FirstRow,
     FirstRowByFives,
-    /// What is done, a character that comes next, and whether a row leaves.
+    /// The operations, the next character, and whether a row leaves.
     Leaves(&'a str),
     Sizes,
 }
@@ -39,7 +39,8 @@ fn tries(alloc: Global, grid: &mut Grid, trial: Trial<'_>) -> bool {
     }
 }
 
-/// Whether a blank grid of a size, whose buffer begins with a later row of the screen, as many rows later as were turned, stands the trial.
+/// Returns true if a blank grid of a size passes the trial. Its buffer begins with a later row of the screen, as many rows later as were
+/// turned.
 pub fn stands(alloc: Global, size: (usize, usize), turned: usize, trial: Trial<'_>) -> bool {
     match Grid::new(alloc, size.0, size.1) {
         Ok(mut grid) => {

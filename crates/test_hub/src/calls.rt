@@ -1,4 +1,4 @@
-//! Calls of the two cores, made once more where memory was refused; a refused call leaves what was.
+//! Calls of the two cores, made once more if memory was refused; a refused call changes nothing.
 use crate::words::word_of;
 use roam_cells::{Fault, are_same_cells};
 use roam_hub::{Addr, Client, Heard, Server, Stop};
@@ -37,7 +37,7 @@ fn sent_up(alloc: Global, client: &mut Client, now: u64) -> Result<Vec<Vec<u8>>,
     }
 }
 
-/// The only datagram that a start sends at a moment; `Spent` where it sends none, or several.
+/// Returns the only datagram of a start at a moment; `Spent` if it sends none, or several.
 pub fn only_of(alloc: Global, client: &mut Client, now: u64) -> Result<Vec<u8>, Fault> {
     let mut texts = sent_up(alloc, client, now)?;
     let only = texts.pop();
@@ -48,7 +48,7 @@ pub fn only_of(alloc: Global, client: &mut Client, now: u64) -> Result<Vec<u8>, 
     }
 }
 
-/// What a server sends at a moment, and where to.
+/// Returns the datagrams of a server at a moment, with their addresses.
 pub fn sent_down(
     alloc: Global,
     server: &mut Server,
@@ -87,7 +87,7 @@ pub fn is_same<A: Seen, B: Seen>(one: &A, other: &B) -> bool {
     one.cursor() == other.cursor() && one.visible() == other.visible()
 }
 
-/// Whether a start shows the face of a session under this number.
+/// Returns true if a start shows the face of a session under this number.
 pub fn shows_face(alloc: Global, server: &Server, client: &Client, number: u64) -> bool {
     let (shown, shot) = client.shown();
     match face_of(alloc, server) {
@@ -103,8 +103,8 @@ fn is_answered(answer: Result<usize, Stop>, before: usize, told: &str) -> bool {
     }
 }
 
-/// Whether a server answers bytes so: how many acts it takes in all, or a refusal. Where memory is refused, just what the acts before typed
-/// waits for pane 1.
+/// Returns true if a server has this answer to bytes: the number of acts taken so far, or a refusal. If memory is refused, exactly the
+/// bytes of the acts before are queued for pane 1.
 pub fn answers(
     alloc: Global,
     server: &mut Server,
@@ -124,7 +124,7 @@ pub fn answers(
     is_left && is_answered(server.datagram(alloc, from, bytes, now), stop.taken, told)
 }
 
-// Whether a start shows nothing yet.
+// Returns true if a start shows nothing yet.
 fn shows_nothing(alloc: Global, client: &Client) -> bool {
     let (number, shot) = client.shown();
     match blank(alloc) {
@@ -142,7 +142,7 @@ fn is_heard(answer: Result<Heard, Fault>, told: &str) -> bool {
     }
 }
 
-/// Whether a start answers bytes so. Where memory is refused it shows nothing, as before.
+/// Returns true if a start has this answer to bytes. If memory is refused it shows nothing, as before.
 pub fn hears(alloc: Global, client: &mut Client, bytes: &[u8], now: u64, told: &str) -> bool {
     match client.datagram(alloc, bytes, now) {
         Err(Fault::OutOfMemory) => shows_nothing(alloc, client)

@@ -1,7 +1,7 @@
-//! Tests of the program's cores by their public calls alone, of what no script of `roam world` can tell: where a server sends to, datagrams
-//! that no core wrote, starts of both versions and those that only watch, and calls that find no memory.
+//! Tests of the program's cores by their public calls alone, for cases that no script of `roam world` has: the addresses of a server's
+//! datagrams, forged datagrams, starts of both versions and read-only ones, and refused memory.
 //!
-//! They lie here and not beside the code, since a crate with tests is proved twice by the gate.
+//! They have a crate of their own, since the gate proves a crate with tests twice.
 #![tactic(auto)]
 
 #[cfg(test)]

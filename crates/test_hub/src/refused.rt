@@ -1,4 +1,4 @@
-//! Cores that find no memory: a refused call leaves what was, and is made once more with the same bytes (`calls`).
+//! Cores without memory: a refused call changes nothing, and is made once more with the same bytes (`calls`).
 use crate::stage::first_wrong;
 use std::test::*;
 

@@ -1,16 +1,17 @@
 //! A server, client starts and the datagrams between them, played by texts.
 //!
-//! A case is a name, `session ROWS COLS`, and what is done, a line each, with what is wanted of it. Starts are numbered from 0 and
-//! datagrams from 1 on, as they come to be; T is a moment in milliseconds. `start KIND ID` makes a start, and `tick START T` has it send
-//! its only datagram; `forge BYTES` adds one that no core wrote, in hexadecimal digits, and `bytes N BYTES` says what one is. `up N PORT
-//! T` hands one to the server, from a port: the answer is how many acts are taken, or a refusal. `serve T` has the server send, to these
-//! ports. `down START N T` hands one to a start, and `all START PORT` all that went to a port. `shown START N` and `size START ROWS COLS`
-//! tell what a start shows, and `face START N` that it is the session's face. `type START` types a letter, `waits PANE TEXT` tells what
-//! waits for a pane that is there, and `lacks PANE` that there is none. `come KIND ID` hands the only datagram of a new start to the
-//! server, and `fill KIND ID COUNT` those of so many with no act, from an id on, here in decimal digits. `types START COUNT` types so many
-//! letters at once, and `held START COUNT` tells how many of a start aren't acknowledged. `known COUNT WATCHERS` tells how many starts
-//! the server knows. `next` tells the moment at which a tick of the server next does something, and `wakes START` one of a start: a moment,
-//! or `never`.
+//! A case is a name, `session ROWS COLS`, and a line for each action with its expected result. Starts are numbered from 0 and datagrams
+//! from 1; T is a moment in milliseconds. `start KIND ID` makes a start, and `tick START T` has it send its only datagram. `forge BYTES`
+//! adds a datagram in hexadecimal digits, and `bytes N BYTES` checks one. `up N PORT T` gives one to the server, from a port: the answer is
+//! the number of acts taken, or a refusal. `serve T` has the server send, to these ports. `down START N T` gives one to a start, and `all
+//! START PORT` all of a port.
+//!
+//! `shown START N` and `size START ROWS COLS` check the screen of a start, and `face START N` checks that it is the session's face. `type
+//! START` types a letter, `waits PANE TEXT` checks the queued bytes of an open pane, and `lacks PANE` that there is none. `come KIND ID`
+//! gives the only datagram of a new start to the server. `fill KIND ID COUNT` gives those of so many starts without acts, from an id on,
+//! here in decimal digits. `types START COUNT` types so many letters at once, and `held START COUNT` checks the number of unacknowledged
+//! ones. `known COUNT WATCHERS` checks how many starts the server knows. `next` is the moment of the next useful tick of the server, and
+//! `wakes START` that of a start: a moment, or `never`.
 ghost use Rattle.std.specs.Prelude.{◌≤◌};
 
 use crate::calls::{answers, at, hears, only_of, sent_down, shows_face, start_of};
@@ -24,7 +25,7 @@ use std::alloc::Global;
 /// How many letters are typed at once at most.
 const MOST_TYPED: usize = 1025;
 
-/// A server, its starts, and the datagrams that were sent, each with where it goes: to the port 0 at the server.
+/// A server, its starts, and the sent datagrams, each with its destination: port 0 at the server.
 #[derive(Drop)]
 struct Stage {
     server: Server,
@@ -32,7 +33,7 @@ struct Stage {
     sent: Vec<(Addr, Vec<u8>)>,
 }
 
-// A stage with room for what a case has, so that no memory is refused to it later.
+// Returns a stage with room for everything in a case, so that no memory is refused to it later.
 fn begun(alloc: Global, rows: u64, cols: u64) -> Result<Stage, Fault> {
     let starts = Vec::with_capacity(alloc, 8)?;
     let sent = Vec::with_capacity(alloc, 32)?;
@@ -44,7 +45,7 @@ fn begun(alloc: Global, rows: u64, cols: u64) -> Result<Stage, Fault> {
     })
 }
 
-// The bytes of a datagram by its number; none where there is none of that number.
+// Returns the bytes of a datagram by its number; empty if there is none of that number.
 fn bytes_at(sent: &[(Addr, Vec<u8>)], number: u64) -> &[u8] {
     match sent.get((number as usize).wrapping_sub(1)) {
         Some((_, bytes)) => bytes.as_slice(),
@@ -61,7 +62,7 @@ fn start_by(alloc: Global, words: &str) -> Result<Client, Fault> {
     }
 }
 
-// Whether the only datagram that a start sends at its beginning is answered so.
+// Returns true if the only datagram of a start at its beginning has this answer.
 fn greets(alloc: Global, server: &mut Server, client: &mut Client, told: &str) -> bool {
     match only_of(alloc, client, 0) {
         Ok(first) => answers(alloc, server, at(5001), &first, 0, told),
@@ -84,7 +85,7 @@ fn come_by(alloc: Global, server: &mut Server, words: &str, told: &str) -> bool 
     }
 }
 
-// Whether so many starts of a kind come with no act, from an id on.
+// Returns true if so many starts of a kind arrive without acts, from an id on.
 fn fill_by(alloc: Global, server: &mut Server, words: &str) -> bool {
     let (kind, rest) = halves(words, " ");
     let mut row = [0; 2];
@@ -99,7 +100,7 @@ fn fill_by(alloc: Global, server: &mut Server, words: &str) -> bool {
     true
 }
 
-// Whether datagrams go to these ports, one after the other.
+// Returns true if datagrams go to these ports, one after another.
 fn go_to(sent: &[(Addr, Vec<u8>)], ports: &str) -> bool {
     let mut words = ports.split_whitespace();
     for (to, _) in sent {
@@ -113,7 +114,7 @@ fn go_to(sent: &[(Addr, Vec<u8>)], ports: &str) -> bool {
     words.next().is_none()
 }
 
-// Whether a start hears all that went to an address, the last of which brings it a newer screen.
+// Returns true if a start hears all that went to an address, the last of which brings it a newer screen.
 fn hears_all(alloc: Global, client: &mut Client, sent: &[(Addr, Vec<u8>)], address: Addr) -> bool {
     let mut is_new = false;
     for (to, bytes) in sent {
@@ -127,7 +128,7 @@ fn hears_all(alloc: Global, client: &mut Client, sent: &[(Addr, Vec<u8>)], addre
     is_new
 }
 
-// Whether a start takes the letter a, or refuses it so.
+// Returns true if a start takes the letter a, or refuses it with this error.
 fn types(client: &mut Client, told: &str) -> bool {
     match client.typed(Act::Key(Key::Char('a'))) {
         Ok(()) => told == "typed",
@@ -135,7 +136,7 @@ fn types(client: &mut Client, told: &str) -> bool {
     }
 }
 
-// Whether a start takes so many letters at once, or refuses them so.
+// Returns true if a start takes so many letters at once, or refuses them with this error.
 fn types_all(client: &mut Client, count: u64, told: &str) -> bool {
     let letters = [Act::Key(Key::Char('a')); MOST_TYPED];
     let (some, _) = letters
@@ -147,7 +148,7 @@ fn types_all(client: &mut Client, count: u64, told: &str) -> bool {
     }
 }
 
-// Whether a moment is told so.
+// Returns true if a moment is this one.
 fn is_told(due: Option<u64>, told: &str) -> bool {
     match due {
         Some(due) => told.parse::<u64>().ok() == Some(due),
@@ -155,13 +156,13 @@ fn is_told(due: Option<u64>, told: &str) -> bool {
     }
 }
 
-// Whether a server knows so many starts, and so many that watch.
+// Returns true if a server knows so many starts, and so many read-only ones.
 fn knows(server: &Server, words: &str) -> bool {
     let mut row = [0; 2];
     reads_numbers(words, &mut row) && row == [server.starts() as u64, server.watchers() as u64]
 }
 
-// Whether these bytes wait for a pane.
+// Returns true if these bytes are queued for a pane.
 fn waits(server: &Server, words: &str) -> bool {
     let (pane, text) = halves(words, " ");
     let mut out = [0; 64];
@@ -177,7 +178,7 @@ fn has_size(client: &Client, rows: u64, cols: u64) -> bool {
     (u64::from(shot.rows()), u64::from(shot.cols())) == (rows, cols)
 }
 
-// How many numbers stand behind a verb.
+// Returns how many numbers follow a verb.
 fn count_of(verb: &str) -> usize
     ensures most { result ≤ 3 }
 {
@@ -223,7 +224,7 @@ impl Stage {
         Ok(())
     }
 
-    // Whether the server sends to these ports, or to whatever port.
+    // Returns true if the server sends to these ports, or to any.
     fn serve(&mut self, alloc: Global, now: u64, ports: &str) -> Result<bool, Fault> {
         let mut sends = sent_down(alloc, &mut self.server, now)?;
         let go = ports == "any" || go_to(&sends, ports);
@@ -231,7 +232,7 @@ impl Stage {
         Ok(go)
     }
 
-    // What is asked of a start.
+    // Returns true if a question to a start has this answer.
     fn asks(&mut self, alloc: Global, verb: &str, row: [u64; 3], told: &str) -> bool {
         let [start, number, now] = row;
         let Some(client) = self.starts.get_mut(start as usize) else {

@@ -1,6 +1,6 @@
 //! Each beginning of a datagram, and each with one byte changed to every other value, to a server that knows a start of each kind and to
-//! each kind of start, both to those that it is meant for and to the other end: a reply or a named refusal, and after a refusal all goes on
-//! as if nothing had come.
+//! each kind of start, both to the intended end and to the other: a reply or a named refusal, and after a refusal everything goes on as if
+//! nothing had arrived.
 use crate::calls::{at, is_same, only_of, start_of};
 use roam_cells::Fault;
 use roam_hub::{Addr, Client, Heard, Server};
@@ -55,12 +55,12 @@ fn are_same(one: &[(Addr, Vec<u8>)], other: &[(Addr, Vec<u8>)]) -> bool {
     true
 }
 
-/// An end to which bytes are given as it is made anew: whether it answers them, or refuses them and goes on as if nothing had come.
+/// An end that is given bytes when it is new: it answers them, or refuses them and goes on as if nothing had arrived.
 trait Stands {
     fn stands(&self, alloc: Global, bytes: &[u8]) -> bool;
 }
 
-/// A server that heard a start of each kind, and what it sends then.
+/// A server that heard a start of each kind, and the datagrams that it sends then.
 #[derive(Drop)]
 struct Served {
     firsts: Vec<Vec<u8>>,
@@ -79,7 +79,7 @@ fn served_at_first(alloc: Global) -> Result<Served, Fault> {
 }
 
 impl Served {
-    // Whether a server answers bytes, or refuses them and sends what it would send without them.
+    // Returns true if a server answers bytes, or refuses them and sends the same as without them.
     fn is_stood_by(&self, alloc: Global, server: &mut Server, bytes: &[u8]) -> bool {
         match server.datagram(alloc, at(5009), bytes, 0) {
             Ok(_) => true,
@@ -119,7 +119,7 @@ fn last_of(mut sends: Vec<(Addr, Vec<u8>)>) -> Result<Vec<u8>, Fault> {
     Ok(sound)
 }
 
-// What a server sends to a start that it heard, once the program of its pane wrote.
+// Returns the datagrams of a server to a start that it heard, once the program of its pane wrote.
 fn follow(alloc: Global, server: &mut Server, start: Start) -> Result<Followed, Fault> {
     let first = first_from(alloc, start)?;
     hear_and_write(alloc, server, &first)?;
@@ -134,7 +134,7 @@ fn followed_by(alloc: Global, start: Start) -> Result<Followed, Fault> {
 }
 
 impl Followed {
-    // Whether a start shows nothing yet, and what is sent to it then.
+    // Returns true if a start shows nothing yet, and then its datagrams.
     fn goes_on(&self, alloc: Global, client: &mut Client) -> bool {
         let is_kept = client.shown().0 == 0;
         let is_new = client.datagram(alloc, &self.sound, 0) == Ok(Heard::New);
@@ -155,7 +155,7 @@ impl Stands for Followed {
     }
 }
 
-// Whether an end stands a datagram that ends before a place, and with each other byte there.
+// Returns true if an end passes a datagram that ends before a place, and one with each other byte there.
 fn stands_at<S: Stands>(alloc: Global, end: &S, bytes: &mut [u8], place: usize) -> bool {
     let Some(sound) = bytes.get(place).copied() else {
         return false;
@@ -170,7 +170,7 @@ fn stands_at<S: Stands>(alloc: Global, end: &S, bytes: &mut [u8], place: usize) 
     end.stands(alloc, &bytes[..place])
 }
 
-// The first place at which an end doesn't stand the beginning of a datagram, or another byte there; its length where there is no memory.
+// Returns the first place at which an end fails the beginning of a datagram, or another byte there; its length if memory is refused.
 fn first_fall<S: Stands>(alloc: Global, end: &S, datagram: &[u8]) -> Option<usize> {
     let Ok(mut bytes) = Vec::from_slice(alloc, datagram) else {
         return Some(datagram.len());
@@ -195,7 +195,7 @@ fn add_letter(
     Ok(())
 }
 
-// The first datagram of a start, and what it is sent as the program of its pane writes these letters, a tick each.
+// Returns the first datagram of a start, and those sent to it as the program of its pane writes these letters, a tick each.
 fn datagrams_of(alloc: Global, start: Start, letters: &[&str]) -> Result<Vec<Vec<u8>>, Fault> {
     let mut datagrams = Vec::new(alloc);
     datagrams.push(first_from(alloc, start)?)?;
@@ -206,7 +206,7 @@ fn datagrams_of(alloc: Global, start: Start, letters: &[&str]) -> Result<Vec<Vec
     Ok(datagrams)
 }
 
-// Whether an end stands all changes of each of these.
+// Returns true if an end passes all changes of each of these.
 fn stands_all<S: Stands>(alloc: Global, end: &S, datagrams: &[Vec<u8>]) -> bool {
     for datagram in datagrams {
         if first_fall(alloc, end, datagram) != None {
@@ -216,7 +216,7 @@ fn stands_all<S: Stands>(alloc: Global, end: &S, datagrams: &[Vec<u8>]) -> bool 
     true
 }
 
-// Whether both ends stand all changes of what a start sends and is sent.
+// Returns true if both ends pass all changes of the datagrams from and to a start.
 fn both_stand(alloc: Global, start: Start, letters: &[&str]) -> bool {
     match (
         served_at_first(alloc),

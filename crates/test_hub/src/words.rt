@@ -18,12 +18,12 @@ pub fn word_of(fault: Fault) -> &'static str {
     }
 }
 
-/// What stands before a text's first mark and behind it, where nothing may stand.
+/// Returns the text before the first mark and the text behind it; both may be empty.
 pub fn halves<'a>(text: &'a str, mark: &str) -> (&'a str, &'a str) {
     text.split_once(mark).unwrap_or((text, ""))
 }
 
-/// Whether a text is as many numbers as there is place for, which are put there.
+/// Puts the numbers of a text into the places, and returns true if there are equally many.
 pub fn reads_numbers(text: &str, places: &mut [u64]) -> bool {
     let mut words = text.split_whitespace();
     for place in places.iter_mut() {

@@ -5,10 +5,10 @@ use roam_keys::KeyModes;
 use std::alloc::Global;
 use std::test::*;
 
-// Keys and acts, with a bar behind each line but the last. `key` has the key's name and number, and what it sends: where no mode changes
-// it, under DECCKM, in the application mode of the keypad, under LNM (nothing where the mode doesn't change it); `utf8` a character that is
-// sent as it is; `act` an act's line and its bytes; `spelled` another spelling of a character, and the character; `no-act` a line that
-// spells none; `no-text` how many acts are wanted, and bytes that are not so many.
+// Keys and acts, with a bar behind each line but the last. `key` has the key's name and number, and its bytes: without a mode, under
+// DECCKM, in the application mode of the keypad, and under LNM (empty if the mode changes nothing). `utf8` is a character sent as it is;
+// `act` an act's line and its bytes; `spelled` another spelling of a character, and the character; `no-act` a line that spells none;
+// `no-text` a number of acts, and bytes that are not so many.
 const ROWS: &str = "\
 key up|1|\x1B[A|\x1BOA|||
 key down|2|\x1B[B|\x1BOB|||
@@ -195,7 +195,7 @@ fn modes_of(number: u8) -> KeyModes {
     }
 }
 
-// What a line says that a key sends under the modes.
+// Returns the bytes of a key under the modes, as a line gives them.
 fn sent_under<'a>(modes: KeyModes, plain: &'a str, rest: &'a str) -> &'a str {
     let mut parts = rest.split('|');
     let cursor = parts.next().unwrap_or("");
@@ -212,7 +212,7 @@ fn sent_under<'a>(modes: KeyModes, plain: &'a str, rest: &'a str) -> &'a str {
     }
 }
 
-// Whether a key sends what its line says under each of the eight settings of the modes.
+// Returns true if a key has the bytes of its line under each of the eight settings of the modes.
 fn sends(key: &Key, plain: &str, rest: &str) -> bool {
     for number in 0..8u8 {
         let modes = modes_of(number);
@@ -230,7 +230,7 @@ fn is_sent_as_it_is(text: &str) -> bool {
     }
 }
 
-// Whether the act has these bytes, and they are read as this act alone.
+// Returns true if the act has these bytes, and they are read as exactly this act.
 fn has_bytes(alloc: Global, act: Act, bytes: &[u8]) -> bool {
     let mut out = Vec::new(alloc);
     write_acts(&[act], &mut out).is_ok()
@@ -333,7 +333,7 @@ fn are_none() -> bool {
 // The text of a key, of `close`, of a size and of `grow -3`.
 const FOUR: [u8; 11] = [2, 1, 0x12, 0x16, 0, 24, 0, 80, 0x15, 0xFF, 0xFD];
 
-// Whether four acts become this text behind what stands there, and come out of it; and no bytes are no act.
+// Returns true if four acts are appended as this text, and read back from it; and no bytes are no act.
 fn are_added(alloc: Global) -> bool {
     let acts = [
         Act::Key(Key::Up),
@@ -363,7 +363,7 @@ fn waits(sender: &ActSender, first: u64, count: usize) -> bool {
     number == first && acts.len() == count
 }
 
-// Whether so many wait from a number on once a number is acknowledged.
+// Returns true if so many acts wait from a number on once a number is acknowledged.
 fn waits_after(sender: &mut ActSender, acked: u64, first: u64, count: usize) -> bool {
     sender.acked(acked);
     waits(sender, first, count)
@@ -379,7 +379,7 @@ fn sends_until_acknowledged(alloc: Global) -> bool {
         && waits_after(&mut sender, 9, 11, 60)
 }
 
-// Whether the 1025th act finds no room, and finds it once one is acknowledged.
+// Returns true if the 1025th act finds no room, and finds it once one is acknowledged.
 fn is_full(alloc: Global) -> bool {
     let mut sender = ActSender::new(alloc);
     type_acts(&mut sender, 1024)
@@ -388,7 +388,7 @@ fn is_full(alloc: Global) -> bool {
         && sender.typed(Act::Close) == Ok(())
 }
 
-// Whether a taker that took three acts takes those that follow.
+// Returns true if a taker that took three acts takes the next ones.
 fn takes_what_follows() -> bool {
     let mut taker = ActTaker::new();
     for _ in 0..3u8 {

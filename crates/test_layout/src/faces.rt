@@ -1,7 +1,7 @@
-//! Faces: what the panes of a layout show, and then each row, the cursor and whether it is visible.
+//! Faces: the screens of a layout's panes, and then each row, the cursor and its visibility.
 //!
-//! A case is a session's rows and columns, whether the cursor of the pane in focus is shown, and acts with a comma between; then what panes
-//! 1 to 3 show, with bars between; each row of the face; and its cursor.
+//! A case is a session's rows and columns, true if the cursor of the pane in focus is visible, and acts with a comma between; then the
+//! screens of panes 1 to 3, with bars between; each row of the face; and its cursor.
 ghost use Rattle.std.specs.Prelude.{◌≡◌, length, IfOk};
 ghost use Rattle.roam_layout.specs.Layouts.{panes};
 ghost use Rattle.roam_layout.specs.Faces.{ArePictures};
@@ -173,7 +173,7 @@ fn face_of(alloc: Global, layout: &Layout, texts: &str, visible: bool) -> Result
     face(alloc, layout, &shots)
 }
 
-// Whether a face has these rows, and then this cursor.
+// Returns true if a face has these rows, and then this cursor.
 fn shows(alloc: Global, shot: &Shot, rows: &str) -> Result<bool, Fault> {
     let mut lines = rows.lines();
     let mut same = true;
@@ -216,7 +216,7 @@ fn faces_show_their_rows(rt: HostRuntime) {
     }
 }
 
-// Whether a cell is drawn in the default style, but for the reverse flag in the last row.
+// Returns true if a cell is drawn in the default style, except for the reverse flag in the last row.
 fn is_drawn(shot: &Shot, row: u16, col: u16) -> bool {
     let style = Style {
         reverse: row == shot.rows(),
@@ -239,7 +239,7 @@ fn are_drawn(shot: &Shot) -> bool {
     true
 }
 
-// Whether only the status text is in reverse.
+// Returns true if only the status text is in reverse.
 fn is_status_in_reverse(alloc: Global, layout: &mut Layout) -> bool {
     matches!(face_of(alloc, layout, "a|b|c", true), Ok(shot) if are_drawn(&shot))
 }
@@ -266,7 +266,7 @@ fn is_each_in_its_corner(layout: &Layout, shot: &Shot) -> bool {
     true
 }
 
-// Whether nine panes show their numbers, and a tenth is refused and changes nothing.
+// Returns true if nine panes show their numbers, and a tenth is refused and changes nothing.
 fn keeps_nine(alloc: Global, layout: &mut Layout) -> bool {
     let before = face_of(alloc, layout, DIGITS, true);
     let refused = layout.apply(alloc, &Act::SplitDown).is_err();
@@ -279,7 +279,7 @@ fn keeps_nine(alloc: Global, layout: &mut Layout) -> bool {
     }
 }
 
-// Whether the rows of a face one by one are its cells.
+// Returns true if the rows of a face one by one are its cells.
 fn is_row_by_row(
     alloc: Global,
     layout: &Layout,
@@ -317,7 +317,7 @@ fn is_face(shot: &RowShot, whole: &Shot) -> bool {
     shot.cursor() == whole.cursor() && shot.visible() == whole.visible()
 }
 
-// Whether the face of nine panes comes row by row, and over marked rows, as it comes at once.
+// Returns true if the face of nine panes is the same row by row, and over marked rows, as at once.
 fn is_one_face(alloc: Global, layout: &Layout) -> Result<bool, Fault> {
     let shots = pictures(alloc, layout, DIGITS, true)?;
     let whole = face(alloc, layout, &shots)?;
@@ -327,7 +327,7 @@ fn is_one_face(alloc: Global, layout: &Layout) -> Result<bool, Fault> {
     )
 }
 
-/// What is tried of a layout.
+/// The trial of a layout.
 #[derive(Clone, Copy)]
 enum Trial {
     Status,

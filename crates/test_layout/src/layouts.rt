@@ -1,4 +1,4 @@
-//! Layouts: acts one after another, with what each is answered and what then stands.
+//! Layouts: acts one after another, with the answer to each and the layout then.
 use crate::words::{are_numbers, is_number};
 use roam_acts::{Act, read_act};
 use roam_cells::Fault;
@@ -6,9 +6,10 @@ use roam_layout::{Changes, Layout, PaneSize, Rect, Way};
 use std::alloc::Global;
 use std::test::*;
 
-// Walks with an empty line between them: a layout's size; then acts, the answer to each, and what stands then: the rectangles (a pane's
-// number, row, column, rows, columns), the focus and the status text without the spaces at its end. First come walks of random acts; then
-// rows of 24 by 80, of 4 by 17, of the least and the most size, and of the ends of each range; then four panes, each of them closed.
+// Walks with an empty line between them: a layout's size; then acts, the answer to each, and the layout then. That is the rectangles (a
+// pane's number, row, column, rows, columns), the focus, and the status text without the spaces at its end. First come walks of random
+// acts; then rows of 24 by 80, of 4 by 17, of the least and the most size, and of the ends of each range; then four panes, each of them
+// closed.
 const WALKS: &str = "\
 size 37 66
 close > E6 > 1: 1 1 36 66 | focus 1 |[1]
@@ -266,7 +267,7 @@ fn answer_of(fault: Fault) -> &'static str {
     }
 }
 
-// Whether a pane's rectangle is that of a text.
+// Returns true if a pane's rectangle is that of a text.
 fn is_rect(pane: u8, rect: Rect, text: &str) -> bool {
     let (number, place) = text.split_once(": ").unwrap_or((text, ""));
     is_number(u16::from(pane), number)
@@ -283,12 +284,12 @@ fn are_rects(rects: &[(u8, Rect)], text: &str) -> bool {
     texts.next().is_none()
 }
 
-// Whether the status text is as long as a row, and this one but for spaces at its end.
+// Returns true if the status text is as long as a row, and this one except for spaces at its end.
 fn is_status(layout: &Layout, status: &[u8], text: &str) -> bool {
     status.len() == usize::from(layout.cols()) && status.trim_ascii_end() == text.as_bytes()
 }
 
-// Whether a layout has these rectangles, this focus and this status text.
+// Returns true if a layout has these rectangles, this focus and this status text.
 fn is_told(alloc: Global, layout: &Layout, told: &str) -> bool {
     let (rects, rest) = told.split_once(" | focus ").unwrap_or((told, ""));
     let (focus, text) = rest.split_once(" |").unwrap_or((rest, ""));
@@ -307,7 +308,7 @@ fn answer_to(alloc: Global, layout: &mut Layout, words: &str) -> &'static str {
     }
 }
 
-// Whether an act is answered so, and the layout then told so.
+// Returns true if an act has this answer, and the layout is this one then.
 fn steps(alloc: Global, layout: &mut Layout, line: &str) -> bool {
     let (words, rest) = line.split_once(" > ").unwrap_or((line, ""));
     let (answer, told) = rest.split_once(" > ").unwrap_or((rest, ""));
@@ -345,8 +346,7 @@ fn walks_go_as_they_are_told(rt: HostRuntime) {
     }
 }
 
-// Acts on a layout of 24 by 80, and then the pane that each closes, the one that it makes and those that it sizes (a pane's number, rows,
-// columns).
+// Acts on a layout of 24 by 80, and then the closed pane, the new one and the sized ones of each (a pane's number, rows, columns).
 const CHANGES: &str = "\
 split right > 0 > 2 23 40 > 1 23 39
 split down > 0 > 3 11 40 > 2 11 40
@@ -391,7 +391,7 @@ fn are_changes(changes: &Changes, text: &str) -> bool {
         && are_sized(&changes.sized, sized)
 }
 
-// Whether an act changes the panes so.
+// Returns true if an act changes the panes so.
 fn changes(alloc: Global, layout: &mut Layout, line: &str) -> bool {
     let (words, text) = line.split_once(" > ").unwrap_or((line, ""));
     let Ok(act) = read_act(words.as_bytes()) else {
@@ -430,7 +430,7 @@ fn has(rect: Rect, row: u16, col: u16) -> bool {
         && u32::from(col) < u32::from(rect.col) + u32::from(rect.cols)
 }
 
-// Whether exactly one pane or border has a place.
+// Returns true if exactly one pane or border has a place.
 fn has_one(layout: &Layout, row: u16, col: u16) -> bool {
     let mut owners = 0u16;
     for (_, rect) in layout.rects() {
@@ -475,7 +475,7 @@ grow -1
 next
 close";
 
-// Whether each place has one owner after an act, also where it is refused.
+// Returns true if each place has one owner after an act, also after a refused one.
 fn stays_covered(alloc: Global, layout: &mut Layout, line: &str) -> bool {
     let Ok(act) = read_act(line.as_bytes()) else {
         return false;
@@ -486,7 +486,7 @@ fn stays_covered(alloc: Global, layout: &mut Layout, line: &str) -> bool {
     is_covered(layout, 20, 50)
 }
 
-// Whether each place of 20 by 50 has one owner after each act, in 16 rounds.
+// Returns true if each place of 20 by 50 has one owner after each act, in 16 rounds.
 fn covers_all(alloc: Global, layout: &mut Layout) -> bool {
     for _ in 0..16u8 {
         for line in SEQUENCE.lines() {
@@ -498,7 +498,7 @@ fn covers_all(alloc: Global, layout: &mut Layout) -> bool {
     layout.rects().len() > 3
 }
 
-// Whether a copy of two panes has its views, focus and border.
+// Returns true if a copy of two panes has its views, focus and border.
 fn is_of_two(copy: &Layout) -> bool {
     let border = Rect {
         row: 12,
@@ -511,7 +511,7 @@ fn is_of_two(copy: &Layout) -> bool {
         && copy.borders() == [(Way::Down, border)].as_slice()
 }
 
-// Whether a copy stays as it is where the layout goes on.
+// Returns true if a copy stays as it is while the layout goes on.
 fn lends_a_copy(alloc: Global, layout: &mut Layout) -> bool {
     let done = layout.apply(alloc, &Act::View(12)).is_ok()
         && layout.apply(alloc, &Act::SplitDown).is_ok();
@@ -520,7 +520,7 @@ fn lends_a_copy(alloc: Global, layout: &mut Layout) -> bool {
     done && closed && layout.view(2) == None && matches!(&copied, Ok(copy) if is_of_two(copy))
 }
 
-/// What is tried of a layout.
+/// The trial of a layout.
 #[derive(Clone, Copy)]
 enum Trial {
     Covers,

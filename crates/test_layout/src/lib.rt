@@ -1,6 +1,6 @@
 //! Tests of keys and acts, of the layout and of the face by their public calls alone.
 //!
-//! They lie here and not beside the code, since a crate with tests is proved twice by the gate.
+//! They have a crate of their own, since the gate proves a crate with tests twice.
 #![tactic(auto)]
 
 #[cfg(test)]

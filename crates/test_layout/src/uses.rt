@@ -18,7 +18,7 @@ pub fn two_panes(alloc: Global, rows: u16, cols: u16) -> Result<Layout, Fault>
     Ok(layout)
 }
 
-/// Whether pane 2 has the right half of 24 by 80: between the panes stands a border, below them the status.
+/// Returns true if pane 2 has the right half of 24 by 80, with a border between the panes and the status row below.
 pub fn has_the_right_half(layout: &Layout) -> bool {
     match layout.rects().last() {
         Some((pane, rect)) => *pane == 2

@@ -1,4 +1,4 @@
-//! What a run that failed says on standard error, and its exit status; and whether more is asked for.
+//! The message of a failed run on standard error, its exit status, and the second line if it is asked for.
 ghost use Rattle.std.specs.Prelude.{◌≤◌, length, IfOk};
 
 use roam_cells::Fault;
@@ -37,7 +37,7 @@ fn fault_of(text: &str) -> Option<RunFault> {
     }
 }
 
-/// Standard error that knows what it is to hear behind `roam: `.
+/// A standard error that knows the text to expect behind `roam: `.
 #[derive(Drop)]
 struct Ear {
     alloc: Global,
@@ -71,7 +71,7 @@ fn has_text(alloc: Global, fault: &RunFault, wanted: &str) -> bool {
     matches!(fault.to_string(alloc), Ok(text) if text.as_str() == wanted)
 }
 
-// Whether a fault has a text, and a run with it ends with status 1 and says so.
+// Returns true if an error has a text, and a run with it prints that text and ends with status 1.
 fn is_told(alloc: Global, text: &'static str) -> bool {
     let ear = ear_for(alloc, text);
     match fault_of(text) {

@@ -1,8 +1,8 @@
-//! Tests of the program by the public calls of the crates that it stands on: what its words ask for and how a run ends, what `roam show`,
-//! `roam rows` and `roam world` print.
+//! Tests of the program by the public calls of the crates below it: the request of its words, the end of a run, and the output of `roam
+//! show`, `roam rows` and `roam world`.
 //!
-//! They lie here and not beside the code, since a crate with tests is proved twice by the gate; and together, since each crate of tests
-//! that stands on the program takes a minute of proof before its first.
+//! They have a crate of their own, since the gate proves a crate with tests twice. They share one, since each such crate takes a minute
+//! before its first test.
 #![tactic(auto)]
 
 #[cfg(test)]

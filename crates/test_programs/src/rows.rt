@@ -1,11 +1,10 @@
-//! What `roam rows` prints: the rows that leave by ECMA-48, the VT220 and this project's profile, and what becomes of records that are
-//! none.
+//! The output of `roam rows`: the rows that leave by ECMA-48, the VT220 and this project's profile, and the errors of bad records.
 use crate::streams::{Cut, Narrow};
 use roam_scrollback_stream::{RowsFault, run_rows};
 use std::alloc::{AllocError, Global};
 use std::test::*;
 
-// Cases, with a line = between them: the rows and columns of the screen, and a name; what is fed; the lines of the rows that leave, each
+// Cases, with a line = between them: the rows and columns of the screen, and a name; the input; the lines of the rows that leave, each
 // behind a bar; and behind two bars those of the screen.
 const CASES: &str = "\
 2 8 a line feed in the last row
@@ -104,7 +103,7 @@ fn number_in(word: Option<&str>) -> u16 {
     word.unwrap_or("").parse::<u16>().unwrap_or(0)
 }
 
-// The lines that stand behind a bar in place of another one, each with its LF, and how many they are.
+// Returns the lines behind a bar, each with its LF, and their number.
 fn lines_behind(alloc: Global, text: &str, is_shown: bool) -> Result<(String, usize), AllocError> {
     let mut lines = String::new(alloc);
     let mut count = 0usize;
@@ -126,7 +125,7 @@ fn lines_behind(alloc: Global, text: &str, is_shown: bool) -> Result<(String, us
     Ok((lines, count))
 }
 
-// The records of a case, and those that are told.
+// Returns the records of a case, and the expected output.
 fn records_of(alloc: Global, case: &str) -> Result<(String, String), AllocError> {
     let (head, rest) = case.split_once('\n').unwrap_or((case, ""));
     let (bytes, inside) = rest.split_once("\n|").unwrap_or((rest, ""));
@@ -214,10 +213,11 @@ screen 0 0
 
 123456789012345678901234567890123456789012345678901234567890123456789";
 
-// What is told of two rows of eight columns that nobody wrote.
+// The output for two rows of eight blank columns.
 const BLANK: &str = "screen 0 2 4\n \n \n";
 
-// Whether a run of these records, behind one that asks for a screen, is refused at the last line, and what came before it told.
+// Returns true if a run of these records, behind one that asks for a screen, is refused at the last line, and prints its answers before
+// that.
 fn is_refused(alloc: Global, bad: &str) -> Result<bool, AllocError> {
     let asked = format!(in alloc; "pane 0 2 8\nscreen 0\ngone 0\n{bad}\n")?;
     let line = asked.as_str().split('\n').count() - 1;
@@ -234,7 +234,7 @@ fn records_that_are_none(rt: HostRuntime) {
     }
 }
 
-// What these records tell, where bytes go through the filter or don't.
+// Returns the output for these records, with or without the filter.
 fn told_of(alloc: Global, asked: &str, normalize: bool) -> Result<Vec<u8>, RowsFault> {
     let mut out = Vec::new(alloc);
     let mut reader = Cut::new(asked.as_bytes(), 1, 1);

@@ -1,4 +1,4 @@
-//! What `roam show` prints: rows by ECMA-48, the VT220 and this project's profile, and what becomes of a run that fails.
+//! The output of `roam show`: rows by ECMA-48, the VT220 and this project's profile, and the errors of a run.
 use crate::streams::{Cut, Drip, Narrow};
 use roam_cells::Fault;
 use roam_faults::RunFault;
@@ -6,7 +6,7 @@ use roam_show::{push_number, push_numbered, run_show};
 use std::alloc::{AllocError, Global};
 use std::test::*;
 
-// Runs, with an empty line between them: the rows and columns of the screen, and a name; the input; and what is printed.
+// Runs, with an empty line between them: the rows and columns of the screen, and a name; the input; and the output.
 const ROWS: &str = "\
 2 8 EL clears a pending wrap
 abcdefgh\x1B[Kx
@@ -718,7 +718,7 @@ output -
 cursor 1 1 hidden
 output -";
 
-/// A screen's size, an input, and what is printed for it but for the first bar and the last line feed.
+/// A screen's size, an input, and its output without the first bar and the last line feed.
 #[derive(Clone, Copy)]
 struct Run<'a> {
     rows: u16,
@@ -727,7 +727,7 @@ struct Run<'a> {
     inside: &'a str,
 }
 
-// A run on a screen of no size where the text is none.
+// Returns a run; its screen has no size if the text isn't one.
 fn run_of(block: &str) -> Run<'_> {
     let (head, rest) = block.split_once('\n').unwrap_or((block, ""));
     let (input, inside) = rest.split_once("\n|").unwrap_or((rest, ""));
@@ -744,7 +744,7 @@ fn is_printed(out: &[u8], inside: &str) -> bool {
     matches!(out, [b'|', shown @ .., b'\n'] if shown == inside.as_bytes())
 }
 
-// Whether a run shows its text, its input in pieces of a size but for the first.
+// Returns true if a run prints its text, with its input in pieces of a size except the first.
 fn shows(alloc: Global, run: &Run<'_>, first: usize, later: usize) -> bool {
     let mut out = Vec::new(alloc);
     let mut reader = Cut::new(run.input, first, later);
@@ -752,7 +752,7 @@ fn shows(alloc: Global, run: &Run<'_>, first: usize, later: usize) -> bool {
         && is_printed(&out, run.inside)
 }
 
-// Whether it shows it, its input whole, byte by byte, by twos and threes, and cut in two at each place.
+// Returns true if it prints it with its input whole, byte by byte, by twos and threes, and cut in two at each place.
 fn shows_however_cut(alloc: Global, run: &Run<'_>) -> bool {
     for cut in 1..run.input.len() {
         if !shows(alloc, run, cut, usize::MAX) {
@@ -864,7 +864,7 @@ fn many_lines_scroll_and_the_largest_screen_is_written_whole(rt: HostRuntime) {
     assert!(rt; matches!(is_written_whole(rt.alloc()), Ok(true)));
 }
 
-// Whether a million times one byte between two texts, in pieces of 1,024, shows this on 2 by 8.
+// Returns true if a million times one byte between two texts, in pieces of 1,024, prints this on 2 by 8.
 fn is_long_shown(
     alloc: Global,
     first: &str,

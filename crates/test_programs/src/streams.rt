@@ -1,9 +1,8 @@
-//! Readers and writers that give and take in pieces, and fail where they are told to.
+//! Readers and writers that work in pieces, and fail at a given call.
 use std::io;
 use std::io::{Read, Write};
 
-/// Gives at most so many bytes at the next read, at most so many at each later one, and fails at the read with a number; 0
-/// is none.
+/// Gives at most so many bytes at the next read, at most so many at each later one, and fails at the read with a number; 0 is none.
 #[derive(Drop)]
 pub struct Cut<'a> {
     pub rest: &'a [u8],

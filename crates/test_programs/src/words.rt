@@ -1,4 +1,4 @@
-//! What the words ask for, and the texts of `clap` that a user reads.
+//! The request of the words, and the texts of `clap` for a user.
 use roam_cli::{Refusal, Request, Server, Source, Wire, read_words};
 use std::alloc::{AllocError, Global};
 use std::test::*;
@@ -97,7 +97,7 @@ fn words_of<'a>(alloc: Global, line: &'a str) -> Result<Vec<&'a str>, AllocError
     Ok(words)
 }
 
-// Whether words are answered by this text, which has a line feed more, and this status.
+// Returns true if words get this text, with one more line feed, and this status.
 fn is_answered(alloc: Global, words: &[&str], status: &str, text: &str) -> bool {
     let Err(Refusal::Clap(error)) = read_words(alloc, words) else {
         return false;
@@ -119,10 +119,9 @@ fn texts_of_words(rt: HostRuntime) {
     }
 }
 
-// Words, and what they ask for: of `serve` the folder, the port, the session, the turns, and whether bytes are read as meant; of `attach`
-// the folder or the port, the
-// session, the client (`-` is none), where acts come from, the version, whether it watches, and the turns. Numbers are decimal. Words that
-// exclude one another or need one another, and a version that is none, ask for nothing.
+// Words, and their request. For `serve`: the folder, the port, the session, the turns, and true if bytes are normalized. For `attach`: the
+// folder or the port, the session, the client (`-` is none), the source of acts, the version, true if it is read-only, and the turns.
+// Numbers are decimal. Words that exclude or lack each other, and a bad version, have no request.
 const ASKED: &str = "\
 roam show --rows 2 --cols 8|show 2 8
 roam rows|rows

@@ -1,11 +1,11 @@
-//! What `roam world` prints: scripts with the answers that the rules ask for, and what becomes of a run that fails.
+//! The output of `roam world`: scripts with the answers of the rules, and the errors of a run.
 use crate::streams::{Cut, Narrow};
 use roam_faults::RunFault;
 use roam_world_run::run_world;
 use std::alloc::{AllocError, Global};
 use std::test::*;
 
-// Stories with an empty line between them: a name, and then a script, each of its lines after `> `, and below each what it prints.
+// Stories with an empty line between them: a name, and then a script, each of its lines after `> `, and below each its output.
 const STORIES: &str = "\
 a screen comes newest first, and an older one is old
 > session 1 4 8
@@ -320,7 +320,7 @@ fn push_line(text: &mut String, line: &str) -> Result<(), AllocError> {
     text.push('\n')
 }
 
-/// A script and what it prints.
+/// A script and its output.
 #[derive(Drop)]
 struct Told {
     script: String,
@@ -352,7 +352,7 @@ impl Told {
         Ok(())
     }
 
-    // Whether the script, in pieces of this size, prints its text.
+    // Returns true if the script, in pieces of this size, prints its text.
     fn is_printed(&self, alloc: Global, size: usize) -> bool {
         let mut out = Vec::new(alloc);
         let mut pieces = Cut::new(self.script.as_bytes(), size, size);
@@ -377,7 +377,7 @@ fn stories(rt: HostRuntime) {
     }
 }
 
-// Lines after `session 1 4 8` that end a run, each by itself; a bar stands behind each but the last.
+// Lines after `session 1 4 8` that end a run, each by itself; a bar is behind each but the last.
 const BAD: &str = "\
 face |
  face|
@@ -427,8 +427,7 @@ show 8|
 out 256|
 out";
 
-// Scripts that don't begin with a session, or with one that is refused: what they fail by, and a script; a bar stands behind each but the
-// last.
+// Scripts that don't begin with a session, or with a refused one: their error, and a script; a bar is behind each but the last.
 const STARTS: &str = "\
 line 1: bad event: face\nsession 1 4 8\n|
 line 3: bad event: \n#\nstick 0|
@@ -441,7 +440,7 @@ fn has_text(alloc: Global, fault: &RunFault, wanted: &str) -> bool {
     matches!(fault.to_string(alloc), Ok(text) if text.as_str() == wanted)
 }
 
-// Whether a script prints this much and fails by this.
+// Returns true if a script prints this much and has this error.
 fn fails(alloc: Global, script: &str, printed: &str, wanted: &str) -> bool {
     let mut out = Vec::new(alloc);
     match run_world(alloc, &mut script.as_bytes(), &mut out) {
@@ -450,7 +449,7 @@ fn fails(alloc: Global, script: &str, printed: &str, wanted: &str) -> bool {
     }
 }
 
-// Whether a line ends a run, in the second line and in the last.
+// Returns true if a line ends a run, in the second line and in the last.
 fn ends(alloc: Global, line: &str) -> Result<bool, AllocError> {
     let first = format!(in alloc; "session 1 4 8\n{line}\nface\n")?;
     let last = format!(in alloc; "session 1 4 8\n\n# two lines that are skipped\n{line}")?;
@@ -477,7 +476,7 @@ fn bad_lines_end_a_run(rt: HostRuntime) {
     }
 }
 
-// Adds a line with 341 requests for attributes and what is answered, so many times.
+// Appends a line with 341 requests for attributes and its output, so many times.
 fn add_requests(
     alloc: Global,
     told: &mut Told,
@@ -493,8 +492,8 @@ fn add_requests(
     told.add_times(line.as_str(), times)
 }
 
-// 20 pieces of 341 requests for attributes, each answered with 8 bytes, and 1,368 single ones leave 32 of 65,536 bytes free; a key of
-// F6 sends 5 bytes.
+// 20 pieces of 341 requests for attributes, each with an answer of 8 bytes, and 1,368 single ones leave 32 of 65,536 bytes free; a key of
+// F6 has 5 bytes.
 fn full_queue(alloc: Global) -> Result<bool, AllocError> {
     let mut told = Told::new(alloc);
     told.add_times("> session 1 4 8\nok", 1)?;

@@ -5,7 +5,7 @@ ghost use Rattle.std.specs.Prelude.{◌≡◌, ◌∷◌, [], IfSome};
 
 use roam_cells::{Cell, Ink};
 
-/// The cell of a character with an accent in an ink, or `None` where they make none.
+/// Returns the cell of a character with an accent in an ink; `None` if they make none.
 pub fn accented(letter: char, accent: char, ink: Ink) -> Option<Cell>
     ensures points { IfSome result (λ cell. cell.points ≡ letter ∷ accent ∷ []) }
 {

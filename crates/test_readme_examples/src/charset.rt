@@ -3,7 +3,8 @@
 // README: begin
 use roam_charset::{Charset, Element, Sets};
 
-/// What `qqq` prints on a VT220 after ESC ( 0, with SS2 before the second letter: the first and the third as special graphics.
+/// Returns the characters of `qqq` on a VT220 after ESC ( 0, with SS2 before the second letter: the first and the third as special
+/// graphics.
 pub fn drawn() -> [char; 3] {
     let mut sets = Sets::new();
     sets.designate(Element::G0, Charset::DecSpecialGraphics);

@@ -8,7 +8,7 @@ ghost use Rattle.roam_controls.specs.Commands.{command_of};
 use roam_controls::{Command, command_of};
 use roam_text::{Dispatch, Reader};
 
-/// What a dispatched function asks for, with what the reader lends.
+/// Returns the command of a dispatched function, with the parameters that the reader lends.
 pub fn requested(reader: &Reader, dispatch: Dispatch) -> Command
     ensures command { result ≡ command_of (function_of dispatch reader.now.parameters reader.now.intermediates) }
 {

@@ -8,7 +8,7 @@ use roam_stream_framing::Outbox;
 use roam_terminal_input::Showing;
 use std::alloc::Global;
 
-/// Returns what a front end is sent that shows this many rows and columns of a screen: their size, their place, and the painting.
+/// Returns the records of a front end that shows this many rows and columns of a screen: their size, their place, and the painting.
 pub fn told_of(alloc: Global, screen: &RowShot, rows: u16, cols: u16) -> Result<Outbox, Fault> {
     let mut waiting = Outbox::new(alloc);
     let mut display_state = DisplayState::new();

@@ -10,7 +10,7 @@ pub fn is_bad_size(ran: Result<(), RunFault>) -> bool {
     matches!(ran, Err(RunFault::Core(Fault::BadSize)))
 }
 
-/// What the run failed by is told on standard error.
+/// Prints the error of a run to standard error.
 pub fn main_ends(rt: &HostRuntime, ran: Result<(), RunFault>) -> ExitCode {
     end(rt, ran)
 }

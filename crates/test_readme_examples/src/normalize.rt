@@ -4,7 +4,7 @@
 use roam_normalize::Filter;
 use std::alloc::AllocError;
 
-/// How many bytes a terminal is fed for a piece of what a program wrote. Where there is no memory the piece may be given again.
+/// Returns how many bytes of a program's piece a terminal gets. If memory is refused, the piece may be given again.
 pub fn fed_for(filter: &mut Filter, piece: &[u8]) -> Result<usize, AllocError> {
     let out = filter.feed(piece)?;
     Ok(out.len())

@@ -5,7 +5,7 @@ use roam_hub::Client;
 use roam_outer_terminal::{Duplex, Silence, Taking, Terminal};
 use std::alloc::Global;
 
-/// A start with one terminal: its lines are taken, what the start shows is painted, and what waits is written. Whether it goes on.
+/// Runs a start with one terminal: takes its lines, paints the start's screen, and writes queued bytes. Returns true if it goes on.
 pub fn serve_one<S: Duplex + Drop>(
     alloc: Global,
     client: &mut Client,

@@ -7,7 +7,7 @@ use roam_overlay::Overlay;
 use roam_screens::{RowShot, Shown};
 use std::alloc::Global;
 
-/// What stands over a screen that is noted under a number once acts are typed there, the first under number 1; none is acknowledged.
+/// Returns the overlay over a screen noted under a number after acts are typed there, the first under number 1; none is acknowledged.
 pub fn laid_after(
     alloc: Global,
     number: u64,

@@ -6,7 +6,7 @@ use roam_paint::{open, paint};
 use roam_screens::Shot;
 use std::alloc::Global;
 
-/// What a terminal in any state is written so that it shows a screen.
+/// Returns the text with which a terminal in any state shows a screen.
 pub fn first_text(alloc: Global, screen: &Shot) -> Result<Vec<u8>, Fault> {
     let mut text = Vec::new(alloc);
     open(&mut text)?;

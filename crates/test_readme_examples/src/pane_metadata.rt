@@ -3,7 +3,7 @@
 // README: begin
 use roam_pane_metadata::{Metadata, Tracking};
 
-/// Whether a front end has to ask its outer terminal for the mouse, after one more piece of what the program in the pane in focus wrote.
+/// Returns true if a front end has to ask its outer terminal for the mouse, after one more piece of the program in the pane in focus.
 pub fn wants_the_mouse(metadata: &mut Metadata, piece: &[u8]) -> bool {
     metadata.feed(piece);
     !matches!(metadata.settings().tracking, Tracking::Off)

@@ -5,12 +5,12 @@ use roam_cells::Fault;
 use roam_pane_protocol::{Closing, ListedPane, PaneList, acts_for, lines_between, read_close};
 use std::alloc::Global;
 
-/// What a subscriber is told who knows nothing yet, of a session with one pane.
+/// Returns the lines of a new subscriber for a session with one pane.
 pub fn first_lines(alloc: Global) -> Result<String, Fault> {
     lines_between(alloc, &PaneList::unknown(), &one_pane())
 }
 
-/// What comes of a subscriber's line in that session; none where it isn't understood.
+/// Returns the result of a subscriber's line in that session; `None` for a bad line.
 pub fn answer_to(line: &[u8]) -> Option<Closing> {
     Some(acts_for(&one_pane(), &read_close(line)?))
 }

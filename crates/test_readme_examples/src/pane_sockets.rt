@@ -8,7 +8,7 @@ use std::alloc::Global;
 use std::fs::Files;
 use std::net::Net;
 
-/// The panes' sockets of a folder, the first of which has a pane, and what goes on to its terminal of what a program wrote there already.
+/// Returns the panes' sockets of a folder with one open pane, and the bytes that go on to its terminal from its program.
 pub fn first_pane<R: Files + Net>(
     rt: &R,
     alloc: Global,

@@ -9,8 +9,7 @@ use std::alloc::Global;
 use std::fs::Files;
 use std::net::Net;
 
-/// The socket of a folder for programs that follow the panes: those that wait there were told which panes there are, and what their lines
-/// ask for is done at this moment.
+/// Returns the socket of a folder for subscribers. Those that connected got the panes, and their requests are done at this moment.
 pub fn tell_who_waits<R: Files + Net>(
     rt: &R,
     alloc: Global,

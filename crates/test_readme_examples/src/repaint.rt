@@ -6,7 +6,7 @@ use roam_repaint::{Ending, push_repaint};
 use roam_screens::Shot;
 use std::alloc::Global;
 
-/// What paints a screen over another one, and leaves the default style and lines that wrap.
+/// Returns the text that paints a screen over another one, and leaves the default style and wrapping lines.
 pub fn text_over(alloc: Global, screen: &Shot) -> Result<Vec<u8>, Fault> {
     let mut text = Vec::new(alloc);
     let ending = Ending {

@@ -6,7 +6,7 @@ ghost use Rattle.std.specs.Prelude.{◌≡◌, IfSome};
 use roam_cells::{Cell, are_unguarded, is_well_formed};
 use roam_screens::Shot;
 
-/// The screen of 2 rows by 8 columns with these cells, or `None` where they make none.
+/// Returns the screen of 2 rows by 8 columns with these cells; `None` if they make none.
 pub fn screen_of(cells: Vec<Cell>) -> Option<Shot>
     ensures cells { IfSome result (λ shot. shot.cells ≡ cells.items) }
 {

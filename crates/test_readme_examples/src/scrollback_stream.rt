@@ -4,7 +4,7 @@
 use roam_scrollback_stream::{RowsFault, run_rows};
 use std::alloc::Global;
 
-/// What is told of the rows that leave for these records.
+/// Returns the rows that leave for these records.
 pub fn rows_of(alloc: Global, records: &[u8]) -> Result<Vec<u8>, RowsFault> {
     let mut input = records;
     let mut out = Vec::new(alloc);

@@ -11,7 +11,7 @@ use roam_screens::RowShot;
 use roam_session::Session;
 use std::alloc::Global;
 
-/// What a session shows after its first pane wrote `hi`.
+/// Returns the face of a session after its first pane wrote `hi`.
 pub fn greeted(alloc: Global, session: &mut Session) -> Result<RowShot, Fault>
     ensures face { IfOk result (λ shot. (size : SessionSize) (log : List Entry) → Stands session.new size log → shot ≡ face size log) }
 {

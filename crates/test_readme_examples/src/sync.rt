@@ -6,7 +6,7 @@ use roam_screens::RowShot;
 use roam_sync::{Receiver, Sender, Step};
 use std::alloc::Global;
 
-/// Whether a receiver has the newest screen of a sender once one instruction was delivered, and the sender knows it.
+/// Returns true if a receiver has the newest screen of a sender after one delivered instruction, and the sender knows it.
 pub fn is_brought_up(
     alloc: Global,
     sender: &mut Sender<RowShot>,

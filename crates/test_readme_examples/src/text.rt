@@ -3,7 +3,7 @@
 // README: begin
 use roam_text::{Dispatch, Dispatched, Reader};
 
-/// Whether what a byte completed asks for the place of the cursor: DSR, CSI 6 n (ECMA-48, 8.3.35).
+/// Returns true if a completed function asks for the place of the cursor: DSR, CSI 6 n (ECMA-48, 8.3.35).
 pub fn asks_for_the_cursor(reader: &Reader, dispatched: Dispatched) -> bool {
     match dispatched {
         Dispatched::Nothing => false,
@@ -20,7 +20,8 @@ pub fn asks_for_the_cursor(reader: &Reader, dispatched: Dispatched) -> bool {
     }
 }
 
-/// Whether a piece asks for the place of the cursor. It is read as a terminal reads it: printable ASCII in runs, the rest byte by byte.
+/// Returns true if a piece asks for the place of the cursor. It is read as a terminal reads it: printable ASCII in runs, the rest byte by
+/// byte.
 pub fn is_asked(reader: &mut Reader, piece: &[u8]) -> bool {
     let mut asked = false;
     let mut at = 0;

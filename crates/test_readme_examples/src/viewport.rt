@@ -6,7 +6,7 @@ use roam_screens::RowShot;
 use roam_viewport::{Part, part_of};
 use std::alloc::Global;
 
-/// What a terminal of so many rows and columns shows of a screen: the part with the cursor, which stood there before.
+/// Returns the part of a screen that a terminal of so many rows and columns shows: the part around the cursor, given the part before.
 pub fn shown_there(alloc: Global, screen: &RowShot, before: Part) -> Result<RowShot, Fault> {
     let part = before.followed(screen);
     part_of(alloc, screen, part, &[])

@@ -9,7 +9,7 @@ use roam_cells::Fault;
 use roam_wire::{Gathered, Gatherer, read_datagram};
 use std::alloc::Global;
 
-/// What the bytes of a datagram make of the instruction that is gathered. A refusal leaves the gatherer as it was.
+/// Gives the gatherer a datagram, and returns its answer. A refusal leaves the gatherer as it was.
 pub fn arrive(alloc: Global, gatherer: &mut Gatherer, bytes: &[u8]) -> Result<Gathered, Fault>
     ensures answer { (d : DatagramValue) → IsDatagram d → bytes.now ≡ datagram_text d
         → IfOk result (λ a. gather gatherer.old.current (fragment_of d) ≡ Some (answer_of a, gatherer.new.current)) }

@@ -4,7 +4,7 @@
 use roam_world_script::{Line, LineFault, is_skipped, read_line};
 use std::alloc::Global;
 
-/// What a line says, or none where it is empty or begins with `#`.
+/// Returns the value of a line; `None` if it is empty or begins with `#`.
 pub fn line_of(alloc: Global, text: &[u8]) -> Result<Option<Line>, LineFault> {
     if is_skipped(text) {
         return Ok(None);

@@ -44,7 +44,7 @@ fn is_whole_row(row: &[Cell]) -> bool
     row.is_empty() || is_well_formed(row, row.len())
 }
 
-// Pushes a row, or the front of one; nothing where it doesn't fit or is cut in a wide cell.
+// Pushes a row, or the front of one; nothing if it doesn't fit or ends in half a wide cell.
 fn push(history: &mut History, front: &[Cell]) {
     if front.len() <= history.cols() && is_whole_row(front) {
         if front.len() == history.cols() {
@@ -75,12 +75,12 @@ fn counted(alloc: Global, lines: usize, rows: usize) -> Result<History, Fault> {
     Ok(history)
 }
 
-// Whether a row shows these characters with these pens.
+// Returns true if a row shows these characters with these pens.
 fn shows(history: &History, i: usize, text: &str, pens: &str) -> bool {
     matches!(history.row(i), Some(row) if looks(row, text, pens))
 }
 
-// Whether the history has so many rows, with the numbers from one on, in 8 columns.
+// Returns true if the history has so many rows, with the numbers from one on, in 8 columns.
 fn counts(alloc: Global, history: &History, first: usize, len: usize) -> Result<bool, AllocError> {
     if history.len() != len || history.row(len).is_some() {
         return Ok(false);
@@ -95,8 +95,8 @@ fn counts(alloc: Global, history: &History, first: usize, len: usize) -> Result<
     Ok(true)
 }
 
-// The columns to which a history of one line of 8 columns comes, the length of its row in use then, and the fronts that were pushed: no
-// contract tells that, and a push and a copy cost it.
+// The new columns of a history of one line of 8 columns, the length of its row in use then, and the pushed fronts. No contract says this,
+// and it decides the cost of a push and a copy.
 const FRONTS: &str = "\
 front 8 3|abc
 front 8 2|abcdefgh,ab
@@ -105,9 +105,9 @@ front 8 0|abcdefgh,
 front 4 4|abcdef
 front 250 6|abcdef";
 
-// What a line says. `kept`: of so many lines and rows pushed, the number of the oldest that is kept, and how many are. `made` and
+// The kinds of lines. `kept`: of so many lines and pushed rows, the number of the oldest one that is kept, and how many are. `made` and
 // `refused`: lines and columns. `stays`: columns that are refused to a history, which stays as it was. `cut`: from how many columns to how
-// many; a row's characters and their pens; what it shows then, each column, a right half as `~`, and its pen. A pen is plain (0), bold (1),
+// many; a row's characters and their pens; the row then, each column, a right half as `~`, and its pen. A pen is plain (0), bold (1),
 // guarded (2) or both (3).
 const ROWS: &str = "\
 kept 0 0 1 0
@@ -208,7 +208,7 @@ fn full_of(alloc: Global, cols: usize, row: &[Cell]) -> Result<History, Fault> {
     Ok(history)
 }
 
-// Whether both rows show a text with its pens, in so many columns.
+// Returns true if both rows show a text with its pens, in so many columns.
 fn shows_both(history: &History, cols: usize, text: &str, pens: &str) -> bool {
     let sized = history.len() == 2 && history.cols() == cols && history.lines() == 2;
     sized && shows(history, 0, text, pens) && shows(history, 1, text, pens)
@@ -312,7 +312,7 @@ fn push_number(alloc: Global, history: &mut History, number: usize) -> bool {
     true
 }
 
-// Whether a history of four rows that takes three sizes goes on with a fifth.
+// Returns true if a history of four rows that takes three sizes goes on with a fifth.
 fn goes_on(alloc: Global, history: &mut History) -> bool {
     takes_a_size(alloc, history, 4)
         && takes_a_size(alloc, history, 500)
@@ -337,7 +337,7 @@ fn rows_go_on_after_a_size(rt: HostRuntime) {
     laws::all_were_refitted();
 }
 
-// Whether a history of two rows takes a size, or wants memory and stays.
+// Returns true if a history of two rows takes a size, or is unchanged if memory is refused.
 fn is_refitted_or_stays(alloc: Global, history: &mut History) -> bool {
     match history.refit(alloc, 4) {
         Ok(()) => history.cols() == 4 && history.len() == 2,

@@ -1,11 +1,11 @@
-//! Rows of cells: what each operation leaves, on rows as made and with the first row turned.
+//! Rows of cells: the effect of each operation, on new rows and with the first row turned.
 //!
-//! The cases are texts, since a table of text is proved at once, whatever its length. A case has a name, a line as
-//! `2 8: put 0 0 1 ab, insert 0 1 2` (rows, columns, and what is done to blank rows), and each row beside the pen of each column. Rows and
-//! columns count from 0, a right half is `~`, a pen is plain (0), bold (1), guarded (2) or both (3). `put` and `run` (printable ASCII at
-//! once) have row, column, pen and text behind them; `join` row, column and code point; `erase`, `insert` and `delete` the row, and then
-//! from, to, or column, count; `blank` from, to; `up` and `down` how many rows; `region-up` and `region-down` top, bottom, count; `size`
-//! rows, columns, and how many rows have left at the top.
+//! The cases are texts, since a table of text is proved at once, whatever its length. A case has a name, a line as `2 8: put 0 0 1 ab,
+//! insert 0 1 2` (rows, columns, and the operations on blank rows), and each row with the pen of each column. Rows and columns count from
+//! 0, a right half is `~`, a pen is plain (0), bold (1), guarded (2) or both (3). `put` and `run` (printable ASCII at once) have row,
+//! column, pen and text behind them; `join` has row, column and code point; `erase`, `insert` and `delete` have the row, and then from, to,
+//! or column, count; `blank` has from, to; `up` and `down` a number of rows; `region-up` and `region-down` top, bottom, count; `size` rows,
+//! columns, and the number of rows that left at the top.
 ghost use Rattle.std.specs.Prelude.{IsTrue};
 ghost use Rattle.roam_rows.specs.Writing.{ArePrintable};
 
@@ -33,7 +33,7 @@ fn style_of(pen: u8) -> Style {
     style
 }
 
-// Blank rows of a size; of two by four where it is out of the limits.
+// Returns blank rows of a size; of two by four if it is out of the limits.
 fn made(alloc: Global, rows: usize, cols: usize) -> Result<Ring, AllocError> {
     let (rows, cols) = (rows.min(999) as u16, cols.min(999) as u16);
     if is_size(rows, cols) {
@@ -43,7 +43,7 @@ fn made(alloc: Global, rows: usize, cols: usize) -> Result<Ring, AllocError> {
     }
 }
 
-// Memory for rows of a size; none where it is out of the limits.
+// Returns memory for rows of a size; `None` if it is out of the limits.
 fn fitted(alloc: Global, rows: usize, cols: usize) -> Option<Fitted> {
     let (rows, cols) = (rows.min(999) as u16, cols.min(999) as u16);
     if is_size(rows, cols) {
@@ -207,7 +207,7 @@ fn play(alloc: Global, ring: &mut Ring, acts: &str) -> bool {
     true
 }
 
-// What acts leave of blank rows.
+// The effect of operations on blank rows.
 const CASES: &str = "\
 a wide cell over two narrow ones
 2 8: put 0 0 0 abcd, put 0 1 1 \u{4E2D}
@@ -532,7 +532,7 @@ another size of rows that go round
 |     |00000|
 |e    |00000|";
 
-// Whether a row is that of a line, `|text|pens|`.
+// Returns true if a row is that of a line, `|text|pens|`.
 fn is_row(cells: &[Cell], line: &str) -> bool {
     let [_, text, pens, ..] = parts_of(line, '|');
     looks(cells, text, pens)
@@ -564,7 +564,7 @@ fn is_played(alloc: Global, size: &str, turned: usize, acts: &str, rows: &str) -
     }
 }
 
-// Whether a case holds on rows as they are made, and on rows that begin later in the buffer.
+// Returns true if a case is true on new rows, and on rows that begin later in the buffer.
 fn holds(alloc: Global, case: &str) -> bool {
     let (_, rest) = case.split_once('\n').unwrap_or((case, ""));
     let (line, rows) = rest.split_once('\n').unwrap_or((rest, ""));
@@ -579,8 +579,8 @@ fn acts_leave_their_rows(rt: HostRuntime) {
     }
 }
 
-// What is done to blank rows of 2 by 8: the length of the columns of the first row that are in use then, and what is done. No contract
-// tells that, and scrolls and erasures cost it.
+// The operations on blank rows of 2 by 8: the number of columns of the first row in use then, and the operations. No contract says this,
+// and it decides the cost of scrolls and erasures.
 const FRONTS: &str = "\
 front 0: up 0
 front 2: put 0 0 0 ab
@@ -597,7 +597,7 @@ front 3: run 1 0 0 abc, up 1
 front 0: run 0 0 0 abcdefgh, region-up 0 1 1
 front 5: run 0 0 0 abcdefgh, size 3 5 0";
 
-// What is put into a row; a column, and code points that join its character; and what stands in the row's columns then.
+// The text of a row; a column, and code points that join its character; and the row's columns then.
 const JOINS: &str = "\
 join ab|0|\u{301}|a\u{301}/b
 join \u{4E2D}b|1|\u{301}|\u{4E2D}\u{301}//b
@@ -614,7 +614,7 @@ fn is_cell(cell: &Cell, points: &str) -> bool {
     cell.chars().as_slice().iter().copied().eq(points.chars())
 }
 
-// Whether a row begins with cells of these code points.
+// Returns true if a row begins with cells of these code points.
 fn has_cells(row: &[Cell], wanted: &str) -> bool {
     let mut cells = row.iter();
     for points in wanted.split('/') {
@@ -626,7 +626,7 @@ fn has_cells(row: &[Cell], wanted: &str) -> bool {
     true
 }
 
-// Whether code points join so, and all becomes blank after.
+// Returns true if code points join so, and all becomes blank after.
 fn are_joined(ring: &mut Ring, text: &str, col: usize, points: &str, cells: &str) -> bool {
     put(ring, 1, 0, text, 3)
         && join(ring, 1, col, points)
@@ -657,7 +657,7 @@ fn is_line_on_blank(alloc: Global, line: &str) -> bool {
     }
 }
 
-// What is done to three rows, one after the other; where the first row begins then, and the buffer.
+// The operations on three rows, one after another; the place of the first row then, and the buffer.
 const ROUND: &str = "\
 put 0 0 0 a, put 1 0 0 b, put 2 0 0 c|0|a       b       c       
 up 1|1|        b       c       
@@ -674,7 +674,7 @@ fn goes_round(alloc: Global, ring: &mut Ring, line: &str) -> bool {
     play(alloc, ring, acts) && number(first) == Some(ring.first()) && reads(ring.buffer(), buffer)
 }
 
-// The first line after which the rows lie otherwise, or nothing.
+// Returns the first line after which the rows are in other places; empty if there is none.
 fn first_astray(alloc: Global, ring: &mut Ring) -> &'static str {
     for line in ROUND.lines() {
         if !goes_round(alloc, ring, line) {
@@ -707,7 +707,7 @@ fn code_points_join_and_the_first_row_goes_round(rt: HostRuntime) {
     assert!(rt; astray.is_empty(), "{astray}");
 }
 
-// Whether rows, and memory for rows, are made of a size.
+// Returns true if rows, and memory for rows, are made of a size.
 fn is_made(alloc: Global, rows: usize, cols: usize) -> bool {
     let size = (rows, cols);
     matches!(fitted(alloc, rows, cols), Some(fitted) if (fitted.rows(), fitted.cols()) == size)

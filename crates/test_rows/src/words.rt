@@ -55,12 +55,12 @@ fn first_of(cell: &Cell) -> char {
     }
 }
 
-/// Whether the columns of a row show these characters, a right half as `~`.
+/// Returns true if the columns of a row show these characters, a right half as `~`.
 pub fn reads(row: &[Cell], wanted: &str) -> bool {
     row.iter().map(|cell| first_of(cell)).eq(wanted.chars())
 }
 
-/// Whether they show these characters, each with its pen.
+/// Returns true if they show these characters, each with its pen.
 pub fn looks(row: &[Cell], wanted: &str, pens: &str) -> bool {
     reads(row, wanted) && row.iter().map(|cell| pen_of(cell)).eq(pens.chars())
 }

@@ -1,6 +1,6 @@
-//! What the painter writes that moves rows, for `roam_bench moved` to tell; and tests of it, by public calls alone.
+//! The paintings with moved rows, for `roam_bench moved`; and tests of them, by public calls alone.
 //!
-//! They lie here and not beside the code, since a crate with tests is proved twice by the gate.
+//! They have a crate of their own, since the gate proves a crate with tests twice.
 #![tactic(auto)]
 
 #[cfg(test)]
@@ -13,7 +13,7 @@ use roam_screens::RowShot;
 use roam_scroll_paint::paint_moved;
 use std::alloc::Global;
 
-/// What the painter that moves rows writes.
+/// Returns the painting with moved rows.
 pub fn moved(alloc: Global, old: &RowShot, new: &RowShot) -> Result<Vec<u8>, Fault> {
     let mut text = Vec::new(alloc);
     paint_moved(old, new, &mut text)?;

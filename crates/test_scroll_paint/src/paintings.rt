@@ -1,8 +1,8 @@
-//! Texts that move rows, and what terminals show that are led by them.
+//! Texts that move rows, and the screens of terminals after them.
 //!
-//! Tables are texts, a case after the other with an empty line between them. A case of `TEXTS` has a name, and in the next line the rows
-//! and columns of a terminal, what is written to it, what is written to another of that size, and the text between their screens, with
-//! bars between. A case of `PAIRS` has two terminals, with a bar between.
+//! Tables are texts, one case after another with an empty line between them. A case of `TEXTS` has a name, and in the next line the rows
+//! and columns of a terminal, its input, the input of another of that size, and the text between their screens, with bars between. A case
+//! of `PAIRS` has two terminals, with a bar between.
 use crate::uses::two_texts;
 use roam_cells::{Cell, Fault};
 use roam_paint::paint;
@@ -109,7 +109,7 @@ fn words(text: &str) -> (u16, u16, &str) {
     )
 }
 
-// The screen of a text such as `2 8 abc`: rows, columns, and what is written.
+// Returns the screen of a text such as `2 8 abc`: rows, columns, and the input.
 fn shown_by(alloc: Global, text: &str) -> Result<Shot, Fault> {
     let (rows, cols, input) = words(text);
     screen(alloc, rows, cols, input.as_bytes())
@@ -126,7 +126,7 @@ fn has_cell(shown: &Shot, screen: &Shot, row: u16, col: u16) -> bool {
     }
 }
 
-// Whether what is shown is a screen, with blanks outside it.
+// Returns true if the terminal's screen is the expected one, with blanks outside it.
 fn is_shown(shown: &Shot, screen: &Shot) -> bool {
     for row in 1..=shown.rows() {
         for col in 1..=shown.cols() {
@@ -138,12 +138,12 @@ fn is_shown(shown: &Shot, screen: &Shot) -> bool {
     shown.cursor() == screen.cursor() && shown.visible() == screen.visible()
 }
 
-// Whether a terminal shows a screen once a text was written to it.
+// Returns true if a terminal shows a screen after a text.
 fn shows_after(alloc: Global, term: &mut Term, text: &[u8], screen: &Shot) -> bool {
     term.feed(text).is_ok() && matches!(term.shot(alloc, 0), Ok(shown) if is_shown(&shown, screen))
 }
 
-// The text between two screens, behind `before`, where it is no longer than the one that leaves nothing out.
+// Returns the text between two screens, behind `before`, if it is no longer than the one that leaves nothing out.
 fn text_between(alloc: Global, old: &Shot, new: &Shot) -> Result<Vec<u8>, Fault> {
     let mut text = Vec::from_slice(alloc, b"before")?;
     paint_moved(old, new, &mut text)?;
@@ -172,7 +172,7 @@ fn last_but_one_starts_with(shown: &Shot, char: char) -> bool {
     }
 }
 
-// Whether the last row of a terminal is the one above it once an LF came there: its margins are full.
+// Returns true if an LF in the last row of a terminal moves it up: its margins are full.
 fn scrolls(alloc: Global, term: &mut Term) -> bool {
     term.feed(b"\x1B[999;1HZ\n").is_ok()
         && matches!(term.shot(alloc, 0), Ok(shown) if last_but_one_starts_with(&shown, 'Z'))
@@ -237,7 +237,7 @@ fn texts(rt: HostRuntime) {
     }
 }
 
-// Whether a text is painted behind what stands there; where memory is refused nothing is added, and the same call then adds it.
+// Returns true if a text is appended; if memory is refused nothing is added, and the same call then adds it.
 fn is_painted_or_kept(old: &Shot, new: &Shot, out: &mut Vec<u8>, text: &str) -> bool {
     let before = out.len();
     if paint_moved(old, new, out).is_err()
@@ -256,7 +256,7 @@ fn is_painted_or_nothing(alloc: Global) -> Result<bool, Fault> {
     Ok(is_painted_or_kept(&old, &new, &mut out, text))
 }
 
-// To be run with each of its allocations refused in turn, too. What the values themselves have no memory for ends it.
+// This test also runs with each of its allocations refused in turn. It ends if there is no memory for the values themselves.
 #[test]
 fn refused_memory_paints_nothing(rt: HostRuntime) {
     match is_painted_or_nothing(rt.alloc()) {

@@ -7,7 +7,7 @@ use roam_screens::Shot;
 use roam_scroll_paint::paint_moved;
 use std::alloc::Global;
 
-/// What a terminal in any state is written so that it shows one screen and then another.
+/// Returns the text with which a terminal in any state shows one screen and then another.
 pub fn two_texts(alloc: Global, first: &Shot, second: &Shot) -> Result<Vec<u8>, Fault> {
     let blank = Shot::blank(alloc, first.rows(), first.cols())?;
     let mut text = Vec::new(alloc);

@@ -1,5 +1,5 @@
-//! Calls that take no memory: each test makes its values, and a second test of the same name with `called` at its end makes them and calls
-//! them too. `tools/count_memory` runs both and sees that they ask for memory as often; the gate sees that each call succeeds.
+//! Calls that take no memory. Each test makes its values, and a second test of the same name with `called` at its end makes and calls them.
+//! `tools/count_memory` runs both and checks that they ask for memory equally often; the gate checks that each call succeeds.
 
 use roam_acts::{Act, ActSender, ActTaker, Key, read_act};
 use roam_cells::Fault;
@@ -26,10 +26,10 @@ static WHOLE: &str =
 /// Characters that are cut short, and bytes that are none.
 static BROKEN: &[u8] = b"\xE4\xB8\xF0\x9F\x80\xFF\xC0";
 
-/// What is broken of control functions.
+/// Broken control functions.
 static ENDS: &str = "\x1B[12\x1B[1:2C\x1B[ p\x1Bc\x1B[?7l end of the last column, and beyond";
 
-// Feeds all pieces, and takes what they answer.
+// Feeds all pieces, and takes their answers.
 fn feed_all(term: &mut Term) -> Result<(), Fault> {
     let mut out = [0; 512];
     for piece in [WHOLE.as_bytes(), BROKEN, ENDS.as_bytes()] {
@@ -72,7 +72,7 @@ fn is_term(alloc: Global, called: bool) -> bool {
     }
 }
 
-// Bytes of a pane, keys, what waits, marks, generations.
+// Calls the bytes of a pane, keys, queued bytes, marks and generations.
 fn call_panes(session: &mut Session) -> Result<bool, Fault> {
     let mut out = [0; 64];
     for piece in [WHOLE.as_bytes(), BROKEN, ENDS.as_bytes()] {
@@ -127,7 +127,7 @@ fn is_server(alloc: Global, called: bool) -> bool {
     }
 }
 
-// Whether the acts of these lines are read, and in range.
+// Returns true if the acts of these lines are read, and in range.
 fn are_read(lines: &[&str]) -> bool {
     for line in lines {
         if !matches!(read_act(line.as_bytes()), Ok(act) if act.in_range()) {
@@ -160,7 +160,7 @@ fn are_acts(alloc: Global, called: bool) -> bool {
     type_two(&mut sender).is_ok() && (!called || call_acts(&mut sender))
 }
 
-// A sender's moments and what is acknowledged to it.
+// Calls a sender's moments and its acknowledgements.
 fn call_sender(sender: &mut Sender<RowShot>) -> bool {
     let is_due = sender.due(0);
     sender.sent(0);
@@ -227,7 +227,7 @@ fn is_gatherer(alloc: Global, called: bool) -> bool {
     }
 }
 
-// Whether all values are made, and do what they are called for.
+// Returns true if all values are made and their calls give the expected results.
 fn are_right(alloc: Global, called: bool) -> bool {
     is_term(alloc, called)
         && is_session(alloc, called)

@@ -1,7 +1,7 @@
-//! Tests of the session, and of a world of server and client starts round it, by their public calls alone; and of calls that take no
+//! Tests of the session, and of a world of server and client starts around it, by their public calls alone; and of calls that take no
 //! memory.
 //!
-//! They lie here and not beside the code, since a crate with tests is proved twice by the gate.
+//! They have a crate of their own, since the gate proves a crate with tests twice.
 #![tactic(auto)]
 
 #[cfg(test)]

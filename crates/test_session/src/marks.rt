@@ -1,7 +1,7 @@
-//! Marks: which rows may show something else than in the face that was kept, and the face that is made of it.
+//! Marks: the rows that may differ from the kept face, and the face made from it.
 //!
-//! With ample memory nothing is refused here. Where one allocation is refused, all but the last face is asked once more: so as many
-//! refusals make `a_byte_marks_its_row_alone` fail as that face has growths, where one row of a hundred is marked.
+//! With ample memory nothing is refused here. If one allocation is refused, each face but the last is asked for once more. So
+//! `a_byte_marks_its_row_alone` fails once for each growth of the last face, of which one row of a hundred is marked.
 use crate::requests::{are_marked, first_wrong, keep};
 use roam_cells::Fault;
 use roam_session::Session;
@@ -185,7 +185,7 @@ fn named_rows_are_marked(rt: HostRuntime) {
     assert_eq!(rt; first_wrong(rt.alloc(), MARKS), None);
 }
 
-// A session of 100 by 250, made once more where memory was refused.
+// Returns a session of 100 by 250, made once more if memory was refused.
 fn large(alloc: Global) -> Result<Session, Fault> {
     match Session::new(alloc, 100, 250) {
         Err(Fault::OutOfMemory) => Session::new(alloc, 100, 250),

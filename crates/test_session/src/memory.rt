@@ -12,7 +12,7 @@ use roam_session::Session;
 use std::alloc::Global;
 use std::test::*;
 
-/// An act that is refused or done, and what is asked of the session before it.
+/// An act, refused or done, and the calls of the session before it.
 const CASES: [(&str, &str); 3] = [
     ("split right", "bytes 1 1␛[6n"),
     ("close", "split down\nbytes 1 1␛[6n\nbytes 2 2␛[6n"),
@@ -28,7 +28,7 @@ fn made_once(alloc: Global, lines: &str) -> Option<Session> {
     }
 }
 
-/// A session of 24 by 80 of which these lines were asked, once more where memory was refused.
+/// Returns a session of 24 by 80 after these lines, made once more if memory was refused.
 pub fn made(alloc: Global, lines: &str) -> Option<Session> {
     match made_once(alloc, lines) {
         None => made_once(alloc, lines),
@@ -36,7 +36,7 @@ pub fn made(alloc: Global, lines: &str) -> Option<Session> {
     }
 }
 
-/// The face of a session, asked for once more where memory was refused.
+/// Returns the face of a session, asked for once more if memory was refused.
 pub fn face_of(alloc: Global, session: &Session) -> Result<RowShot, Fault>
     ensures now { IfOk result (λ shot. shot ≡ face_now session.now) }
 {
@@ -50,7 +50,7 @@ fn shows(alloc: Global, session: &Session, before: &RowShot) -> bool {
     matches!(face_of(alloc, session), Ok(face) if is_same_screen(&face, before))
 }
 
-// Does an act, once more where it was refused; whether a refusal left what the session shows.
+// Does an act, once more if it was refused, and returns true if a refusal left the face as it was.
 fn is_whole_or_nothing(alloc: Global, session: &mut Session, line: &str) -> bool {
     let Ok(before) = face_of(alloc, session) else {
         return false;
@@ -59,7 +59,7 @@ fn is_whole_or_nothing(alloc: Global, session: &mut Session, line: &str) -> bool
         || shows(alloc, session, &before) && act(alloc, session, line).is_ok()
 }
 
-// Whether the same bytes wait in a pane of two sessions.
+// Returns true if the same bytes are queued in a pane of two sessions.
 fn waits_alike(one: &Session, other: &Session, pane: u8) -> bool {
     let mut bytes = [0; 64];
     let mut others = [0; 64];

@@ -1,4 +1,4 @@
-//! Events, each with its reply, and what is shown in the end.
+//! Events, each with its reply, and the screens at the end.
 ghost use Rattle.std.specs.Prelude.{◌≤◌, IfOk, OnOk};
 ghost use Rattle.std.specs.List.{All};
 ghost use Rattle.roam_simulation.specs.Events.{IsHandedIn};
@@ -13,9 +13,9 @@ use roam_wire::Version;
 use std::alloc::Global;
 use std::test::*;
 
-/// Each event done, and each refused, in a session of 4 by 8, with its bytes and its act spelled out. Datagrams come to the server from
-/// ports of one host. Those that the server sends at 20 go to the earlier start in the slot 0 and to the later one; then a watcher comes
-/// beside them, and one that would be of version 1.
+/// Each event done, and each refused, in a session of 4 by 8, with its bytes and its act spelled out. Datagrams reach the server from ports
+/// of one host. Those that it sends at 20 go to the earlier start in slot 0 and to the later one. Then a read-only start joins them, and
+/// one of version 1 is refused.
 const EVENTS: &str = "\
 start 0 161: done
 start 1 161: refused
@@ -129,7 +129,7 @@ fn numbers_event(verb: &str, row: [u64; 3]) -> Result<Event, Fault>
     }
 }
 
-// How many numbers stand behind a verb.
+// Returns how many numbers follow a verb.
 fn count_of(verb: &str) -> usize
     ensures most { result ≤ 3 }
 {
@@ -173,7 +173,7 @@ fn event_of(alloc: Global, words: &str) -> Result<Event, Fault>
     }
 }
 
-// Whether a reply is a word with these numbers.
+// Returns true if a reply is a word with these numbers.
 fn has_numbers(told: &str, word: &str, numbers: &[u64]) -> bool {
     let (verb, rest) = halves(told, " ");
     let mut row = [0; 2];
@@ -196,7 +196,7 @@ fn is_told(reply: Reply, told: &str) -> bool {
     }
 }
 
-// Whether an event is answered so.
+// Returns true if an event has this reply.
 fn is_answered(alloc: Global, world: &mut World, line: &str) -> bool {
     let (words, told) = halves(line, ": ");
     match event_of(alloc, words) {
@@ -229,7 +229,7 @@ fn add_event(alloc: Global, events: &mut Vec<Event>, words: &str) -> Result<(), 
     Ok(())
 }
 
-// The events of lines, in each of which a reply may stand behind `: `.
+// Returns the events of lines, each with an optional reply behind `: `.
 fn events_of(alloc: Global, lines: &str) -> Result<Vec<Event>, Fault>
     ensures handed_in { IfOk result (λ events. All IsHandedIn events.items) }
 {
@@ -247,7 +247,7 @@ fn is_row<S: Seen>(alloc: Global, shot: &S, row: u16, text: &str) -> bool {
     matches!(row_text(alloc, shot, row), Ok(points) if points.iter().copied().eq(text.chars()))
 }
 
-// Whether a screen has these rows, and its cursor, which is shown, in the first row and this column, from 1.
+// Returns true if a screen has these rows, and its cursor is visible in the first row at this column, from 1.
 fn is_shown<S: Seen>(alloc: Global, shot: &S, rows: &str, col: u16) -> bool {
     let mut row = 0;
     for text in rows.lines() {
@@ -259,7 +259,7 @@ fn is_shown<S: Seen>(alloc: Global, shot: &S, rows: &str, col: u16) -> bool {
     row == shot.rows() && shot.cursor() == (1, col) && shot.visible()
 }
 
-/// What is shown in the end: its number, its rows, and the cursor's column in the first of them, from 1.
+/// The screen at the end: its number, its rows, and the cursor's column in the first of them, from 1.
 struct Ending {
     number: u64,
     rows: &'static str,
@@ -278,7 +278,7 @@ const OF_LETTERS: Ending = Ending {
     col: 4,
 };
 
-// Whether the start in slot 0 shows this ending, as the server does, and no slot from 2 on has a start.
+// Returns true if the start in slot 0 shows this ending, as the server does, and no slot from 2 on has a start.
 fn shows(alloc: Global, world: &World, ending: &Ending) -> bool {
     let Some(client) = world.client(0) else {
         return false;
@@ -291,7 +291,7 @@ fn shows(alloc: Global, world: &World, ending: &Ending) -> bool {
         && matches!(world.server().face(alloc), Ok(face) if is_shown(alloc, &face, ending.rows, ending.col))
 }
 
-// What a world of so many rows, in which all happened at once, shows; or why there is none.
+// Returns the result of a world of so many rows after all events, or the reason for none.
 fn run_word(alloc: Global, rows: u16, events: &[Event], ending: &Ending) -> &'static str
     requires handed_in { All IsHandedIn events.now }
 {

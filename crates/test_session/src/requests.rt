@@ -1,13 +1,13 @@
-//! What is asked of sessions, as text, and what is so then.
+//! The requests to sessions, as text, and their results.
 //!
-//! A case is a name, a session's size, and a line for what is asked of it: `bytes PANE TEXT` (`nothing` for no byte); `long PANE a`, a
-//! piece of 1,025 letters; `drain PANE COUNT`, at most as many as wait; or an act; `times COUNT` before one asks it so often. One that is
-//! to be refused has the refusal before it, as `no pane: drain 2 0`. `kept` keeps the face, before which all rows are marked. Other lines
-//! tell what is so: `waits PANE |TEXT|`, `room PANE COUNT` and `length PANE COUNT` of its bytes that wait; `none PANE`, that there is
-//! none; `generations`, the generations of the panes from 1 on; `marked`, the rows that are marked, from 1; `digits`, that each pane of
-//! nine shows its number. Behind `shows` come rows of the face from the first, whose blanks at the end may be left out, the cursor, and its
-//! `extent`. A size that is refused has the refusal in its place. Control characters and spaces at the end are written as their pictures
-//! (U+2400 to U+2420).
+//! A case is a name, a session's size, and a line for each request. `bytes PANE TEXT` feeds text (`nothing` for no byte); `long PANE a`
+//! feeds 1,025 letters; `drain PANE COUNT` takes at most as many bytes as are queued; any other line is an act; `times COUNT` before one
+//! repeats it. A refusal comes before its request, as `no pane: drain 2 0`. `kept` keeps the face, before which all rows are marked.
+//!
+//! Other lines check the state: `waits PANE |TEXT|`, `room PANE COUNT` and `length PANE COUNT` of its queued bytes; `none PANE`;
+//! `generations`, those of the panes from 1 on; `marked`, the marked rows, from 1; `digits`, that each of nine panes shows its number.
+//! Behind `shows` follow rows of the face from the first, without the blanks at their ends, the cursor, and its `extent`. A refused size
+//! has the refusal in its place. Control characters and spaces at the end are written as their pictures (U+2400 to U+2420).
 use crate::memory::face_of;
 use crate::words::{bytes_of, halves, reads_numbers, short, word_of};
 use roam_acts::read_act;
@@ -16,7 +16,7 @@ use roam_screens::{RowShot, Seen};
 use roam_session::Session;
 use std::alloc::Global;
 
-/// Does an act, which is told as its line.
+/// Does an act, given as its line.
 pub fn act(alloc: Global, session: &mut Session, line: &str) -> Result<(), Fault> {
     let act = read_act(line.as_bytes())?;
     session.act(alloc, 0xA1, &act)
@@ -52,7 +52,7 @@ fn answer(alloc: Global, session: &mut Session, words: &str) -> Result<(), Fault
     }
 }
 
-// Whether a request is done, or refused as it says.
+// Returns true if a request is done, or refused as it says.
 fn is_asked(alloc: Global, session: &mut Session, line: &str) -> bool {
     let (name, words) = line.split_once(": ").unwrap_or(("", line));
     match answer(alloc, session, words) {
@@ -82,7 +82,7 @@ fn waits(session: &Session, pane: u8, bytes: &[u8]) -> bool {
         && session.room(pane) == Some(65_536_usize.saturating_sub(bytes.len()))
 }
 
-// Whether these bytes wait, `PANE |TEXT|`.
+// Returns true if these bytes are queued, `PANE |TEXT|`.
 fn waits_by(alloc: Global, session: &Session, words: &str) -> bool {
     if let Some((pane, text)) = words.split_once(" |")
         && let Ok(pane) = pane.parse::<u8>()
@@ -94,7 +94,7 @@ fn waits_by(alloc: Global, session: &Session, words: &str) -> bool {
     false
 }
 
-// Whether there is no such pane, in which nothing waits.
+// Returns true if there is no such pane, and no queue.
 fn is_none(session: &Session, pane: u8) -> bool {
     session.output(pane, &mut [0; 64]) == Err(Fault::NoPane)
         && session.output_len(pane).is_none()
@@ -111,7 +111,7 @@ fn live(session: &Session, words: &str) -> bool {
     true
 }
 
-/// Whether just the rows of these numbers are marked.
+/// Returns true if exactly the rows of these numbers are marked.
 pub fn are_marked(session: &Session, rows: &str) -> bool {
     let mut words = rows.split_whitespace();
     for (k, on) in session.marks().iter().enumerate() {
@@ -142,7 +142,7 @@ fn has_each_digit_once(shot: &RowShot) -> bool {
     true
 }
 
-// Whether a number of a pane is this one, `PANE COUNT`.
+// Returns true if a number of a pane is this one, `PANE COUNT`.
 fn has_number(session: &Session, verb: &str, words: &str) -> bool {
     let mut row = [0; 2];
     if !reads_numbers(words, &mut row) {
@@ -156,7 +156,7 @@ fn has_number(session: &Session, verb: &str, words: &str) -> bool {
     number == Some(row[1] as usize)
 }
 
-// Whether something is so, where the verb asks that.
+// Returns the result of a check, if the verb is one.
 fn is_so(alloc: Global, session: &Session, verb: &str, words: &str) -> Option<bool> {
     match verb {
         "waits" => Some(waits_by(alloc, session, words)),
@@ -169,7 +169,7 @@ fn is_so(alloc: Global, session: &Session, verb: &str, words: &str) -> Option<bo
     }
 }
 
-/// Whether all rows are marked; the face is kept.
+/// Returns true if all rows are marked, and keeps the face.
 pub fn keep(alloc: Global, session: &mut Session) -> bool {
     let all = session.marks().iter().all(|on| *on);
     match face_of(alloc, session) {
@@ -191,7 +191,7 @@ fn does(alloc: Global, session: &mut Session, line: &str) -> bool {
     }
 }
 
-/// Whether lines go so one after another; it ends at the first that doesn't. Where nothing is kept, nothing is asked of marks.
+/// Returns true if all lines pass, up to the first that doesn't. If nothing is kept, no marks are checked.
 pub fn does_all(alloc: Global, session: &mut Session, lines: &str, keeps: bool) -> bool {
     for line in lines.lines() {
         let is_skipped = !keeps && (line == "kept" || line.starts_with("marked"));
@@ -202,7 +202,7 @@ pub fn does_all(alloc: Global, session: &mut Session, lines: &str, keeps: bool) 
     true
 }
 
-// Whether a row shows a text, and blanks behind it.
+// Returns true if a row shows a text, and blanks behind it.
 fn is_text(points: &[char], text: &str) -> bool {
     let mut left = points.iter().copied();
     for c in text.chars() {
@@ -239,7 +239,7 @@ fn has_extent(shot: &RowShot, words: &str) -> bool {
     reads_numbers(words, &mut row) && (shot.rows(), shot.cols()) == (short(row[0]), short(row[1]))
 }
 
-// A line of what is shown, which is the face's row of that number where it is one.
+// Returns true if a line of the face passes: a row of that number, or a check.
 fn is_shown(alloc: Global, session: &Session, shot: &RowShot, number: usize, line: &str) -> bool {
     if let Some(text) = line.strip_prefix('|') {
         return match text.strip_suffix('|') {
@@ -264,7 +264,7 @@ fn all_shown(alloc: Global, session: &Session, shot: &RowShot, lines: &str) -> b
     true
 }
 
-/// Whether two faces show the same.
+/// Returns true if two faces are equal.
 pub fn is_same_screen(one: &RowShot, other: &RowShot) -> bool {
     if one.rows() != other.rows() || one.cols() != other.cols() {
         return false;
@@ -285,7 +285,7 @@ fn session_of(alloc: Global, size: &str) -> Result<Session, Fault> {
     Session::new(alloc, short(row[0]), short(row[1]))
 }
 
-// Whether a session that never keeps its face shows the same.
+// Returns true if a session that never keeps its face shows the same.
 fn is_as_whole(alloc: Global, shot: &RowShot, size: &str, lines: &str) -> bool {
     match session_of(alloc, size) {
         Ok(mut session) => does_all(alloc, &mut session, lines, false)
@@ -294,7 +294,7 @@ fn is_as_whole(alloc: Global, shot: &RowShot, size: &str, lines: &str) -> bool {
     }
 }
 
-// Whether a case's lines go so, and what is shown then is what it says.
+// Returns true if a case's lines pass, and the face is the expected one then.
 fn goes(alloc: Global, session: &mut Session, size: &str, lines: &str, wanted: &str) -> bool {
     if !does_all(alloc, session, lines, true) {
         return false;

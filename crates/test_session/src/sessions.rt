@@ -1,11 +1,11 @@
-//! Sessions: what acts, bytes and drains make of the face and of the bytes that wait.
+//! Sessions: the effect of acts, bytes and drains on the face and on the queued bytes.
 use crate::memory::made;
 use crate::requests::{does_all, first_wrong, is_same_screen};
 use roam_session::Session;
 use std::alloc::Global;
 use std::test::*;
 
-// The cases of keys are what they send under DECCKM, DECKPAM and LNM of the pane in focus.
+// The cases of keys have their bytes under DECCKM, DECKPAM and LNM of the pane in focus.
 const SESSIONS: &str = r##"A new session has one pane.
 4 17
 shows
@@ -266,7 +266,7 @@ fn sessions_show_what_was_asked(rt: HostRuntime) {
     assert_eq!(rt; first_wrong(rt.alloc(), SESSIONS), None);
 }
 
-/// What makes nine panes of 24 by 80, the program of each of which writes its number and asks for the cursor.
+/// The lines for nine panes in 24 by 80, the program of each of which writes its number and asks for the cursor.
 pub const NINE: &str = "\
 split right
 split down
@@ -290,7 +290,7 @@ bytes 7 7␛[6n
 bytes 8 8␛[6n
 bytes 9 9␛[6n";
 
-// What is asked of them: each shows its number at all sizes, and is drained in two parts.
+// The requests to them: each shows its number at all sizes, and is drained in two parts.
 const SIZED: &str = "\
 panes full: split down
 digits
@@ -348,7 +348,7 @@ waits 9 |1;2R|
 drain 9 4
 waits 9 ||";
 
-// Whether a session shows at the end what it showed first.
+// Returns true if a session has its first face at the end.
 fn goes_up_and_down(alloc: Global, session: &mut Session) -> bool {
     let Ok(first) = session.face(alloc) else {
         return false;

@@ -26,7 +26,7 @@ fn are(acts: &[Act], text: &str) -> bool {
     left.is_empty()
 }
 
-/// Whether a datagram has just these acts.
+/// Returns true if a datagram has exactly these acts.
 pub fn has(alloc: Global, datagram: &[u8], text: &str) -> bool {
     match up_of(alloc, datagram) {
         Some(up) => are(&up.acts, text),

@@ -1,4 +1,4 @@
-//! Whole runs of a start whose terminal comes to a door in memory, where nobody answers.
+//! Whole runs of a start whose terminal connects to a door in memory, without a server.
 use roam_hub::{Addr, Client};
 use roam_outer_terminal::{End, Opaque};
 use roam_shared_client::{Door, Listening, SharedClient, run_shared};
@@ -42,8 +42,8 @@ impl<'a> Write for TypedStream<'a> {
     }
 }
 
-/// A door in memory: who comes, whether the server has ended, and how often and how many milliseconds was rested there. Its clock goes on
-/// while it rests, as long as may be.
+/// A door in memory: its terminal, whether the server has ended, and how often and how many milliseconds the start rested. Its clock goes
+/// on by the whole rest.
 #[derive(Drop)]
 struct MemoryDoor<'a> {
     ports: MemoryPorts,
@@ -104,8 +104,8 @@ impl<'a> Door<Opaque<TypedStream<'a>>> for MemoryDoor<'a> {
     }
 }
 
-/// A run: what the terminal types, or that none comes; whether the server has ended; how many rounds there are at most; how it ends, how
-/// often and how long it rested, and how many acts were typed.
+/// A run: the typed text, or no terminal; whether the server has ended; the most rounds; the expected end, the number and length of rests,
+/// and the number of typed acts.
 struct Run {
     text: Option<&'static str>,
     has_ended: bool,
@@ -117,7 +117,7 @@ struct Run {
 }
 
 impl Run {
-    // Whether it goes so.
+    // Returns true if the run goes as expected.
     fn is_so(&self, alloc: Global) -> Result<bool, Fail> {
         let mut shared = SharedClient::new(alloc, Client::new(alloc, 1, 0xA1)?);
         let mut door = Listening::new(MemoryDoor {
@@ -134,8 +134,9 @@ impl Run {
     }
 }
 
-/// Where nobody comes, and where somebody types: there is no rest behind a line that was taken, and ten milliseconds where the rounds are
-/// counted. One asks for the end, which nobody acknowledges: it goes on for a second. The server has ended: that is seen behind the round.
+/// No terminal connects; and a terminal types: there is no rest after a line that was taken, and ten milliseconds if the rounds are
+/// counted. One asks for the end, which no server acknowledges: the start goes on for a second. The server has ended: the round after that
+/// ends the run.
 const RUNS: [Run; 4] = [
     Run {
         text: None,

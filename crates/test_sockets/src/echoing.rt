@@ -1,4 +1,4 @@
-//! A server in memory, whose pane's program writes what it reads, for a client start over ports in memory.
+//! A server in memory, whose pane's program writes back its input, for a client start over ports in memory.
 use roam_hub::{Addr, Server};
 use roam_turns::memory::RecordedCall;
 use roam_turns::{MemoryPorts, serve_turn};
@@ -28,7 +28,7 @@ pub struct Echoing {
     sent: usize,
 }
 
-// Carries the datagrams that went since so many calls, and tells how many calls there are.
+// Carries the datagrams sent since so many calls, and returns the number of calls.
 fn carry(from: &MemoryPorts, seen: usize, by: Addr, to: &mut MemoryPorts) -> Result<usize, Fail> {
     for call in from.told().iter().skip(seen) {
         if let RecordedCall::Sent(_, bytes, true) = call {
@@ -38,7 +38,7 @@ fn carry(from: &MemoryPorts, seen: usize, by: Addr, to: &mut MemoryPorts) -> Res
     Ok(from.told().len())
 }
 
-// What the program of pane 1 was handed since so many calls.
+// Returns the bytes that the program of pane 1 got since so many calls.
 fn handed(alloc: Global, ports: &MemoryPorts, seen: usize) -> Result<Vec<u8>, Fail> {
     let mut all = Vec::new(alloc);
     for call in ports.told().iter().skip(seen) {
@@ -68,7 +68,8 @@ impl Echoing {
         start.set_moment(moment);
     }
 
-    /// Two turns of the server, between which its program writes what it read, with the start's datagrams before and the server's behind.
+    /// Takes two turns of the server, with the start's datagrams before and the server's behind. Between them its program writes back its
+    /// input.
     pub fn meet(&mut self, alloc: Global, start: &mut MemoryPorts) -> Result<(), Fail> {
         self.moment = self.moment.saturating_add(TURN);
         start.set_moment(self.moment);

@@ -1,8 +1,8 @@
-//! What stands in a folder, as text.
+//! The files of a folder, as text.
 //!
-//! `folder PATH` and `file PATH` make one, `link PATH` one to a socket `p2` beside it, `remove PATH` removes a file; `there PATH` and
-//! `gone PATH` see whether there is one; `bound FOLDER` binds the sockets of a server there, and leaves their files; `refused FOLDER` may
-//! not bind them, `-` being a folder without a name.
+//! `folder PATH` and `file PATH` make one, `link PATH` makes one to a socket `p2` beside it, and `remove PATH` removes a file. `there PATH`
+//! and `gone PATH` check that there is one or none. `bound FOLDER` binds the sockets of a server there, and leaves their files. `refused
+//! FOLDER` can't bind them; `-` is a folder without a name.
 use roam_faults::RunFault;
 use roam_serve::{OwnStart, ServerPorts};
 use roam_sockets::Moments;
@@ -60,7 +60,7 @@ fn is_made(rt: &HostRuntime, what: &str, path: &str) -> Result<bool, Fail> {
     Ok(true)
 }
 
-/// Whether files are made, removed or seen so.
+/// Returns true if files are made, removed or found as a line says.
 pub fn is_so(rt: &HostRuntime, words: &str) -> Result<bool, Fail> {
     let Some((what, path)) = words.split_once(' ') else {
         return Ok(false);

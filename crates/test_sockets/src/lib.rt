@@ -1,6 +1,6 @@
 //! Tests of the ports over real sockets, of `roam serve` and of `roam attach`, on one machine.
 //!
-//! They lie here and not beside the code, since a crate with tests is proved twice by the gate.
+//! They have a crate of their own, since the gate proves a crate with tests twice.
 #![tactic(auto)]
 
 #[cfg(test)]

@@ -1,9 +1,9 @@
 //! Both programs in one process: a server with panes' programs at Unix sockets, and a client start, over UDP on loopback or over a stream.
 //!
-//! What happens is text: `first` or `second`, a pane's program, and what it does; `turns MOMENT`, one turn of each end; `types MOMENT ACT,
-//! ACT`: both are typed, and the server takes them in one turn; `pane N`, which is there; `meets`: within a thousand turns the start shows
-//! the `a` that the first program wrote, and that one reads a typed `b`; `closes`: forty times a second pane is split off, and closed for
-//! the first program, which follows the panes.
+//! The events are text. `first` or `second` is a pane's program, with its action. `turns MOMENT` is one turn of each end. `types MOMENT
+//! ACT, ACT`: both are typed, and the server takes them in one turn. `pane N` checks that it is open. `meets`: within a thousand turns the
+//! start shows the `a` of the first program, and that program reads a typed `b`. `closes`: forty times a second pane is split off, and
+//! closed for the first program, a subscriber.
 ghost use Rattle.std.specs.Prelude.{◌<◌, IfOk, IfSome};
 ghost use Rattle.roam_acts.specs.Acts.{IsInRange};
 ghost use Rattle.roam_turns.specs.Painting.{IsBehind};
@@ -28,7 +28,7 @@ pub struct ServerEnd<'a> {
     ports: ServerPorts<&'a HostRuntime>,
 }
 
-/// A client start with its ports, where its server is, and what its terminal shows.
+/// A client start with its ports, its server's address, and the screen of its terminal.
 #[derive(Drop)]
 struct StartEnd<'a> {
     client: Client,
@@ -85,7 +85,7 @@ impl<'a> ServerEnd<'a> {
         })
     }
 
-    // Who follows the panes is told those that are there, and does what it asks for.
+    // Sends the subscribers the open panes, and does their requests.
     fn tells(&mut self) {
         let mut panes = PaneList::unknown();
         for pane in 1..10u8 {
@@ -145,7 +145,8 @@ impl<'a> Meeting<'a> {
         self.turns(alloc, moment, Some(second)) && is_taken
     }
 
-    // Within a thousand turns, 10 ms apart, the start shows what the first program wrote, and that one reads what is typed there.
+    // Returns true if, within a thousand turns of 10 ms, the start shows the first program's output, and that program reads the typed
+    // input.
     fn meets(&mut self, alloc: Global, programs: &mut Programs) -> bool
         requires behind { IsBehind self.old.start.outer self.old.start.client.kept.receiver.newest.number
             self.old.start.client.kept.receiver.newest.state }
@@ -341,7 +342,7 @@ fn meeting_of<'a>(rt: &'a HostRuntime, folder: &str, is_stream: bool) -> Result<
     })
 }
 
-// The first line that isn't so where the two ends meet in a folder, which is made, by UDP or over a stream.
+// Returns the first failing line of both ends in a new folder, over UDP or over a stream.
 fn first_wrong<'t>(
     rt: &HostRuntime,
     folder: &str,
@@ -356,8 +357,8 @@ fn first_wrong<'t>(
     undone
 }
 
-/// By UDP, or over a stream, the first program fills a screen of 97 fragments, more than go over UDP at one moment or than a socket of
-/// loopback holds, by DECALN.
+/// Over UDP, or over a stream, the first program fills a screen of 97 fragments by DECALN. That is more than go over UDP at one moment, or
+/// than fit into a loopback socket.
 const BY_UDP: &str = "\
 types 0 size 60 240, next
 first connects udp/p1
@@ -387,7 +388,7 @@ second writes c
 turns 40
 second waits";
 
-/// As many closes as a program asks for, one after another: each answer is heard, so that none stands before the next.
+/// The most closes that a program asks for, one after another: each answer is heard, so no close waits for the one before.
 const CLOSES: &str = "\
 first connects closes/panes
 closes";

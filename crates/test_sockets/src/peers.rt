@@ -1,14 +1,16 @@
-//! The sockets of a server, as text: what its ports and two programs do, and what stands in its folder.
+//! The sockets of a server, as text: the actions of its ports and of two programs, and the files of its folder.
 //!
-//! A line begins with `first` or `second`, one of the programs, with what it does; with `files`, with what is seen of them; with `pane` and
-//! its number: `generations N` or `goes`, `gives TEXT` or `gives nothing`, `takes TEXT` or `takes nothing of TEXT`; with `told`, panes 1
-//! and 2, each with its generation, its first row and its rows or `none`, of which a program that follows them is told (pane 2 is in focus
-//! where it is there), and how many client starts edit and watch, where that is known; with `beside` and a moment, at which what stands
-//! beside the panes' terminals is told; with `clips` and a moment, at which texts for the clipboard are, or with `asks` and one, at which
-//! questions are; with `moment N is M`: where a clock tells N, the moment is M.
-//! `wait ends` where something came before 20 seconds have passed, `wait lasts` where nothing comes, 50 milliseconds, `wait passes`,
-//! whatever comes. `files are removed` by the ports. `start asks ACT, ACT` or `is quiet`: a datagram of the server's own start comes, with
-//! these acts, or none.
+//! A line begins with its subject. `first` or `second` is one of the programs, with its action. `files` checks files. `pane` and a number
+//! take `generations N` or `goes`, `gives TEXT` or `gives nothing`, `takes TEXT` or `takes nothing of TEXT`.
+//!
+//! `told` sends subscribers panes 1 and 2, each with its generation, its first row and its rows, or `none`; pane 2 has the focus if it is
+//! open. Behind them are the numbers of client starts that edit and that are read-only, if they are known. `beside` and a moment sends
+//! metadata, `clips` and a moment sends clips, and `asks` and a moment sends questions. `moment N is M`: if a clock gives N, the moment is
+//! M.
+//!
+//! `wait ends`: input arrives before 20 seconds have passed. `wait lasts`: none arrives within 50 milliseconds. `wait passes` takes either.
+//! `files are removed` by the ports. `start asks ACT, ACT` or `is quiet`: a datagram of the server's own start arrives with these acts, or
+//! none does.
 use crate::acts::has;
 use crate::files::{first_untrue, is_so, ports_for};
 use crate::programs::Programs;
@@ -20,7 +22,7 @@ use std::alloc::Global;
 use std::test::*;
 use std::time::Instant;
 
-/// How many milliseconds a wait lasts that nothing ends, where it is to end and where it isn't.
+/// The longest wait in milliseconds that is to end early, and of one that isn't.
 const LONG: u64 = 20_000;
 
 const SHORT: u64 = 50;
@@ -89,7 +91,7 @@ fn pane_of(words: &str) -> Option<Option<ListedPane>> {
     }))
 }
 
-/// Pane 1, and pane 2 where it is there, which is in focus then.
+/// Returns pane 1, and pane 2 if it is open, which has the focus then.
 fn panes(first: Option<ListedPane>, second: Option<ListedPane>) -> PaneList {
     let mut panes = PaneList::unknown();
     panes.set(1, first);
@@ -106,7 +108,7 @@ fn counted(panes: &mut PaneList, words: &str) -> Option<()> {
     Some(())
 }
 
-/// What is so of a session, as a line says it.
+/// Returns the panes of a session, as a line gives them.
 fn list_of(words: &str) -> Option<PaneList> {
     let (first, rest) = words.split_once(", ")?;
     let (second, counts) = rest.split_once(", ").unwrap_or((rest, ""));
@@ -120,7 +122,8 @@ fn list_of(words: &str) -> Option<PaneList> {
 fn is_told(alloc: Global, ports: &mut ServerPorts<&HostRuntime>, words: &str) -> bool {
     match list_of(words) {
         Some(panes) => {
-            // As between the turns of a run that bring nothing: the second waits, and those who came meanwhile are taken.
+            // Two rests, as between the turns of a run without input: the second waits, and the programs that connected meanwhile are
+            // accepted.
             ports.rest(Some(0));
             ports.rest(Some(0));
             ports.tell_panes(&panes);
@@ -130,7 +133,7 @@ fn is_told(alloc: Global, ports: &mut ServerPorts<&HostRuntime>, words: &str) ->
     }
 }
 
-// Whether a datagram of the server's own start is the first that comes, with these acts.
+// Returns true if the next datagram of the server's own start has these acts.
 fn asks(alloc: Global, ports: &mut ServerPorts<&HostRuntime>, acts: &str) -> bool {
     let mut buf = [0u8; 2048];
     match ports.receive(&mut buf) {
@@ -153,28 +156,28 @@ fn is_now(ports: &mut ServerPorts<&HostRuntime>, words: &str) -> bool {
     }
 }
 
-// At this moment what stands beside the panes' terminals is told.
+// Sends metadata at this moment.
 fn is_metadata(ports: &mut ServerPorts<&HostRuntime>, words: &str) -> bool {
     let is_moment = is_now(ports, words);
     ports.tell_metadata();
     is_moment
 }
 
-// At this moment texts for the clipboard are told.
+// Sends clips at this moment.
 fn are_clips(ports: &mut ServerPorts<&HostRuntime>, words: &str) -> bool {
     let is_moment = is_now(ports, words);
     ports.tell_clips();
     is_moment
 }
 
-// At this moment what the panes' programs ask is told.
+// Sends questions of the panes' programs at this moment.
 fn are_queries(ports: &mut ServerPorts<&HostRuntime>, words: &str) -> bool {
     let is_moment = is_now(ports, words);
     ports.tell_queries();
     is_moment
 }
 
-// Whether it is one moment where a clock tells another.
+// Returns true if the moment is the expected one, given the clock's.
 fn is_moment(ports: &mut ServerPorts<&HostRuntime>, words: &str) -> bool {
     let (told, is) = words.split_once(" is ").unwrap_or((words, ""));
     match (told.parse::<u64>(), is.parse::<u64>()) {
@@ -186,7 +189,7 @@ fn is_moment(ports: &mut ServerPorts<&HostRuntime>, words: &str) -> bool {
     }
 }
 
-// Whether a wait ends or lasts; long before twenty seconds on the busiest machine, and no time makes one shorter that lasts.
+// Returns true if a wait ends early or lasts. Twenty seconds are enough on the busiest machine, and no load shortens a wait that lasts.
 fn is_wait(
     rt: &HostRuntime,
     ports: &mut ServerPorts<&HostRuntime>,
@@ -259,7 +262,7 @@ fn first_undone<'a>(
     Ok(None)
 }
 
-// The ports in a folder, of a server whose panes' bytes go on as they are meant where `as normalized` stands behind it.
+// Returns the ports in a folder; the bytes of panes are normalized if the line ends with `as normalized`.
 fn ports_of<'a>(
     rt: &'a HostRuntime,
     words: &str,
@@ -270,7 +273,7 @@ fn ports_of<'a>(
     }
 }
 
-// The first line that isn't so of a story: of files alone, or, behind a line `ports FOLDER`, or one with `as normalized`, of the sockets
+// Returns the first failing line of a story: of files alone, or, behind a line `ports FOLDER` or one with `as normalized`, of the sockets
 // there too.
 fn first_wrong<'a>(rt: &HostRuntime, story: &'a str) -> Result<Option<&'a str>, Fail> {
     let (ready, rest) = story.split_once("\nports ").unwrap_or((story, ""));
@@ -296,50 +299,48 @@ fn first_wrong_of<'a>(rt: &HostRuntime, stories: &'a str) -> Result<Option<&'a s
 
 /// A folder without a name.
 ///
-/// A plain file, a folder and a link to a socket to which nobody listens: none is removed.
+/// A plain file, a folder, and a link to a socket without a listener: none is removed.
 ///
-/// Files of a server that is gone, before they are bound again; while these are in use nothing of theirs is removed.
+/// Files of a server that is gone, before they are bound again; while they are in use none is removed.
 ///
-/// The program of pane 2: the pane isn't there, and the program is handed nothing; it is there as it was; another of its number is there,
-/// and what the first program wrote is never read.
+/// The program of pane 2. The pane isn't open, and the program gets nothing; the pane stays in its generation; another generation opens,
+/// and no output of the first program is read.
 ///
-/// One peer at a time: that the first program left is read before what the second wrote. Those that left before they were taken are let go
-/// at once.
+/// One peer at a time: the end of the first program is read before the output of the second. Those that left before they were accepted are
+/// dropped at once.
 ///
-/// Bytes as they are meant: whole, cut, more of them than the buffer has room for; what is held back of one generation never comes in
-/// another.
+/// Normalized bytes: whole, cut, and more of them than fit into the buffer; bytes kept back of one generation never appear in another.
 ///
-/// A program follows the panes: one pane, two, one of them sized and the other moved, closed and made anew in one turn, closed; and how
-/// many client starts there are.
+/// A subscriber: one pane, two, one of them sized and the other moved, closed and opened again in one turn, closed; and the number of
+/// client starts.
 ///
-/// What stands beside a pane's terminal is told to who asked for it: as it is, and then what is new, each 20 ms at most, and bells once a
-/// second at most; of another generation of the pane what is new in it.
+/// A pane's metadata for a subscriber that asked: as it is, then the news, at most every 20 ms, and bells at most once a second; of another
+/// generation only the news.
 ///
-/// Texts for the clipboard are told to who asked for them, the newest, once a second at most: none that was said before, and none for a
-/// question; of another generation of the pane those of it.
+/// Clips for a subscriber that asked: the newest, at most once a second; none that was sent before, and none for a question; of another
+/// generation its own.
 ///
-/// They are told beside the rest, in either order; who didn't ask for them is told what he was, and so is the pty host.
+/// Clips beside the rest, in either order. A subscriber that didn't ask for them gets the same as before, and so does the pty host.
 ///
-/// What a pane's program asks of its terminal is told to who asked for that, at once, as it comes: none that was asked before, each once
-/// and in its order; of another generation of the pane what is asked in it.
+/// Questions of a pane's program for a subscriber that asked, at once: none that was asked before, each once and in order; of another
+/// generation its own.
 ///
-/// Frames, where bytes go as they are meant: one is held together until it ends, or for 150 ms; what comes before it isn't held, nor what
-/// comes behind one that was held for so long; one that begins within another is no other. Of one for which there is no room at once its
-/// beginning goes alone, and the moment stands still until its end goes, 50 ms at most. Of another generation of the pane none is left.
+/// Synchronized updates with normalized bytes. One is kept back until it ends, or for 150 ms; bytes before it aren't, nor bytes behind one
+/// that was kept back for so long; one that begins within another is no new one. If there is no room for one, its beginning goes on alone,
+/// and the moment is kept until its end does, for at most 50 ms. Nothing is left of it for another generation of the pane.
 ///
-/// Programs follow and close. Two are told each what is new for it; a line that asks for no close, for one of a pane that is gone, or of
-/// the last pane; of two closes the second waits until a turn was taken with the first, and a pane that is still there then may be closed
-/// again. What a start asks for stands behind what wasn't acknowledged, and a start that was let go takes that with it.
+/// Subscribers close panes. Two get the news each. A line may ask for no close, or for one of a pane that is gone, or of the last pane. Of
+/// two closes the second waits until a turn took the first, and a pane that is still open then may be closed again. The acts of a start
+/// follow the unacknowledged ones, and a dropped start takes them with it.
 ///
-/// A program says that it is the pty host, and then another one: the first is let go, and the second is told what is new.
+/// A program declares that it is the pty host, and then another one does: the first is disconnected, and the second gets the news.
 ///
-/// Sixty-three programs follow the panes, beside whom a place is the pty host's: another one is told and let go, but if it is the pty host;
-/// one that comes when 65 are there isn't told anything.
+/// There are sixty-three subscribers, and one more place is the pty host's. Another program gets the panes and is disconnected, unless it
+/// is the pty host; one that connects while 65 are there gets nothing.
 ///
-/// Ninety-six client starts are there, and another one is let go.
+/// Ninety-six client starts are there, and another one is disconnected.
 ///
-/// A wait ends where a pane's program comes, where it takes something, where it writes, where a program comes to follow the panes, and so
-/// with that; it lasts where nothing comes.
+/// A wait ends if a pane's program connects, accepts bytes, or writes, and if a subscriber connects; it lasts if nothing happens.
 const STORIES: &str = "\
 refused -
 

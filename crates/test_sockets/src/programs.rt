@@ -1,16 +1,16 @@
-//! What a program does at a socket, as text.
+//! The actions of a program at a socket, as text.
 //!
-//! `connects PATH` and `leaves`; `writes TEXT`; `types TEXT`, in which `/` is written as the end of a line; `reads TEXT`, just that, where
-//! `/` stands for the end of a line; `sees TEXT`: it reads something in which that stands; `waits`: it is neither let go nor told anything;
-//! `is let go`: there is nothing more for it to read, or what it wrote last was never read; `is let go unread`: what it wrote last was
-//! never read; `fills N`: it writes so many blanks. `others N PATH`: so many programs more connect there, and stay until `others leave`.
+//! `connects PATH` and `leaves`; `writes TEXT`; `types TEXT`, with `/` for LF; `reads TEXT`, exactly that, with `/` for LF; `sees TEXT`: it
+//! reads bytes with that text in them; `waits`: it is connected and gets nothing; `is let go`: there are no more bytes for it, or its last
+//! bytes were never read; `is let go unread`: its last bytes were never read; `fills N`: it writes so many blanks. `others N PATH`: so many
+//! other programs connect there, and stay until `others leave`.
 use mio::net::UnixStream;
 use std::alloc::Global;
 use std::io::{ErrorKind, Read, Write};
 use std::str::from_utf8;
 use std::test::*;
 
-/// Two programs, where they are connected, and others that do nothing.
+/// Two programs, if they are connected, and others that do nothing.
 #[derive(Drop)]
 pub struct Programs {
     first: Option<UnixStream>,
@@ -18,7 +18,7 @@ pub struct Programs {
     others: Vec<UnixStream>,
 }
 
-/// Whether bytes are this text, in which `/` stands for the end of a line.
+/// Returns true if bytes are this text, with `/` for LF.
 pub fn are(bytes: &[u8], text: &str) -> bool {
     let ends = bytes
         .iter()
@@ -34,7 +34,7 @@ fn reads(program: &mut UnixStream, text: &str) -> bool {
     }
 }
 
-// Reads all that is there, in which a text is to stand.
+// Reads all available bytes, and returns true if a text is in them.
 fn sees(program: &mut UnixStream, text: &str) -> bool {
     let mut buf = [0u8; 4096];
     match program.read(&mut buf) {
@@ -50,7 +50,7 @@ fn waits(program: &mut UnixStream) -> bool {
     }
 }
 
-// A program was let go; where all that it wrote was read, it reads the end.
+// Returns true if a program was disconnected; it reads the end if all of its bytes were read.
 fn is_let_go(program: &mut UnixStream, may_be_read: bool) -> bool {
     match program.read(&mut [0u8; 16]) {
         Ok(count) => may_be_read && count == 0,
@@ -80,7 +80,7 @@ fn fills(program: &mut UnixStream, count: &str) -> bool {
     }
 }
 
-// Writes a text, in which `/` stands for the end of a line.
+// Writes a text, with `/` for LF.
 fn types(program: &mut UnixStream, text: &str) -> bool {
     for byte in text.as_bytes() {
         let byte = if *byte == b'/' { b'\n' } else { *byte };
@@ -106,7 +106,7 @@ fn writes_or_reads(program: &mut UnixStream, words: &str) -> bool {
     }
 }
 
-// Whether a program that is connected does this.
+// Returns true if a connected program does this.
 fn is_done(program: &mut UnixStream, words: &str) -> bool {
     match words {
         "waits" => waits(program),
@@ -116,7 +116,7 @@ fn is_done(program: &mut UnixStream, words: &str) -> bool {
     }
 }
 
-// Whether a program does this.
+// Returns true if a program does this.
 fn is_done_by(rt: &HostRuntime, program: &mut Option<UnixStream>, words: &str) -> bool {
     if words == "leaves" {
         *program = None;
@@ -166,7 +166,7 @@ impl Programs {
         true
     }
 
-    /// Whether the first or the second program, or others, do this; what none is named by is not done.
+    /// Returns true if the first or the second program, or the others, do this; false for any other name.
     pub fn does(&mut self, rt: &HostRuntime, who: &str, words: &str) -> bool {
         match who {
             "first" => is_done_by(rt, &mut self.first, words),
@@ -182,7 +182,7 @@ impl Programs {
         true
     }
 
-    /// Whether the first program writes this.
+    /// Returns true if the first program writes this.
     pub fn first_writes(&mut self, text: &str) -> bool {
         match &mut self.first {
             Some(program) => writes(program, text),
@@ -190,7 +190,7 @@ impl Programs {
         }
     }
 
-    /// Whether the first program reads this byte alone.
+    /// Returns true if the first program reads exactly this byte.
     pub fn first_reads(&mut self, byte: u8) -> bool {
         let mut buf = [0u8; 16];
         match &mut self.first {

@@ -1,8 +1,8 @@
-//! What is printed of how a run ended, and of why one was refused, as text.
+//! The messages about the end of a run and about a refusal, as text.
 //!
-//! A line is what is told of, a path, a folder, and what is printed: `terminals` can't be bound at the path; `clients` can't be reached in
-//! the folder; `file` and `socket` of acts can't be read at the path, and `session` in the folder, nor can it by a `watcher`, who reads no
-//! acts; `sockets` of a server can't be bound in the folder, or, `alone`, in one that is to be the user's alone.
+//! A line has a subject, a path, a folder, and the message. `terminals` can't be bound at the path; `clients` can't be reached in the
+//! folder; `file` and `socket` of acts can't be read at the path. `session` can't be read in the folder, nor by a `watcher`, which reads no
+//! acts. `sockets` of a server can't be bound in the folder, or, `alone`, in one that has to be private.
 use crate::scenes::Scene;
 use crate::systems::System;
 use roam_attach::{Attach, Home, Typed, tell_end, tell_failed};
@@ -17,7 +17,7 @@ fn system_of<'a>(rt: &'a HostRuntime) -> System<'a> {
     System::new(rt, Scene::new(rt.alloc(), "", None, None))
 }
 
-// Whether a text is just this line.
+// Returns true if a text is exactly this line.
 fn is_line(said: &str, line: &str) -> bool {
     match said.strip_suffix('\n') {
         Some(said) => said == line,
@@ -25,7 +25,7 @@ fn is_line(said: &str, line: &str) -> bool {
     }
 }
 
-// Whether just this was printed, a line of it.
+// Returns true if exactly this line was printed.
 fn has_said(system: System<'_>, line: &str) -> bool {
     let scene = system.scene();
     let is_said = is_line(scene.said(), line);
@@ -33,7 +33,7 @@ fn has_said(system: System<'_>, line: &str) -> bool {
     is_said
 }
 
-// Whether nothing was printed.
+// Returns true if nothing was printed.
 fn is_silent(system: System<'_>) -> bool {
     let scene = system.scene();
     let is_silent = scene.said().is_empty();
@@ -55,7 +55,7 @@ fn is_end_told(rt: &HostRuntime, end: End, line: &str) -> bool {
     has_said(system, line)
 }
 
-/// Whether each end of a run is told.
+/// Returns true if each end of a run has its message.
 pub fn are_ends_told(rt: &HostRuntime) -> bool {
     is_end_told(rt, End::Heard, "[the turns are over]")
         && is_end_told(
@@ -103,7 +103,7 @@ fn is_unbound(rt: &HostRuntime, folder: &str, port: Option<u16>, line: &str) -> 
     has_said(system, line)
 }
 
-// Whether a line is printed so.
+// Returns true if the message is this line.
 fn is_printed(rt: &HostRuntime, what: &str, path: &str, folder: &str, line: &str) -> bool {
     match what {
         "terminals" => is_failed(
@@ -135,7 +135,7 @@ fn is_told(rt: &HostRuntime, words: &str) -> bool {
     false
 }
 
-/// Whether it is told that a port is bound by somebody else.
+/// Returns true if the message says that the port is in use.
 pub fn is_port_told(rt: &HostRuntime, port: Option<u16>) -> Result<bool, Fail> {
     let number = port.unwrap_or(0);
     let line = format!(in rt.alloc();
@@ -144,7 +144,7 @@ pub fn is_port_told(rt: &HostRuntime, port: Option<u16>) -> Result<bool, Fail> {
     Ok(is_unbound(rt, "second", port, line.as_str()))
 }
 
-/// Whether a run at a port that was asked for, where it is free, prints nothing.
+/// Returns true if a run at a free port that was asked for prints nothing.
 pub fn is_asked_port_untold(rt: &HostRuntime, port: Option<u16>) -> bool {
     let serve = Serve {
         folder: "second",
@@ -159,7 +159,7 @@ pub fn is_asked_port_untold(rt: &HostRuntime, port: Option<u16>) -> bool {
     ended.is_err() || is_silent
 }
 
-/// Whether a run in a folder takes no turn, since the session's id can't be written there.
+/// Returns true if a run takes no turn in a folder in which the session's id can't be written.
 pub fn is_unserved(rt: &HostRuntime, folder: &str) -> bool {
     let line = "there unwritten/p1";
     let serve = Serve {

@@ -1,15 +1,16 @@
-//! Runs of `roam serve` and `roam attach`, as text: what ends them, and what stays.
+//! Runs of `roam serve` and `roam attach`, as text: their ends, and the files that stay.
 //!
-//! `folder PATH`, `closed PATH`, which the user alone may enter, `open PATH`, which their group may, and `passed PATH`, which others may
-//! pass, make a folder; `theirs PATH` one of another user, which isn't served, where this one may give it away; `link PATH` makes one
-//! to `own` beside it; `file PATH TEXT`, in which `/` stands for the end of a line; `remove PATH` removes a file. A line that ends with
-//! `well`, with what was heard, or with the fault, is a run that ends so: `serves FOLDER` of `serve` at any free port, `serves alone
-//! FOLDER` without one, `serves taken FOLDER` at one that is bound; `types PATH` of `attach` that types the acts of a file where nobody
-//! answers, `types socket PATH` and `types terminals PATH` of one whose acts come over a socket, or from terminals that come to one;
-//! `watches 3` of one that only watches and takes so many turns, `watches HOW PATH` of one that is told what types, `file`, `socket` or
-//! `terminals`; `follows FOLDER` of one that reaches its server there, `follows bound FOLDER` while the sockets there are bound; `hears
-//! TEXT` of one that types the lines of a stream where nobody answers. Behind `types` and `watches` stands `closed` where the outer
-//! terminal is closed, `unflushed` where it doesn't hand on what it takes, and `unread` where what is painted goes where nobody reads.
+//! `folder PATH`, `closed PATH`, which only the user can enter, `open PATH`, which their group can, and `passed PATH`, which others can
+//! pass, make a folder. `theirs PATH` makes one of another user, which isn't served, if this user can give it away. `link PATH` makes one
+//! to `own` beside it. `file PATH TEXT` makes a file, with `/` for LF, and `remove PATH` removes one.
+//!
+//! A line that ends with `well`, with what was heard, or with an error, is a run with this end. `serves FOLDER` is `serve` at any free
+//! port, `serves alone FOLDER` without one, and `serves taken FOLDER` at one in use. `types PATH` is an `attach` that types the acts of a
+//! file without a server. `types socket PATH` and `types terminals PATH` take the acts of a socket, or of terminals. `watches 3` is a
+//! read-only start with so many turns, and `watches HOW PATH` one with a source of acts, `file`, `socket` or `terminals`. `follows FOLDER`
+//! reaches its server there, and `follows bound FOLDER` while the sockets there are bound. `hears TEXT` types the lines of a stream without
+//! a server. Behind `types` and `watches`, `closed` is a closed outer terminal, `unflushed` one that doesn't flush, and `unread` painted
+//! bytes that nobody reads.
 use crate::files::{first_untrue, ports_in};
 use crate::reasons::{
     are_ends_told, first_untold, is_asked_port_untold, is_port_told, is_unserved,
@@ -61,7 +62,7 @@ fn is_fault(fault: RunFault, word: &str) -> bool {
     }
 }
 
-// Whether a run of `serve` in a folder, at a port or without one, ends so.
+// Returns true if a run of `serve` in a folder, with or without a port, has this end.
 fn serves(rt: &HostRuntime, folder: &str, port: Option<u16>, word: &str) -> bool {
     let serve = Serve {
         folder,
@@ -76,7 +77,7 @@ fn serves(rt: &HostRuntime, folder: &str, port: Option<u16>, word: &str) -> bool
     }
 }
 
-// Whether one at a port that is bound ends so.
+// Returns true if one at a port in use has this end.
 fn serves_taken(rt: &HostRuntime, folder: &str, word: &str) -> Result<bool, Fail> {
     let bound = ports_in(rt, "first")?;
     Ok(serves(rt, folder, bound.port(), word))
@@ -97,12 +98,12 @@ fn is_end(ended: Result<End, RunFault>, word: &str) -> bool {
     }
 }
 
-// Whether a run of `attach` ends so.
+// Returns true if a run of `attach` has this end.
 fn attaches<W: Write + Drop>(rt: &HostRuntime, attach: &Attach<'_>, outer: W, word: &str) -> bool {
     is_end(run_attach(rt, attach, outer), word)
 }
 
-/// A run of `attach` where nobody answers.
+/// Returns a run of `attach` without a server.
 fn unanswered(typed: Typed<'_>, turns: u64) -> Attach<'_> {
     Attach {
         home: Home::Port(9),
@@ -116,7 +117,7 @@ fn unanswered(typed: Typed<'_>, turns: u64) -> Attach<'_> {
     }
 }
 
-// What types, named so, at a path.
+// Returns the source of acts of this name at a path.
 fn typed_by<'a>(how: &str, path: &'a str) -> Typed<'a> {
     match how {
         "socket" => Typed::Socket(path),
@@ -135,7 +136,7 @@ fn types(rt: &HostRuntime, words: &str, word: &str) -> bool {
     }
 }
 
-// The bytes of a text, in which `/` stands for the end of a line.
+// Returns the bytes of a text, with `/` for LF.
 fn lines_of(alloc: Global, text: &str) -> Result<Vec<u8>, AllocError> {
     let mut bytes = Vec::new(alloc);
     for byte in text.as_bytes() {
@@ -144,7 +145,7 @@ fn lines_of(alloc: Global, text: &str) -> Result<Vec<u8>, AllocError> {
     Ok(bytes)
 }
 
-// Whether a run that types the lines of a stream, where nobody answers, ends so.
+// Returns true if a run that types the lines of a stream without a server has this end.
 fn hears(rt: &HostRuntime, text: &str, word: &str) -> Result<bool, Fail> {
     let lines = lines_of(rt.alloc(), text)?;
     let attach = unanswered(Typed::Nothing, 3);
@@ -158,7 +159,7 @@ fn hears(rt: &HostRuntime, text: &str, word: &str) -> Result<bool, Fail> {
     Ok(is_end(ended, word))
 }
 
-/// A run that only watches, and paints where somebody reads or not.
+/// Returns a read-only run that paints to a descriptor or not.
 fn watching<'a>(turns: u64, painted_to: Option<RawFd>) -> Attach<'a> {
     Attach {
         watches: true,
@@ -167,7 +168,7 @@ fn watching<'a>(turns: u64, painted_to: Option<RawFd>) -> Attach<'a> {
     }
 }
 
-// Whether a run of turns that take a quarter of an hour, and whose bytes go where nobody reads, ends so.
+// Returns true if a run with turns for a quarter of an hour, whose painted bytes nobody reads, has this end.
 fn watches_unread(rt: &HostRuntime, turns: u64, word: &str) -> Result<bool, Fail> {
     let (reader, writer) = pipe(rt)?;
     drop(reader);
@@ -175,7 +176,7 @@ fn watches_unread(rt: &HostRuntime, turns: u64, word: &str) -> Result<bool, Fail
     Ok(attaches(rt, &unread, Vec::new(rt.alloc()), word))
 }
 
-// Whether a run that only watches, though it is told what types, ends so.
+// Returns true if a read-only run with a source of acts has this end.
 fn watches_for(rt: &HostRuntime, words: &str, word: &str) -> bool {
     match words.split_once(' ') {
         Some((how, path)) => {
@@ -203,7 +204,7 @@ fn watches(rt: &HostRuntime, words: &str, word: &str) -> Result<bool, Fail> {
     }
 }
 
-// Whether a run that reaches its server in a folder ends so.
+// Returns true if a run that reaches its server in a folder has this end.
 fn follows(rt: &HostRuntime, folder: &str, word: &str) -> bool {
     let attach = Attach {
         home: Home::Folder(folder),
@@ -223,7 +224,7 @@ fn follows_so(rt: &HostRuntime, words: &str, word: &str) -> Result<bool, Fail> {
     }
 }
 
-// Whether a run ends so; the last word says how.
+// Returns true if a run has the end that the last word gives.
 fn is_run(rt: &HostRuntime, verb: &str, words: &str) -> Result<bool, Fail> {
     let Some((words, word)) = words.rsplit_once(' ') else {
         return Ok(false);
@@ -238,7 +239,7 @@ fn is_run(rt: &HostRuntime, verb: &str, words: &str) -> Result<bool, Fail> {
     }
 }
 
-// Writes a text, in which `/` stands for the end of a line, to a file.
+// Writes a text to a file, with `/` for LF.
 fn written(rt: &HostRuntime, words: &str) -> Result<bool, Fail> {
     let Some((path, text)) = words.split_once(' ') else {
         return Ok(false);
@@ -247,14 +248,14 @@ fn written(rt: &HostRuntime, words: &str) -> Result<bool, Fail> {
     Ok(true)
 }
 
-// Whether a folder of another user's isn't served; only who may do all can give one away.
+// Returns true if a folder of another user isn't served; only root can give one away.
 fn is_theirs_refused(rt: &HostRuntime, path: &str) -> Result<bool, Fail> {
     DirBuilder::new().mode(0o700).create(rt, path)?;
     let is_theirs = chown(rt, path, Some(1), None).is_ok();
     Ok(!is_theirs || serves(rt, path, Some(0), "bind"))
 }
 
-// Whether a line is done, or is so.
+// Returns true if a line is done, or is true.
 fn is_so(rt: &HostRuntime, line: &str) -> Result<bool, Fail> {
     let (verb, words) = line.split_once(' ').unwrap_or((line, ""));
     match verb {
@@ -281,9 +282,9 @@ fn first_wrong<'a>(rt: &HostRuntime, lines: &'a str) -> Result<Option<&'a str>, 
     Ok(None)
 }
 
-/// The sockets' files are removed: they could not be bound again if one had stayed. Without a port the folder keeps others out. A port is
-/// bound once, and the files of who is refused go. Files of acts, and outer terminals. Runs that reach a server in a folder, and how they
-/// end.
+/// The sockets' files are removed: they could not be bound again if one had stayed. Without a port the folder is private. A port is bound
+/// once, and the files of a refused server are removed. Files of acts, and outer terminals. Runs that reach a server in a folder, and their
+/// ends.
 const LINES: &str = "\
 serves missing bind
 folder served
@@ -338,7 +339,7 @@ watches terminals good unheard
 watches closed 100000 write
 watches unread 100000 write";
 
-/// What is printed of what the runs above were refused for.
+/// The messages for the refusals of the runs above.
 const REASONS: &str = "\
 terminals good reached roam: cannot bind: good: Address already in use (os error 98)
 clients good reached roam: cannot connect: reached/clients: Connection refused (os error 111)
@@ -353,7 +354,7 @@ sockets good link roam: cannot bind: link: not a folder
 sockets good there roam: cannot bind: there/p5: Address already in use (os error 98)
 alone good entered roam: cannot bind: entered: others may enter it";
 
-/// What isn't there behind all these.
+/// The files that are gone after all these.
 const GONE: &str = "\
 gone there/p1
 gone unwritten/p1
@@ -366,7 +367,7 @@ fn free_port(rt: &HostRuntime) -> Result<Option<u16>, Fail> {
     Ok(bound.port())
 }
 
-// Whether it is told that a port is in use.
+// Returns true if the message says that a port is in use.
 fn is_taken_told(rt: &HostRuntime) -> Result<bool, Fail> {
     let bound = ports_in(rt, "first")?;
     is_port_told(rt, bound.port())

@@ -1,10 +1,10 @@
-//! What takes place beside a run, as text: a line each time that the clock of its system is asked, once it is so.
+//! The scene beside a run, as text: one line for each look at the clock of its system, once it is true.
 //!
-//! `first` or `second`, a program, and what it does (`programs`); `there PATH`, a file; `alone PATH`, which the user alone may read;
-//! `holds PATH TEXT`, in which `/` stands for the end of a line, of what a file has; `sources N`: so many may end the waits of the process;
-//! `first comes`: to the socket that is bound for who types; `start comes FOLDER`: a client start of a session whose id was by chance,
-//! whose terminal types `b` and splits, reaches the server there over a stream, or, `start calls`, at the port that was printed; `start
-//! shows C` in its first cell; `server goes`: that which serves beside the run.
+//! `first` or `second` is a program with its action (`programs`); `there PATH` is a file; `alone PATH` is a private one; `holds PATH TEXT`,
+//! with `/` for LF, is the text of a file; `sources N` is the number of sources that may end the waits of the process. `first comes`: to
+//! the socket bound for acts. `start comes FOLDER`: a client start of a session with a random id, whose terminal types `b` and splits,
+//! reaches the server there over a stream. `start calls` reaches it at the printed port. `start shows C` in its first cell; `server goes`:
+//! the one beside the run.
 use crate::doors::TypedStream;
 use crate::meeting::{ServerEnd, shows};
 use crate::programs::{Programs, are};
@@ -35,7 +35,7 @@ const HOME: Addr = Addr {
     port: 0,
 };
 
-/// A client start with a terminal in memory, and where its server is.
+/// A client start with a terminal in memory, and its server's address.
 #[derive(Drop)]
 struct Visitor<'a> {
     shared: SharedClient<Opaque<TypedStream<'static>>>,
@@ -82,7 +82,7 @@ impl<'a> Visitor<'a> {
         self.ports.ports().flush();
     }
 
-    // Whether this character stands in the first cell that it shows.
+    // Returns true if its first cell shows this character.
     fn shows(&self, text: &str) -> bool {
         text.chars()
             .next()
@@ -90,7 +90,7 @@ impl<'a> Visitor<'a> {
     }
 }
 
-/// What takes place beside a run: the lines that aren't so yet, with those who act in them, and what was printed.
+/// The scene beside a run: the lines that are left, their actors, and the printed text.
 #[derive(Drop)]
 pub struct Scene<'a> {
     alloc: Global,
@@ -105,7 +105,7 @@ pub struct Scene<'a> {
     renames: u8,
 }
 
-// Whether a file is the user's alone.
+// Returns true if a file is private.
 fn is_alone(rt: &HostRuntime, path: &str) -> bool {
     match metadata(rt, path) {
         Ok(found) => found.mode() & 0o777 == 0o600,
@@ -113,7 +113,7 @@ fn is_alone(rt: &HostRuntime, path: &str) -> bool {
     }
 }
 
-// Whether a file has just this text.
+// Returns true if a file has exactly this text.
 fn holds(rt: &HostRuntime, words: &str) -> bool {
     match words.split_once(' ') {
         Some((path, text)) => read(rt, path).is_ok_and(|bytes| are(&bytes, text)),
@@ -121,7 +121,7 @@ fn holds(rt: &HostRuntime, words: &str) -> bool {
     }
 }
 
-// How many sources a descriptor has that are to end a wait, as Linux tells them: none where it is no wait's.
+// Returns the number of sources of a descriptor that can end a wait, as Linux reports them; 0 if it isn't one of a wait.
 fn sources_at(rt: &HostRuntime, descriptor: u32) -> usize {
     let Ok(path) = format!(in rt.alloc(); "/proc/self/fdinfo/{descriptor}") else {
         return 0;
@@ -135,7 +135,7 @@ fn sources_at(rt: &HostRuntime, descriptor: u32) -> usize {
     }
 }
 
-// Whether so many sources may end the waits of this process, where that is told.
+// Returns true if so many sources can end the waits of this process, if the system reports them.
 fn are_sources(rt: &HostRuntime, count: &str) -> bool {
     let mut all = 0usize;
     for descriptor in 0..64u32 {
@@ -145,7 +145,7 @@ fn are_sources(rt: &HostRuntime, count: &str) -> bool {
 }
 
 impl<'a> Scene<'a> {
-    /// Lines that take place, beside which a server is served, or a socket is bound for who types.
+    /// Returns a scene of these lines, beside which a server is served, or a socket is bound for acts.
     pub fn new(
         alloc: Global,
         lines: &'a str,
@@ -192,7 +192,7 @@ impl<'a> Scene<'a> {
         self.renames = self.renames.saturating_add(1);
     }
 
-    /// What was printed.
+    /// Returns the printed text.
     pub fn said(&self) -> &str {
         self.said.as_str()
     }
@@ -220,7 +220,7 @@ impl<'a> Scene<'a> {
         }
     }
 
-    // Whether the first program comes to the socket for who types.
+    // Returns true if the first program connects to the socket for acts.
     fn first_comes(&mut self) -> bool {
         match &self.typing {
             Some(listener) => match listener.accept() {
@@ -231,7 +231,7 @@ impl<'a> Scene<'a> {
         }
     }
 
-    // Whether a client start comes, or shows this.
+    // Returns true if a client start connects, or shows this.
     fn is_start(&mut self, rt: &'a HostRuntime, words: &str) -> bool {
         if let Some(folder) = words.strip_prefix("comes ") {
             self.start = visitor_at(rt, folder);
@@ -247,14 +247,14 @@ impl<'a> Scene<'a> {
         }
     }
 
-    // The server that serves beside the run goes, where there is one.
+    // Ends the server beside the run, and returns true if there was one.
     fn end_server(&mut self) -> bool {
         let was_there = self.server.is_some();
         self.server = None;
         was_there
     }
 
-    // Whether a line is done, or is so.
+    // Returns true if a line is done, or is true.
     fn is_done(&mut self, rt: &'a HostRuntime, line: &str) -> bool {
         let (who, words) = line.split_once(' ').unwrap_or((line, ""));
         match who {
@@ -269,7 +269,7 @@ impl<'a> Scene<'a> {
         }
     }
 
-    /// The turns beside the run are taken, and the next line is done, where it is so. It is this moment then.
+    /// Takes the turns beside the run, does the next line if it is true, and returns the moment.
     pub fn go_on(&mut self, rt: &'a HostRuntime) -> u64 {
         self.moment = self.moment.saturating_add(STEP);
         self.take_turns();

@@ -1,8 +1,8 @@
-//! What a client start tells of a server that it doesn't hear, and of an outer terminal that takes nothing, as text.
+//! The notices of a client start about a silent server, and an outer terminal that accepts nothing, as text.
 //!
-//! A line begins with a moment in milliseconds: what is told of the silence then leaves the outer terminal as it is noted (`known`) or
-//! not (`unknown`); or with `shows TEXT` or `shows nothing for TEXT`; `reads TEXT`, which the outer terminal reads next, where `10 s` and
-//! `11 s` stand for the notices of as many seconds; `hears`: a datagram comes to the client start; `is` and what is so then.
+//! A line begins with a moment in milliseconds. The notice of the silence then leaves the outer terminal's screen `known` or `unknown`. Or
+//! `shows TEXT` or `shows nothing for TEXT`; `reads TEXT`, which the outer terminal reads next, with `10 s` and `11 s` for the notices of
+//! as many seconds; `hears`: a datagram arrives at the client start; `is` and the state then.
 use mio::net::UdpSocket;
 use roam_attach::{ClientPorts, Connection};
 use roam_outer_terminal::End;
@@ -14,15 +14,15 @@ use std::net::{IpAddr, Ipv4Addr, SocketAddr};
 use std::os::fd::AsRawFd;
 use std::test::*;
 
-/// What is told of 10 seconds.
+/// The notice of 10 seconds.
 const TEN: &str =
     "\x1b7\x1b[?7l\x1b[999;1H\x1b[0;7mroam: no answer for 10 s\x1b[0m\x1b[K\x1b[?7h\x1b8";
 
-/// What is told of 11 seconds.
+/// The notice of 11 seconds.
 const ELEVEN: &str =
     "\x1b7\x1b[?7l\x1b[999;1H\x1b[0;7mroam: no answer for 11 s\x1b[0m\x1b[K\x1b[?7h\x1b8";
 
-// It is this moment, and what is told of the silence leaves the outer terminal as it is noted or not.
+// Returns true if the notice of the silence at this moment leaves the outer terminal known or unknown as expected.
 fn tells(
     alloc: Global,
     ports: &mut ClientPorts<&HostRuntime, PipeWriter>,
@@ -126,7 +126,7 @@ fn first_wrong_read<'a>(rt: &HostRuntime, lines: &'a str) -> Result<Option<&'a s
     first_undone(rt, &mut ports, &mut reader, lines)
 }
 
-// The first line that isn't so where nobody reads what is painted; no line reads there.
+// Returns the first failing line if nobody reads the painted bytes; no line reads there.
 fn first_wrong_unread<'a>(rt: &HostRuntime, lines: &'a str) -> Result<Option<&'a str>, Fail> {
     let (reader, writer) = pipe(rt)?;
     drop(reader);
@@ -136,7 +136,7 @@ fn first_wrong_unread<'a>(rt: &HostRuntime, lines: &'a str) -> Result<Option<&'a
     first_undone(rt, &mut ports, &mut other, lines)
 }
 
-// Whether nobody is seen to read only once the reader is gone.
+// Returns true if the loss of the reader is seen only once it is gone.
 fn sees_nobody(ports: &mut ClientPorts<&HostRuntime, Vec<u8>>, reader: PipeReader) -> bool {
     ports.rest();
     let is_early = ports.is_unread();
@@ -154,8 +154,8 @@ fn is_nobody_seen(rt: &HostRuntime) -> Result<bool, Fail> {
     Ok(sees_nobody(&mut ports, reader))
 }
 
-// The first line of a story that isn't so: `read` where what is painted is read, `unread` where it isn't, or `nobody`, where it is seen
-// that a descriptor's reader is gone.
+// Returns the first failing line of a story: `read` if the painted bytes are read, `unread` if they aren't, or `nobody` if the descriptor's
+// reader is gone.
 fn first_wrong<'a>(rt: &HostRuntime, story: &'a str) -> Result<Option<&'a str>, Fail> {
     match story.split_once('\n') {
         Some(("read", lines)) => first_wrong_read(rt, lines),
@@ -176,11 +176,11 @@ fn first_wrong_of<'a>(rt: &HostRuntime, stories: &'a str) -> Result<Option<&'a s
     Ok(None)
 }
 
-/// What is noted of the terminal isn't what it shows in the end: nothing is painted over that.
+/// The noted screen isn't the terminal's at the end: nothing is painted over it.
 ///
-/// A silence ends where something is heard.
+/// A silence ends once the server is heard.
 ///
-/// Nobody reads: what is told of a silence isn't taken either.
+/// Nobody reads: the notice of a silence isn't taken either.
 const STORIES: &str = "\
 read
 9999 known

@@ -1,10 +1,9 @@
-//! Whole runs of `roam serve` and `roam attach`, each with what takes place beside it, as text.
+//! Whole runs of `roam serve` and `roam attach`, each with a scene beside it, as text.
 //!
-//! The first line of a story is the run: `serves FOLDER`, `means FOLDER` where the panes' bytes go on as they are meant, or, beside a
-//! server of that folder, `hosts FOLDER` of a start whose outer terminals come to `terminals` there, `calls FOLDER` of such a one that
-//! reaches its server at the port, and `types FOLDER` of one that types what comes at `keys` there and paints an `a`. Lines of a scene
-//! follow (`scenes`), all of which are so before the run is over. Then `ends` and how: `well`, `heard` or `gone`; and what is seen of files
-//! behind it (`files`).
+//! The first line of a story is the run: `serves FOLDER`, or `means FOLDER` with normalized bytes of panes. Beside a server of that folder
+//! it is `hosts FOLDER`, a start whose outer terminals connect to `terminals` there; `calls FOLDER`, such a start that reaches its server
+//! at the port; or `types FOLDER`, one that types the lines of `keys` there and paints an `a`. Lines of a scene follow (`scenes`), all of
+//! which are true before the run is over. Then `ends` and the end: `well`, `heard` or `gone`; and checks of files after it (`files`).
 use crate::files::first_untrue;
 use crate::meeting::{ServerEnd, server_end};
 use crate::scenes::Scene;
@@ -21,7 +20,7 @@ use std::test::*;
 /// How many turns a run takes at most.
 const TURNS: u64 = 100;
 
-/// A run, the lines beside it, how it ends, and what is seen of files then.
+/// A run, the lines beside it, its end, and the checks of files then.
 #[derive(Clone, Copy)]
 struct Story<'a> {
     verb: &'a str,
@@ -45,7 +44,7 @@ fn story_of(text: &str) -> Option<Story<'_>> {
     })
 }
 
-// The first line that isn't so, where a run ended so or otherwise.
+// Returns the first failing line, given whether the run had its end.
 fn first_left<'a>(scene: Scene<'a>, has_ended_so: bool, end: &'a str) -> Option<&'a str> {
     let left = scene.left();
     drop(scene);
@@ -56,14 +55,14 @@ fn first_left<'a>(scene: Scene<'a>, has_ended_so: bool, end: &'a str) -> Option<
     }
 }
 
-// Whether a port was told. The ids of the session and of the start by which it closes panes are by chance; the session's is written whole,
-// or not at all.
+// Returns true if a port was printed. The ids of the session and of the closing start are random; the session's is written whole, or not at
+// all.
 fn has_served(scene: &Scene<'_>) -> bool {
     let is_told = scene.said().starts_with("roam: port ");
     is_told && scene.chances() == 2 && scene.renames() == 1
 }
 
-// The first line that isn't so of a story of `serve`, which tells its port.
+// Returns the first failing line of a story of `serve`, which prints its port.
 fn first_of_serving<'a>(rt: &'a HostRuntime, story: &Story<'a>) -> Result<Option<&'a str>, Fail> {
     let system = System::new(rt, Scene::new(rt.alloc(), story.lines, None, None));
     let serve = Serve {
@@ -88,14 +87,14 @@ fn is_end(ended: Result<End, RunFault>, word: &str) -> bool {
     }
 }
 
-// A server of a folder, where it stands of which session it is.
+// Returns a server of a folder, with the session of the file there.
 fn server_at<'a>(rt: &'a HostRuntime, folder: &str) -> Result<ServerEnd<'a>, Fail> {
     let path = format!(in rt.alloc(); "{folder}/session")?;
     write(rt, path.as_str(), b"5e55\n")?;
     server_end(rt, folder)
 }
 
-// A run of a start that reaches its server at a port, or in a folder, where it finds of which session it is.
+// Returns a run of a start that reaches its server at a port, or in a folder, where it finds the session.
 fn attach_at<'a>(port: Option<u16>, folder: &'a str) -> Attach<'a> {
     let (home, session) = match port {
         Some(port) => (Home::Port(port), Some(0x5E55)),
@@ -138,7 +137,7 @@ fn first_of_hosting<'a>(rt: &'a HostRuntime, story: &Story<'a>) -> Result<Option
     Ok(first_left(scene, is_by_chance && is_well, story.end))
 }
 
-// A run that types what comes at a path, and whether it painted an `a`.
+// Runs a start that types the lines at a path, and returns true if it painted an `a`.
 fn type_what_comes(system: &System<'_>, folder: &str, path: &str) -> (Result<End, RunFault>, bool) {
     let attach = Attach {
         typed: Typed::Socket(path),
@@ -149,7 +148,7 @@ fn type_what_comes(system: &System<'_>, folder: &str, path: &str) -> (Result<End
     (ended, painted.contains(&b'a'))
 }
 
-// The first line that isn't so of a story of a start that types what comes over a socket, and paints an `a`.
+// Returns the first failing line of a story of a start that types the lines of a socket, and paints an `a`.
 fn first_of_typing<'a>(rt: &'a HostRuntime, story: &Story<'a>) -> Result<Option<&'a str>, Fail> {
     let path = format!(in rt.alloc(); "{}/keys", story.folder)?;
     let server = server_at(rt, story.folder)?;
@@ -187,22 +186,22 @@ fn first_wrong<'a>(rt: &'a HostRuntime, text: &'a str) -> Result<Option<&'a str>
     first_untrue(rt, story.files)
 }
 
-/// What a server has in its folder while it runs and what is gone behind it, whom it tells of its panes and of what stands beside them, a
-/// pane that is closed for that program by the server's own start, and client starts that show what a pane's program wrote and type to it:
-/// as that comes, where a size of 132 columns means nothing.
+/// The folder of a server while it runs and after it; its subscribers, with panes and metadata; a pane that is closed for a subscriber by
+/// the server's own start; and client starts that show the output of a pane's program and type to it. The bytes aren't normalized: a size
+/// of 132 columns means nothing.
 ///
-/// One where it means a blank screen.
+/// The same with normalized bytes: it means a blank screen.
 ///
-/// A start hosts a terminal, which sees what a program wrote, types to it, and asks for the end. The server waits for its twelve sockets,
-/// the start and the program; the start for the server, its own socket and the terminal.
+/// A start hosts a terminal, which sees a program's output, types to it, and asks for the end. The server waits for its twelve sockets, the
+/// start and the program; the start for the server, its own socket and the terminal.
 ///
 /// One reaches its server at a port.
 ///
-/// The server of such a start goes, and so does the start.
+/// The server of such a start ends, and so does the start.
 ///
-/// Sixteen terminals are there, and one above them is told so and let go.
+/// Sixteen terminals are there, and one more gets the reason and is disconnected.
 ///
-/// A start types what comes over a socket, for which it waits too, and ends with it, or with its server.
+/// A start types the lines of a socket, for which it waits too, and ends with it, or with its server.
 const STORIES: &str = "\
 serves whole
 there whole/p9

@@ -1,6 +1,6 @@
-//! The system of a run that is tested: this one, but what is printed on standard error is kept, chance is counted, a port is bound on
-//! loopback alone, and each time that its clock is asked a scene goes on, which takes its turns and does its next line. So programs come
-//! and go while the run takes place.
+//! The system of a tested run: this one, with changes. Standard error is kept, randomness is counted, and a port is bound on loopback
+//! alone. Each look at its clock lets a scene go on, which takes its turns and does its next line. So programs connect and leave while the
+//! run goes on.
 use crate::scenes::Scene;
 use std::alloc::{Alloc, Allocator, Global};
 use std::cell::RefCell;
@@ -23,7 +23,7 @@ pub struct System<'a> {
     scene: RefCell<Scene<'a>>,
 }
 
-// What is answered where the scene is in use.
+// Returns the error of a scene in use.
 fn busy() -> io::Error {
     io::Error::from(ErrorKind::WouldBlock)
 }

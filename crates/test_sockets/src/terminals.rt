@@ -1,8 +1,8 @@
-//! The outer terminals of a client start: what is typed there, and what each is painted.
+//! The outer terminals of a client start: their typed lines, and the bytes painted to each.
 //!
-//! `round` takes those that wait at the socket, and a round; `acts N` sees how many acts aren't acknowledged; `terminals N` how many are
-//! there; `ends` and `goes on` whether the start's end was asked for; from `at N` on it is that moment. It hears of its server only at
-//! `meets`: so much as a server whose program echoes tells it in five turns of 20 milliseconds each, with a round behind each.
+//! `round` accepts the terminals at the socket, and takes a round; `acts N` is the number of unacknowledged acts; `terminals N` is the
+//! number of terminals; `ends` and `goes on` say whether the start's end was asked for; `at N` sets the moment. The start hears its server
+//! only at `meets`: five turns of a server whose program writes back its input, 20 milliseconds each, with a round behind each.
 use crate::doors::first_other_run;
 use crate::echoing::Echoing;
 use crate::programs::Programs;
@@ -50,7 +50,7 @@ impl Place {
         true
     }
 
-    // Hears what a server tells in five turns.
+    // Hears five turns of a server.
     fn meet(&mut self, alloc: Global) -> Result<bool, Fail> {
         for _ in 0..5u8 {
             self.server.meet(alloc, self.ports.ports())?;
@@ -70,7 +70,7 @@ impl Place {
         }
     }
 
-    // Whether there are so many.
+    // Returns true if there are so many.
     fn are_so_many(&self, line: &str) -> bool {
         match line.split_once(' ') {
             Some(("acts", count)) => {
@@ -81,7 +81,7 @@ impl Place {
         }
     }
 
-    // Whether this is so, or is done.
+    // Returns true if this is true, or is done.
     fn is_so(&mut self, alloc: Global, line: &str) -> Result<bool, Fail> {
         match line {
             "round" => Ok(self.round(alloc)),
@@ -96,7 +96,7 @@ impl Place {
     }
 }
 
-// Whether a line is done, or is so.
+// Returns true if a line is done, or is true.
 fn is_done(
     rt: &HostRuntime,
     place: &mut Place,
@@ -132,9 +132,9 @@ fn first_wrong<'a>(rt: &HostRuntime, path: &str, lines: &'a str) -> Result<Optio
     }
 }
 
-/// The screen numbered 0 opens each terminal. Acts of one line are typed all or none, none of a terminal that only watches; a line that
-/// asks for nothing ends its terminal alone, and one that isn't ended is let go with it; lines that came whole are typed however soon their
-/// terminal left; `repaint` opens the terminal that says it. What is predicted of a first key isn't shown.
+/// The screen numbered 0 opens each terminal. Acts of one line are typed all or none, and none of a read-only terminal. A bad line ends
+/// only its own terminal, and an unfinished one is dropped with it. Whole lines are typed however soon their terminal left. `repaint` opens
+/// the terminal that sends it. The prediction of a first key isn't shown.
 const LINES: &str = "\
 first connects shared/terminals
 second connects shared/terminals
@@ -204,8 +204,8 @@ round
 ends
 acts 9";
 
-/// What was pasted is typed as other acts are, and a line that says so of none is refused. A line of 64 acts is typed where none is
-/// unacknowledged, and the next one waits.
+/// Pasted acts are typed like others, and a paste without acts is refused. A line of 64 acts is typed if none is unacknowledged, and the
+/// next one waits.
 const MANY: &str = "\
 first connects many/terminals
 second connects many/terminals
@@ -234,7 +234,7 @@ round
 acts 64
 terminals 2";
 
-/// The same where it comes first.
+/// The same with a paste first.
 const PASTED: &str = "\
 first connects pasted/terminals
 second connects pasted/terminals
@@ -250,10 +250,10 @@ round
 acts 3
 terminals 1";
 
-/// A terminal that asks for records is told in them, behind what was painted before: which of its lines are taken, and what of the
-/// screen is shown, of which size and from where on, opened anew where it isn't known what the terminal shows. A line whose acts aren't
-/// acknowledged is told to nobody, and one that is refused is told by its number. Only the second line may say that it watches, and
-/// none but the first asks for records; a terminal that doesn't is refused what is told in records alone.
+/// A terminal that asks for records gets them behind the bytes painted before. They say which of its lines are taken, and paint the shown
+/// part, with its size and place, opened anew if the terminal's screen is unknown. A line with unacknowledged acts isn't reported, and a
+/// refused one is reported by its number. Only the second line may ask for a read-only terminal, and only the first for records. A terminal
+/// without records is refused the lines that need them.
 const TOLD: &str = "\
 first connects told/terminals
 second connects told/terminals
@@ -303,7 +303,7 @@ first reads refused 4 bad act/
 first is let go
 terminals 0";
 
-/// What a key shows is predicted once one before it was confirmed, and not before: it is painted before its server is heard.
+/// The prediction of a key is shown once one before it was confirmed, and not before: it is painted before the server is heard.
 const PREDICTED: &str = "\
 first connects guessed/terminals
 round
@@ -322,8 +322,8 @@ round
 first sees q
 acts 1";
 
-/// A silence of ten seconds and more is told once a second: to a terminal that asked for records by one, to another over its last row.
-/// Where the server is heard again the one is told so, and the other is painted anew.
+/// A silence of ten seconds or more is shown once a second: in a record, or over the last row of a terminal without records. Once the
+/// server is heard again, the first gets a record, and the other is painted anew.
 const SILENT: &str = "\
 first connects silent/terminals
 second connects silent/terminals

@@ -1,4 +1,4 @@
-//! A wait ends where something comes: a client start, what it writes, or a datagram; of a start's, an answer, or what was reported.
+//! A wait ends on input: a client start, its bytes, or a datagram; the wait of a start on an answer, or on a reported source.
 use mio::net::UnixStream;
 use roam_attach::Connection;
 use roam_sockets::{Clients, Moments, Udp, Waits, listen, loopback};
@@ -10,7 +10,7 @@ use std::time::Instant;
 /// How many milliseconds a wait lasts that nothing ends.
 const LONG: u64 = 20_000;
 
-// Whether a wait ends long before that.
+// Returns true if a wait ends long before that.
 fn ends(rt: &HostRuntime, waits: &mut Waits) -> Result<bool, Fail> {
     let before = Instant::now(rt)?;
     waits.rest(LONG);
@@ -42,7 +42,7 @@ fn ends_for_a_datagram(rt: &HostRuntime) -> Result<bool, Fail> {
     Ok(is_sent && ends(rt, &mut waits)?)
 }
 
-// Whether a start's wait ends long before, or lasts fifty milliseconds.
+// Returns true if a start's wait ends long before, or lasts fifty milliseconds.
 fn is_rested(
     rt: &HostRuntime,
     connection: &mut Connection<&HostRuntime>,

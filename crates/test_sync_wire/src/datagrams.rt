@@ -13,8 +13,8 @@ static FIRST: [u8; 60] = [
     0, 0, 0, 0, 0, 0, 1, 0, 0, 0, 1, 0, 18, 0, 0, 0, 0, 0, 0, 0, 0, 0, 0, 0, 0, 0, 0, 0, 1, 0, 0,
 ];
 
-// Bytes of it are changed: from which place on, how many of its bytes are read then and how many bytes 7 after them, the reason of the
-// refusal, and the bytes that stand there. In the last seven two faults stand, of which the first is told.
+// Changes of its bytes: the first place, the number of changed bytes, the number of bytes 7 after them, the reason of the refusal, and the
+// bytes. The last seven have two faults, of which the first is reported.
 const CHANGED: &str = "\
 0 60 0: none -
 0 41 0: short -
@@ -78,7 +78,7 @@ const LAST: &str = "\
 2 60 0: none 0203000000000000000100000000000000a1000000000000000100000000000000010fff1000
 2 60 0: fragment 0203000000000000000100000000000000a1000000000000000100000000000000010fff1001";
 
-// Whether the bytes are read as told; and where they are, the datagram has these bytes.
+// Returns true if the bytes are read as expected, and the datagram that is read has these bytes.
 fn reads(alloc: Global, bytes: &[u8], told: &str) -> bool {
     match read_datagram(alloc, bytes) {
         Err(fault) => word_of(fault) == told,
@@ -122,7 +122,7 @@ fn holds(alloc: Global, line: &str) -> bool {
     false
 }
 
-// The first row of all that doesn't hold.
+// Returns the first row of all that is false.
 fn first_wrong(alloc: Global) -> Option<&'static str> {
     for table in [CHANGED, LENGTHS, LAST] {
         for line in table.lines() {
@@ -134,7 +134,7 @@ fn first_wrong(alloc: Global) -> Option<&'static str> {
     None
 }
 
-// What is told of the first datagram where the byte at a place has another value.
+// Returns the result for the first datagram with another value of the byte at a place.
 fn word_at(place: usize, value: u8) -> &'static str {
     match place {
         0 | 1 => "magic",
@@ -148,7 +148,7 @@ fn word_at(place: usize, value: u8) -> &'static str {
     }
 }
 
-// Whether the first datagram is refused where it ends before a place, and is read or refused with each other byte there.
+// Returns true if the first datagram is refused if it ends before a place, and is read or refused with each other byte there.
 fn is_told_at(alloc: Global, place: usize) -> bool
     requires place { place < 60 }
 {
@@ -163,7 +163,7 @@ fn is_told_at(alloc: Global, place: usize) -> bool
     reads(alloc, FIRST.split_at(place).0, told)
 }
 
-// The first place where that isn't so.
+// Returns the first place for which this is false.
 fn first_place(alloc: Global) -> Option<usize> {
     for place in 0..60usize {
         if !is_told_at(alloc, place) {
@@ -186,7 +186,7 @@ fn is_first(datagram: &Datagram) -> bool {
         && (datagram.index, datagram.count) == (0, 1)
 }
 
-// Whether the first datagram of a client says what it should.
+// Returns true if the first datagram of a client has the expected content.
 fn says_first(alloc: Global) -> bool {
     match read_datagram(alloc, &FIRST) {
         Ok(datagram) => is_first(&datagram) && is_up(alloc, &datagram.payload, [0, 1, 0], "read"),

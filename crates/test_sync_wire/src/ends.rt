@@ -1,11 +1,11 @@
-//! The two ends of a link of numbered states, over numbers and over screens: what each call leaves, and what comes over.
+//! The two ends of a link of numbered states, over numbers and over screens: the effect of each call, and the delivered states.
 //!
-//! A case is a name and what is done, a line each, with what is wanted of it. `offer N` gives the sender a state under its number;
-//! `withdraw` takes the newest back; `acked N` acknowledges a number; `sent T` tells it a moment in milliseconds, and `due T` asks whether
-//! its newest is to be sent at one; `len N` is how many states it holds, and `tells OLD NEW` the numbers that its instruction leads from
-//! and to. `send` keeps the instruction, numbered from 0; when `comes K N` it comes, the receiver shows the number N. `round N LEN` is a
-//! round, after which the receiver shows N and the sender holds so many. `take OLD NEW FLOOR` hands the receiver a change that no sender
-//! wrote; where it is `bad`, of seven bytes.
+//! A case is a name and a line for each action, with its expected result. `offer N` gives the sender a state under its number; `withdraw`
+//! takes the newest back; `acked N` acknowledges a number. `sent T` gives the sender a moment in milliseconds, and `due T` asks whether its
+//! newest is to be sent at one. `len N` is the number of states in the sender, and `tells OLD NEW` the two numbers of its instruction.
+//! `send` keeps the instruction, numbered from 0; after `comes K N` delivers it, the receiver shows the number N. `round N LEN` is a round,
+//! after which the receiver shows N and the sender has so many states. `take OLD NEW FLOOR` gives the receiver a change that no sender
+//! wrote; `bad` ones have seven bytes.
 ghost use Rattle.std.specs.Prelude.{◌≡◌, ◌≤◌, ℕ, List, OnOk, Ok};
 ghost use Rattle.roam_sync.specs.Senders.{acked, sent_at};
 ghost use Rattle.roam_sync.specs.Links.{update_of, IsChange, Delivers};
@@ -252,7 +252,7 @@ fn offered<S: Numbered>(alloc: Global, sender: &mut Sender<S>, number: u64) -> &
     }
 }
 
-// Whether an instruction leads from one number to another, and its change from the one state to the other.
+// Returns true if an instruction leads from one number to another, and its change from the one state to the other.
 fn tells<S: Numbered>(
     alloc: Global,
     sender: &Sender<S>,
@@ -266,7 +266,7 @@ fn tells<S: Numbered>(
     Ok(numbers == [old, new, old] && state.is(new))
 }
 
-// Whether a sender is told or asked this, and answers so.
+// Returns true if a call of a sender has this answer.
 fn answers<S: Numbered>(
     alloc: Global,
     sender: &mut Sender<S>,
@@ -303,13 +303,13 @@ fn step_word(answer: Result<Step, Fault>) -> &'static str {
     }
 }
 
-// Whether the receiver shows this number with its state.
+// Returns true if the receiver shows this number with its state.
 fn shows<S: Numbered>(receiver: &Receiver<S>, number: u64) -> bool {
     let (newest, state) = receiver.newest();
     newest == number && state.is(number)
 }
 
-// What a receiver makes of a change; no update leads from below its floor, or down.
+// Returns a receiver's answer to a change; no update leads from below its floor, or down.
 fn taken<S: Numbered>(
     alloc: Global,
     receiver: &mut Receiver<S>,
@@ -323,7 +323,7 @@ fn taken<S: Numbered>(
     step_word(receiver.take(alloc, old, new, floor, change))
 }
 
-// Whether the update of that number comes so, and this number is shown then.
+// Returns true if the update of that number is answered so, and this number is shown then.
 fn comes<S: Numbered>(alloc: Global, link: &mut Link<S>, row: [u64; 3], told: &str) -> bool {
     let Some(update) = link.sent.get(row[0] as usize) else {
         return false;
@@ -349,7 +349,7 @@ fn change_of<S: Numbered>(alloc: Global, old: u64, new: u64, told: &str) -> Resu
     Ok(change)
 }
 
-// Whether a receiver answers a change so, and shows the state of its newest number.
+// Returns true if a receiver has this answer to a change, and shows the state of its newest number.
 fn takes<S: Numbered>(
     alloc: Global,
     receiver: &mut Receiver<S>,
@@ -379,7 +379,7 @@ fn happens<S: Numbered>(
     }
 }
 
-// How many numbers stand behind a verb.
+// Returns how many numbers follow a verb.
 fn count_of(verb: &str) -> usize
     ensures most { result ≤ 3 }
 {
@@ -438,7 +438,7 @@ fn lines_of_numbers_and_of_screens(rt: HostRuntime) {
     assert_eq!(rt; first_wrong::<RowShot>(rt.alloc()), None);
 }
 
-// Whether an end that was refused memory is as before: the sender by its length, the receiver by the number that it shows.
+// Returns true if an end is unchanged after refused memory: the sender by its length, the receiver by its shown number.
 fn stands<S: Numbered>(link: &Link<S>, len: usize, number: u64) -> bool {
     link.sender.len() == len && shows(&link.receiver, number)
 }
@@ -456,7 +456,7 @@ fn refused_leaves<S: Numbered>(alloc: Global, link: &mut Link<S>) -> bool {
     }
 }
 
-// The same of a new link; where there is no memory for it, nothing is left.
+// Returns the same of a new link; it ends if there is no memory for it.
 fn refused_leaves_a_line<S: Numbered>(alloc: Global) -> bool {
     match begun::<S>(alloc) {
         Ok(mut link) => refused_leaves(alloc, &mut link),

@@ -5,8 +5,8 @@ use roam_wire::{Datagram, Gathered, Gatherer, Kind, Version, cut};
 use std::alloc::Global;
 use std::test::*;
 
-// The version, the length of a text, how many fragments it has, and the length of the last; or that it is too long. 2,500,056 bytes has the
-// instruction of the largest change, with a style a cell at 200 by 500.
+// The version, the length of a text, the number of its fragments, and the length of the last; or that it is too long. The instruction of
+// the largest change, with a style a cell at 200 by 500, has 2,500,056 bytes.
 const CUTS: &str = "\
 1 0: 0 0
 1 1: 1 1
@@ -21,8 +21,8 @@ const CUTS: &str = "\
 2 4915200: 4096 1200
 2 4915201: too long";
 
-// Runs of a gatherer, with an empty line between them: a name; then a fragment a line, by its id, its index and how many there are, its
-// bytes and what is said to it (`fragment` is a refusal), or that the last one is taken back.
+// Runs of a gatherer, with an empty line between them: a name; then a fragment a line, by its id, its index and its count, its bytes and
+// the answer to it (`fragment` is a refusal), or that the last one is taken back.
 const RUNS: &str = "\
 An old id or a whole instruction is told before a bad index.
 2 0 1: x whole x
@@ -124,7 +124,7 @@ fn version_of(number: u64) -> Version {
     }
 }
 
-// Whether there are so many fragments, the last of this length and the others of 1,200 bytes.
+// Returns true if there are so many fragments, the last of this length and the others of 1,200 bytes.
 fn are_lengths(fragments: &[Vec<u8>], count: usize, last: usize) -> bool {
     for (index, fragment) in fragments.iter().enumerate() {
         let len = if index + 1 < count { 1200 } else { last };
@@ -176,7 +176,7 @@ fn fragment(
     })
 }
 
-// What a gatherer makes of a fragment, taken once more where memory was refused.
+// Returns a gatherer's answer to a fragment, given once more if memory was refused.
 fn gathered(
     alloc: Global,
     gatherer: &mut Gatherer,
@@ -188,7 +188,7 @@ fn gathered(
     }
 }
 
-// Whether the gatherer says this to a fragment.
+// Returns true if the gatherer has this answer to a fragment.
 fn says(
     alloc: Global,
     gatherer: &mut Gatherer,
@@ -254,7 +254,7 @@ fn texts_are_cut_and_gathered(rt: HostRuntime) {
     assert_eq!(rt; first_wrong(rt.alloc()), None);
 }
 
-// The fragments of a text, cut once more where memory was refused.
+// Returns the fragments of a text, cut once more if memory was refused.
 fn fragments_of(alloc: Global, text: &[u8], version: Version) -> Result<Vec<Vec<u8>>, Fault> {
     match cut(alloc, text, version) {
         Err(Fault::OutOfMemory) => cut(alloc, text, version),
@@ -262,13 +262,13 @@ fn fragments_of(alloc: Global, text: &[u8], version: Version) -> Result<Vec<Vec<
     }
 }
 
-// Whether each fragment is a part but the first, with which a text is whole, and is old when it comes again.
+// Returns true if each fragment is a part, the first completes a text, and each is old if it arrives again.
 fn is_taken_once(alloc: Global, gatherer: &mut Gatherer, datagram: &Datagram, text: &[u8]) -> bool {
     let said = if datagram.index == 0 { "whole" } else { "part" };
     says(alloc, gatherer, datagram, said, text) && says(alloc, gatherer, datagram, "old", text)
 }
 
-// Whether the fragments of a text come backwards, each twice, and are whole at the end.
+// Returns true if the fragments of a text arrive backwards, each twice, and are whole at the end.
 fn all_come(
     alloc: Global,
     fragments: &[Vec<u8>],
@@ -302,7 +302,7 @@ fn long_texts_come_backwards(rt: HostRuntime) {
     }
 }
 
-// To be run with each of its allocations refused in turn, too. What the values themselves have no memory for ends it.
+// This test also runs with each of its allocations refused in turn. It ends if there is no memory for the values themselves.
 #[test]
 fn refused_memory_loses_no_fragment(rt: HostRuntime) {
     let come = comes_backwards(rt.alloc(), 3000, Version::Two);

@@ -46,13 +46,13 @@ fn down_by_hand(alloc: Global, row: [u64; 4]) -> Result<Vec<u8>, Fault> {
     Ok(text)
 }
 
-// Whether an instruction has these numbers, and its change is what stands after them.
+// Returns true if an instruction has these numbers, and the rest of its text as its change.
 fn has_numbers(down: &Down, row: [u64; 4], bytes: &[u8]) -> bool {
     [down.old, down.new, down.floor, down.acked] == row
         && bytes.get(32..) == Some(down.change.as_slice())
 }
 
-// Whether the bytes are an instruction to a client with these numbers, or are refused, as told.
+// Returns true if the bytes are an instruction to a client with these numbers, or are refused, as expected.
 fn is_down(alloc: Global, bytes: &[u8], row: [u64; 4], told: &str) -> bool {
     match read_down(alloc, bytes) {
         Err(fault) => word_of(fault) == told,
@@ -76,7 +76,7 @@ fn holds_down(alloc: Global, line: &str) -> bool {
     false
 }
 
-// Whether each beginning is refused before the change, and is an instruction from there on.
+// Returns true if each beginning is refused before the change, and is an instruction from there on.
 fn downs_begin(alloc: Global) -> bool {
     let row = [1, 2, 1, 3];
     let Ok(text) = down_by_hand(alloc, row) else {
@@ -105,7 +105,7 @@ fn has_row(up: &Up, row: [u64; 3]) -> bool {
     [up.acked, up.first, up.acts.len() as u64] == row
 }
 
-/// Whether the bytes are an instruction to the server with these numbers and so many acts, or are refused, as told.
+/// Returns true if the bytes are an instruction to the server with these numbers and so many acts, or are refused, as expected.
 pub fn is_up(alloc: Global, bytes: &[u8], row: [u64; 3], told: &str) -> bool {
     match read_up(alloc, bytes, false) {
         Err(fault) => word_of(fault) == told,
@@ -116,7 +116,7 @@ pub fn is_up(alloc: Global, bytes: &[u8], row: [u64; 3], told: &str) -> bool {
     }
 }
 
-// The same of a start that only watches: an instruction is one where it has no act.
+// Returns the same of a read-only start: an instruction is one only without acts.
 fn is_watchers(alloc: Global, bytes: &[u8], row: [u64; 3], told: &str) -> bool {
     let told = if row[2] == 0 { told } else { "length" };
     match read_up(alloc, bytes, true) {
@@ -138,7 +138,7 @@ fn holds_up(alloc: Global, line: &str) -> bool {
     false
 }
 
-// Whether each beginning is refused.
+// Returns true if each beginning is refused.
 fn ups_begin(alloc: Global) -> bool {
     let row = [0, 7, 3];
     let acts = [0x01, 0, 0, 0, 0x61, 0x13, 9, 0x12];
@@ -162,7 +162,7 @@ fn is_one_of(alloc: Global, acts: &[u8], told: &str) -> bool {
     }
 }
 
-// Whether these bytes are read as 64 acts, each of which goes to the next pane.
+// Returns true if these bytes are read as 64 acts, each of which goes to the next pane.
 fn are_next(alloc: Global, acts: &[u8]) -> bool {
     match up_by_hand(alloc, [0, 1, 64], acts) {
         Ok(text) =>

@@ -1,8 +1,7 @@
-//! Tests of what a client and a session are kept in step by, by public calls alone: the two ends of numbered states, and the datagrams and
-//! instructions that cross the network. The changes that instructions carry are tested beside what the painter writes, in
-//! `test_update_paint`.
+//! Tests of synchronization by public calls alone: the two ends of numbered states, and the datagrams and instructions on the network. The
+//! changes in instructions are tested with the painter, in `test_update_paint`.
 //!
-//! They lie here and not beside the code, since a crate with tests is proved twice by the gate.
+//! They have a crate of their own, since the gate proves a crate with tests twice.
 #![tactic(auto)]
 
 #[cfg(test)]

@@ -33,7 +33,7 @@ impl Numbered for RowShot {
     }
 }
 
-/// A state is offered under its number; no answer but that it wasn't, where the number isn't above all others.
+/// Offers a state under its number, and returns the answer if the number isn't above all others.
 pub fn offer<S: Numbered>(
     alloc: Global,
     sender: &mut Sender<S>,

@@ -1,16 +1,16 @@
-//! Control functions at the edges of the screen and of the margins, modes set and reset twice, saved states: each row whole, byte by byte,
-//! and cut at each place. What is wanted comes from the profile.
+//! Control functions at the edges of the screen and of the margins, modes set and reset twice, saved states. Each row is fed whole, byte by
+//! byte, and cut at each place. The expected results come from the profile.
 //!
-//! A row has the bytes, then the three rows of the screen and its cursor after them, on a screen of 3 by 8 that was full of letters with
-//! the cursor in its first place. Control characters are written as their pictures (U+2400 to U+2421).
+//! A row has the bytes, then the three rows of the screen and its cursor. The screen of 3 by 8 was full of letters with the cursor at home.
+//! Control characters are written as their pictures (U+2400 to U+2421).
 use crate::rows::bytes_of;
 use crate::trials::{Trial, stands};
 use roam_term::Term;
 use std::alloc::Global;
 use std::test::*;
 
-// Motions, at the edges of the screen and of the margins; feeds, lines and scrolls, at and outside the margins; edits and erasures within a
-// row and the screen; modes that are set twice and reset twice; saved states, resets and sets.
+// Motions at the edges of the screen and of the margins; feeds, lines and scrolls at and outside the margins; edits and erasures within a
+// row and the screen; modes set twice and reset twice; saved states, resets and sets.
 const ROWS: &str = r##"␈|abcdefgh|ijklmnop|qrstuvwx|1 1 shown
 ␍|abcdefgh|ijklmnop|qrstuvwx|1 1 shown
 ␛[2;5H␍|abcdefgh|ijklmnop|qrstuvwx|2 1 shown
@@ -146,7 +146,7 @@ fn feed_pieces(term: &mut Term, bytes: &[u8], size: usize) -> bool {
     true
 }
 
-/// Whether letters for every cell are taken, and then bytes in two parts, each in pieces of a size.
+/// Returns true if letters for every cell are accepted, and then bytes in two parts, each in pieces of a size.
 pub fn feeds(term: &mut Term, first: &[u8], rest: &[u8], size: usize) -> bool {
     term.feed(b"abcdefghijklmnopqrstuvwx\x1B[H").is_ok()
         && feed_pieces(term, first, size)
@@ -158,7 +158,7 @@ fn leave_cut_at(alloc: Global, bytes: &[u8], place: usize, wanted: &str) -> bool
     stands(alloc, 3, 8, 0, Trial::Pieces(first, rest, 1024, wanted))
 }
 
-// Whether bytes leave a screen, byte by byte, whole, and cut at each place.
+// Returns true if bytes lead to a screen, fed byte by byte, whole, and cut at each place.
 fn leave(alloc: Global, bytes: &[u8], wanted: &str) -> bool {
     for place in 0..bytes.len() {
         if !leave_cut_at(alloc, bytes, place, wanted) {

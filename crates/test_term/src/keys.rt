@@ -1,11 +1,11 @@
-//! Keys: what each kind sends under the modes of a terminal, and a queue that is full.
+//! Keys: the bytes of each kind under the modes of a terminal, and a full queue.
 use crate::trials::{Trial, stands};
 use roam_acts::{Act, Key, read_act};
 use roam_cells::Fault;
 use roam_term::Term;
 use std::test::*;
 
-// What was read before, the act, and the bytes that its key sends then; a bar ends each.
+// The input before, the act, and the bytes of its key then; a bar ends each.
 const SENT: &str = "\
 |key up|\x1B[A|
 \x1B[?1h|key left|\x1BOD|
@@ -30,7 +30,7 @@ fn is_waiting(term: &mut Term, sent: &str) -> bool {
     &out[..count] == sent.as_bytes()
 }
 
-/// Whether a case holds of a terminal.
+/// Returns true if a case is true of a terminal.
 pub fn sends(term: &mut Term, case: &str) -> bool {
     let (before, rest) = case.split_once('|').unwrap_or((case, ""));
     let (line, sent) = rest.split_once('|').unwrap_or((rest, ""));
@@ -42,7 +42,7 @@ pub fn sends(term: &mut Term, case: &str) -> bool {
     }
 }
 
-/// Whether a key that doesn't fit is refused: five bytes each, up to the last but one of the queue.
+/// Returns true if a key that doesn't fit is refused: five bytes each, up to the last but one of the queue.
 pub fn is_filled(term: &mut Term) -> bool {
     let mut taken = true;
     for _ in 0..13_107 {

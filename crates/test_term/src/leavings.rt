@@ -5,7 +5,7 @@ use roam_term::Term;
 use std::alloc::{AllocError, Global};
 use std::test::*;
 
-// What inputs are made of: text of one and of two columns, what ends a line, what scrolls and what doesn't, both screens, styles, resets.
+// The parts of inputs: text of one and of two columns, ends of lines, scrolls and their opposites, both screens, styles, resets.
 const PARTS: [&str; 24] = [
     "a",
     "bcd",
@@ -83,8 +83,8 @@ fn push_first(
     Ok(())
 }
 
-// The lines of the last rows of a history, the oldest first, on the main screen: as many as there are lines, of which each says whether its
-// row goes on.
+// Returns the lines of the last rows of a history, the oldest first, on the main screen: as many as there are lines, each of which says
+// whether its row goes on.
 fn lines_of_history(alloc: Global, bytes: &[u8], lines: &LeftLines) -> Result<Vec<u8>, Fault> {
     let mut term = Term::new(alloc, 3, 8, 500)?;
     for piece in bytes.chunks(64) {

@@ -1,7 +1,7 @@
 //! Tests of the terminal by its public calls alone: keys, pieces and the queue of answers, the history, views and sizes, and the profile's
 //! control functions at edges, at margins and with a pending wrap.
 //!
-//! They lie here and not beside the code, since a crate with tests is proved twice by the gate.
+//! They have a crate of their own, since the gate proves a crate with tests twice.
 #![tactic(auto)]
 
 #[cfg(test)]

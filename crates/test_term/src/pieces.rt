@@ -1,5 +1,5 @@
-//! The terminal of a pane, fed by pieces: renditions, sizes, the queue of answers. What text and moves make of a screen stands with what
-//! `roam show` prints.
+//! The terminal of a pane, fed by pieces: renditions, sizes, the queue of answers. The tests of `roam show` have the effect of text and
+//! moves on a screen.
 use crate::rows::shows;
 use crate::trials::{Trial, stands};
 use roam_cells::{Colour, Fault, Style};
@@ -8,9 +8,9 @@ use roam_term::{MOST_PIECE, Term};
 use std::alloc::Global;
 use std::test::*;
 
-// What is fed, and the style in which a character stands that is printed then. An index is up to 255: one above is passed over, and an
-// empty one is 0; 2 and three numbers are passed over; otherwise, or cut short, the rest says nothing. Other numbers, private markers and
-// intermediate bytes change nothing.
+// The input, and the style of a character printed then. An index is up to 255: a larger one is ignored, and an empty one is 0; 2 and three
+// numbers are ignored; otherwise, or cut short, the rest has no effect. Other numbers, private markers and intermediate bytes change
+// nothing.
 const RENDERED: &str = "\
 \x1B[1m|bold
 \x1B[2;3m|faint italic
@@ -99,7 +99,7 @@ fn is_drawn(shot: &Shot, style: Style) -> bool {
     }
 }
 
-/// Whether a character stands in a style after what was fed before.
+/// Returns true if a character has a style after this input.
 pub fn draws(alloc: Global, term: &mut Term, before: &str, style: Style) -> bool {
     term.feed(before.as_bytes()).is_ok()
         && term.feed(b"a").is_ok()
@@ -123,7 +123,7 @@ fn has_reverse(shot: &Shot, reverse: bool) -> bool {
     matches!(shot.at(1, 1), Some(cell) if cell.style().reverse == reverse)
 }
 
-/// Whether an input leaves the first character in reverse, or not.
+/// Returns true if an input leaves the first character in reverse, or not, as expected.
 pub fn reverses(alloc: Global, term: &mut Term, input: &str, reverse: bool) -> bool {
     term.feed(input.as_bytes()).is_ok()
         && matches!(term.shot(alloc, 0), Ok(shot) if has_reverse(&shot, reverse))
@@ -149,7 +149,7 @@ fn feed_letters(term: &mut Term, count: usize) -> Result<(), Fault> {
     term.feed(&letters[..count.min(MOST_PIECE + 1)])
 }
 
-/// Whether one letter more than a piece may have is refused, and then as many as it may have fill the screen.
+/// Returns true if a piece one letter too long is refused, and then one of the most letters fills the screen.
 pub fn takes_the_longest(alloc: Global, term: &mut Term) -> bool {
     let full = "aaaaaaaa|aaaaaaaa|2 8 shown";
     feed_letters(term, MOST_PIECE + 1) == Err(Fault::TooLong)
@@ -167,7 +167,7 @@ fn takes(term: &mut Term, wanted: &[u8]) -> bool {
     &out[..count] == wanted
 }
 
-/// Whether a full queue refuses a piece and loses nothing.
+/// Returns true if a full queue refuses a piece and loses nothing.
 pub fn fills_and_empties(term: &mut Term) -> bool {
     fills(term) && empties(term)
 }
@@ -197,7 +197,7 @@ fn empties(term: &mut Term) -> bool {
     told && term.output_len() == 0
 }
 
-/// Whether nothing waits.
+/// Returns true if no bytes are queued.
 pub fn has_nothing(term: &mut Term) -> bool {
     let waiting = term.output_len();
     let mut out = [7; 3];
@@ -215,7 +215,7 @@ fn feed_any(term: &mut Term, state: &mut u32) -> bool {
     term.feed(&piece) == Ok(())
 }
 
-/// Whether any bytes are read.
+/// Returns true if any bytes are read.
 pub fn takes_any(term: &mut Term) -> bool {
     let mut state: u32 = 1;
     let mut fed = true;
@@ -258,7 +258,7 @@ fn pieces_and_the_queue(rt: HostRuntime) {
     assert!(rt; stands(rt.alloc(), 24, 80, 0, Trial::AnyBytes), "bytes");
 }
 
-// Whether the cursor is behind two letters, or memory is refused.
+// Returns true if the cursor is behind two letters, or memory is refused.
 fn is_behind_two(alloc: Global, term: &Term) -> bool {
     match term.shot(alloc, 0) {
         Ok(shot) => shot.cursor() == (1, 3),

@@ -34,14 +34,14 @@ pub fn pair(text: &str) -> Option<(u16, u16)> {
     }
 }
 
-// Whether the cursor is that of a text such as `2 8 shown`.
+// Returns true if the cursor is that of a text such as `2 8 shown`.
 fn is_cursor(shot: &Shot, text: &str) -> bool {
     let (place, state) = text.rsplit_once(' ').unwrap_or((text, ""));
     let wanted = if shot.visible() { "shown" } else { "hidden" };
     pair(place) == Some(shot.cursor()) && state == wanted
 }
 
-// Whether a screen is that of a text: its rows, each with a bar behind it, and then its cursor.
+// Returns true if a screen is that of a text: its rows, each with a bar behind it, and then its cursor.
 fn is_shown(alloc: Global, shot: &Shot, wanted: &str) -> Result<bool, Fault> {
     let mut parts = wanted.split('|');
     let mut same = true;
@@ -52,7 +52,7 @@ fn is_shown(alloc: Global, shot: &Shot, wanted: &str) -> Result<bool, Fault> {
     Ok(same && is_cursor(shot, parts.next().unwrap_or("")) && parts.next().is_none())
 }
 
-// Whether the rows of a view one by one, and its cursor, are those of its screen.
+// Returns true if the rows of a view one by one, and its cursor, are those of its screen.
 fn is_row_by_row(alloc: Global, term: &Term, view: u16, shot: &Shot) -> Result<bool, Fault>
     requires rows { shot.now.rows ≡ term.now.live.screen.rows }
 {
@@ -64,18 +64,18 @@ fn is_row_by_row(alloc: Global, term: &Term, view: u16, shot: &Shot) -> Result<b
     Ok(are_same_cells(shot.cells(), &cells) && cursor == shot.cursor() && visible == shot.visible())
 }
 
-/// Whether a view shows the screen of a text, whole and row by row; refuses want of memory.
+/// Returns true if a view shows the screen of a text, whole and row by row. `OutOfMemory`.
 pub fn shown(alloc: Global, term: &Term, view: u16, wanted: &str) -> Result<bool, Fault> {
     let shot = term.shot(alloc, view)?;
     Ok(is_shown(alloc, &shot, wanted)? && is_row_by_row(alloc, term, view, &shot)?)
 }
 
-/// Whether a view shows the screen of a text.
+/// Returns true if a view shows the screen of a text.
 pub fn shows(alloc: Global, term: &Term, view: u16, wanted: &str) -> bool {
     shown(alloc, term, view, wanted) == Ok(true)
 }
 
-/// Whether the cursor is at a place such as `2 8`.
+/// Returns true if the cursor is at a place such as `2 8`.
 pub fn is_at(alloc: Global, term: &Term, wanted: &str) -> bool {
     matches!(term.shot(alloc, 0), Ok(shot) if pair(wanted) == Some(shot.cursor()))
 }

@@ -1,4 +1,4 @@
-//! The history, views and sizes: which rows leave for the history, what a view shows of them, and what a size makes of both.
+//! The history, views and sizes: the rows that leave for the history, the rows of a view, and the effect of a size on both.
 use crate::rows::{pair, shown, shows};
 use crate::trials::{Trial, stands};
 use roam_cells::Fault;
@@ -7,8 +7,8 @@ use roam_term::Term;
 use std::alloc::Global;
 use std::test::*;
 
-// Cases with an empty line between them: a name; the terminal's rows, columns and lines, and the view; what is fed, `> 2 8` between for a
-// size of 2 rows and 8 columns; and in one line the rows that are shown then, and the cursor from row and column 1.
+// Cases with an empty line between them: a name; the terminal's rows, columns and lines, and the view; the input, with `> 2 8` for a size
+// of 2 rows and 8 columns; and in one line the rows that are shown then, and the cursor from row and column 1.
 const CASES: &str = "\
 a smaller screen: rows leave at the top so that the cursor's stays
 4 8 500, view 0
@@ -168,7 +168,7 @@ abcd
 \x1B[2bx
 abcx  |      |1 5 shown";
 
-// Four rows on a screen of two, and what it shows one row back.
+// Four rows on a screen of two, and its view one row back.
 const FOUR_IN_TWO: &str = "1\r\n2\r\n3\r\n4\n> 2 8";
 
 const ONE_BACK: &str = "2       |3       |2 2 hidden";
@@ -191,7 +191,7 @@ fn take(alloc: Global, term: &mut Term, steps: &str) -> Result<(), Fault> {
     Ok(())
 }
 
-/// Whether steps leave the screen of a view, which stands in the last line.
+/// Returns true if steps lead to the view in the last line.
 pub fn shows_after(alloc: Global, term: &mut Term, view: u16, text: &str) -> bool {
     let (steps, wanted) = text.rsplit_once('\n').unwrap_or((text, ""));
     take(alloc, term, steps).is_ok() && shows(alloc, term, view, wanted)
@@ -221,7 +221,7 @@ fn rows_that_leave_and_sizes(rt: HostRuntime) {
     }
 }
 
-/// Whether the first byte of a wide character, a size, and a byte that can't go on leave a broken character in the size.
+/// Returns true if the first byte of a wide character, a size, and a bad byte leave a replacement character in the size.
 pub fn takes_a_size_inside(alloc: Global, term: &mut Term) -> bool {
     term.feed(b"\xE4").is_ok()
         && term.resize(alloc, 3, 8).is_ok()
@@ -238,7 +238,7 @@ fn feed_number(alloc: Global, term: &mut Term, n: u16) -> bool {
     matches!(format!(in alloc; "{n}\r\n"), Ok(line) if term.feed(line.as_bytes()).is_ok())
 }
 
-/// Whether of 501 rows that left the last 500 are kept.
+/// Returns true if of 501 rows that left the last 500 are kept.
 pub fn loses_the_oldest(alloc: Global, term: &mut Term) -> bool {
     for n in 1..=502u16 {
         if !feed_number(alloc, term, n) {
@@ -259,7 +259,7 @@ fn has_size(shot: &Shot, size: (u16, u16)) -> bool {
     (shot.rows(), shot.cols()) == size && row <= size.0 && col <= size.1
 }
 
-/// Whether a view has a size, and its cursor within.
+/// Returns true if a view has a size, and its cursor within.
 pub fn is_whole(alloc: Global, term: &Term, size: (u16, u16), view: u16) -> bool {
     matches!(term.shot(alloc, view), Ok(shot) if has_size(&shot, size))
 }
@@ -278,7 +278,7 @@ fn stays_whole(alloc: Global, term: &mut Term, state: &mut u32, size: (u16, u16)
         && is_whole(alloc, term, size, (next(state) % 50) as u16)
 }
 
-/// Whether a fixed sequence of sizes with text between leaves a screen that is whole after each (`Shot` holds no other).
+/// Returns true if a fixed sequence of sizes with text between leaves a whole screen after each (`Shot` has no other).
 pub fn takes_a_thousand(alloc: Global, term: &mut Term) -> bool {
     let mut state = 7;
     for _ in 0..1000 {
@@ -311,7 +311,7 @@ fn is_fitted(alloc: Global, term: &Term) -> bool {
     matches!(term.fit(alloc, 3, 9), Ok(fitted) if (fitted.rows(), fitted.cols(), fitted.lines()) == (3, 9, 500))
 }
 
-/// Whether the same is shown after each refused size, and after a fit.
+/// Returns true if the same is shown after each refused size, and after a fit.
 pub fn keeps_its_size(alloc: Global, term: &mut Term) -> bool {
     take(alloc, term, FOUR_IN_TWO).is_ok()
         && refuses_all(alloc, term)
@@ -335,7 +335,7 @@ fn sizes_and_a_full_history(rt: HostRuntime) {
     );
 }
 
-// Whether a size that is refused for want of memory changes nothing, and the same size with memory ends where it ends without a refusal.
+// Returns true if a size refused for memory changes nothing, and the same size with memory has the result of one without a refusal.
 fn survives_a_refusal(alloc: Global, term: &mut Term) -> bool {
     if term.feed(b"1\r\n2\r\n3\r\n4") != Ok(()) {
         return false;

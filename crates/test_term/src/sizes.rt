@@ -1,4 +1,4 @@
-//! Sizes from each to each: which rows leave, what is cut, where the cursor goes, on the main and on the alternate screen.
+//! Sizes from each to each: the rows that leave, the cut parts, and the cursor, on the main and on the alternate screen.
 use crate::trials::{Trial, stands};
 use roam_cells::Fault;
 use roam_screens::Shot;
@@ -57,7 +57,7 @@ fn control(alloc: Global, term: &mut Term, number: u16, end: &[u8]) -> Result<()
     Ok(())
 }
 
-// A row's letter, and where columns are cut a wide character across the edge.
+// Writes a row's letter, and, if columns are cut, a wide character across the edge.
 fn lay_row(alloc: Global, term: &mut Term, case: &Case, row: u16) -> Result<(), Fault> {
     control(alloc, term, row.saturating_add(1), b"H")?;
     term.feed(&[case.letter(row)])?;
@@ -89,7 +89,7 @@ fn has(row: &[char], letter: u8) -> bool {
     row.first() == Some(&(letter as char)) && row.iter().skip(1).all(|c| *c == ' ')
 }
 
-// Whether a screen's first row is this row of the old screen, and the others follow.
+// Returns true if a screen begins with this row of the old screen, and the others follow.
 fn has_rows(alloc: Global, shot: &Shot, case: Case, first: u16) -> bool {
     for row in 0..shot.rows() {
         let letter = case.letter(first.saturating_add(row));
@@ -128,7 +128,7 @@ fn moves_the_cursor(alloc: Global, term: &Term, case: Case) -> bool {
     cursor_is(alloc, term, case.leaving(), row, below <= case.new.0)
 }
 
-/// Whether a terminal that is laid out takes the size.
+/// Returns true if a filled terminal takes the size.
 pub fn takes_its_size(alloc: Global, term: &mut Term, case: Case) -> bool {
     lay(alloc, term, case).is_ok()
         && term.resize(alloc, case.new.0, case.new.1).is_ok()

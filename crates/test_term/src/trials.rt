@@ -1,4 +1,4 @@
-//! What is tried of a terminal, which is made here alone: a function that owns one is dear to prove.
+//! The trials of a terminal. It is made only here: a function that owns one is expensive to prove.
 use crate::edges::feeds;
 use crate::keys::{is_filled, sends};
 use crate::pieces::{
@@ -18,9 +18,9 @@ use std::alloc::Global;
 pub enum Trial<'a> {
     /// Bytes in two parts, each in pieces of a size, and the screen after them.
     Pieces(&'a [u8], &'a [u8], usize, &'a str),
-    /// Bytes behind an X in the last column, and where the cursor is after a Y.
+    /// Bytes behind an X in the last column, and the cursor after a Y.
     Wrap(&'a [u8], &'a str),
-    /// What was read before, an act, and the bytes that its key sends then.
+    /// The input before, an act, and the bytes of its key then.
     Sent(&'a str),
     FullQueue,
     /// Steps, and in the last line the screen of a view.
@@ -30,9 +30,9 @@ pub enum Trial<'a> {
     ThousandSizes,
     RefusedSizes,
     Size(Case),
-    /// What is fed, and the style in which a character stands then.
+    /// The input, and the style of a character then.
     Rendition(&'a str, Style),
-    /// What is fed, and whether the first character is in reverse then.
+    /// The input, and true if the first character is in reverse then.
     Reverse(&'a str, bool),
     /// A screen of this size.
     Whole(u16, u16),
@@ -72,7 +72,7 @@ fn tries_pieces(alloc: Global, term: &mut Term, trial: Trial<'_>) -> bool {
     }
 }
 
-/// Whether a new terminal of these rows, columns and lines stands the trial.
+/// Returns true if a new terminal of these rows, columns and lines passes the trial.
 pub fn stands(alloc: Global, rows: u16, cols: u16, lines: u16, trial: Trial<'_>) -> bool {
     match Term::new(alloc, rows, cols, lines) {
         Ok(mut term) => tries(alloc, &mut term, trial),

@@ -5,7 +5,7 @@ use roam_cells::Fault;
 use roam_term::Term;
 use std::alloc::Global;
 
-/// Whether a terminal with 500 lines of history shows what it was fed, and answers where its cursor is.
+/// Returns true if a terminal with 500 lines of history shows its input, and reports its cursor.
 pub fn shows_and_answers(alloc: Global) -> Result<bool, Fault> {
     let mut term = Term::new(alloc, 24, 80, 500)?;
     term.feed(b"abc\r\n\x1B[2;5Hdef\x1B[6n")?;

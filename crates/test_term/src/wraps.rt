@@ -1,7 +1,7 @@
-//! What becomes of a pending wrap: which functions clear it, and which leave it to the character that follows (this project's profile).
+//! The effect of functions on a pending wrap: some clear it, and others leave it to the next character (this project's profile).
 //!
-//! A row has bytes and the cursor that shows their effect: on a screen of 3 by 8 an X is written in the last column of the first row, then
-//! the bytes, then a Y. Where the wrap still pends, Y goes to the second row. Control characters are written as their pictures.
+//! A row has bytes and the cursor that shows their effect. On a screen of 3 by 8 an X is written in the last column of the first row, then
+//! the bytes, then a Y. If the wrap is still pending, Y goes to the second row. Control characters are written as their pictures.
 use crate::rows::{bytes_of, is_at};
 use crate::trials::{Trial, stands};
 use roam_term::Term;
@@ -56,7 +56,7 @@ const CLEARS: &str = r##"␈|1 8
 ␛#8|1 2
 ␛c|1 2"##;
 
-// All else leaves it; so do shifts, what is refused or isn't listed, strings, and a state that is restored with it; REP carries it out.
+// All others leave it; so do shifts, refused and unlisted functions, strings, and a state restored with it; REP uses it.
 const LEAVES: &str = r##"␀|2 2
 ␇|2 2
 ␎␏|2 2
@@ -101,7 +101,7 @@ const LEAVES: &str = r##"␀|2 2
 ␛X␛\|2 2
 ␛[b|2 3"##;
 
-/// Whether the cursor is there after an X in the last column, some bytes, and a Y.
+/// Returns true if the cursor is there after an X in the last column, some bytes, and a Y.
 pub fn leaves_cursor(alloc: Global, term: &mut Term, bytes: &[u8], wanted: &str) -> bool {
     term.feed(b"\x1B[1;8HX").is_ok()
         && term.feed(bytes).is_ok()

@@ -1,4 +1,4 @@
-//! Each call of a turn fails in turn: later turns bring all ends to where they come without a failure.
+//! Each call of a turn fails in turn: later turns bring all ends to the state without a failure.
 ghost use Rattle.std.specs.Prelude.{◌≡◌, IfSome};
 ghost use Rattle.roam_acts.specs.Acts.{IsInRange};
 ghost use Rattle.roam_turns.specs.Painting.{IsBehind};
@@ -14,7 +14,7 @@ use roam_turns::memory::RecordedCall;
 use std::alloc::Global;
 use std::test::*;
 
-/// Milliseconds from one round to the next: more than what is not acknowledged waits.
+/// The milliseconds from one round to the next: longer than an unacknowledged datagram waits.
 const APART: u64 = 300;
 
 /// Whose turn it is in which a call fails.
@@ -78,7 +78,7 @@ fn next_of(is_due: bool, act: &Act) -> Option<&Act>
     if is_due { Some(act) } else { None }
 }
 
-// What the starts sent comes to the server, which has a turn, and what it sent comes to them. Both programs write in round 2.
+// Gives the server the datagrams of the starts, takes its turn, and gives them its datagrams. Both programs write in round 2.
 fn serve(alloc: Global, stage: &mut Stage, round: u64, fails: u64) -> Result<(), Fault>
     ensures first_client { stage.new.first.client ≡ stage.old.first.client }
     ensures first_outer { stage.new.first.outer ≡ stage.old.first.outer }
@@ -125,7 +125,7 @@ fn has_top<S: Seen>(alloc: Global, shot: &S) -> bool {
     if shot.rows() == 0 {
         return false;
     }
-    // (once more where memory was refused)
+    // (once more if memory was refused)
     let points = match row_text(alloc, shot, 0) {
         Err(Fault::OutOfMemory) => row_text(alloc, shot, 0),
         answer => answer,
@@ -150,7 +150,7 @@ fn shows_top(alloc: Global, term: &mut Term, ports: &MemoryPorts) -> bool {
         && matches!(term.shot(alloc, 0), Ok(shot) if has_top(alloc, &shot))
 }
 
-// Whether a start shows the last screen, and so does a terminal to which all was written that was shown.
+// Returns true if a start shows the last screen, and so does a terminal with all painted bytes.
 fn is_shown(alloc: Global, end: &End) -> bool {
     match Term::new(alloc, 24, 80, 0) {
         Ok(mut term) => has_top(alloc, &end.screen()) && shows_top(alloc, &mut term, end.ports()),
@@ -227,7 +227,8 @@ fn a_failed_call_of_a_start_is_made_good(rt: HostRuntime) {
     assert_eq!(rt; first_lost(rt.alloc(), Who::Second), None);
 }
 
-// The first pair that isn't made good, of a call of the server's turn in a round and one of a start's, that round or the one before.
+// Returns the first pair that isn't made good: a call of the server's turn in a round and one of a start's, in that round or the one
+// before.
 fn first_lost_pair(alloc: Global, starts: Who) -> Option<(u64, u64)> {
     for round in 2..5 {
         for call in 1..8 {
@@ -255,8 +256,8 @@ fn two_calls_that_fail_at_once_are_made_good(rt: HostRuntime) {
     assert_eq!(rt; first_lost_pair(rt.alloc(), Who::Second), None);
 }
 
-// To be run with each of its allocations refused in turn, too: what a turn has no memory for comes in a later one. What the stage itself
-// has no memory for ends it.
+// This test also runs with each of its allocations refused in turn: a later turn makes up for refused memory. It ends if there is no memory
+// for the stage itself.
 #[test]
 fn refused_memory_is_made_good(rt: HostRuntime) {
     let come = is_played(rt.alloc(), Play::Refusals);

@@ -1,6 +1,6 @@
 //! Tests of the turns, over ports in memory and the program's own server and client starts; and of predictions over screens.
 //!
-//! They lie here and not beside the code, since a crate with tests is proved twice by the gate.
+//! They have a crate of their own, since the gate proves a crate with tests twice.
 #![tactic(auto)]
 
 #[cfg(test)]

@@ -1,8 +1,8 @@
-//! Parts of screens cell by cell, the lines that ask for them, and the records that a front end is told.
+//! Parts of screens cell by cell, the lines that ask for them, and the records of a front end.
 //!
-//! Tables are texts, a case after the other with an empty line between them. A case has in its first line the rows and columns of a
-//! terminal, what is written to it, the line that asks for a part, and one that masks some of it or nothing, with bars between; then comes
-//! the text of the part, with a slash for what stands between two cells.
+//! Tables are texts, one case after another with an empty line between them. A case has in its first line the rows and columns of a
+//! terminal, its input, the line that asks for a part, and one that masks some of it or nothing, with bars between. Then comes the text of
+//! the part, with a slash between two cells.
 use roam_cells::Fault;
 use roam_display_records::{Looking, Record, TakenLines, record_text, screen_text};
 use roam_screens::RowShot;
@@ -48,7 +48,7 @@ fn mask_asked(line: &str) -> Part {
     }
 }
 
-// Whether a text is another one, with a slash for IS1.
+// Returns true if a text is another one, with a slash for IS1.
 fn is_told(text: &[u8], expected: &str) -> bool {
     let mut bytes = expected.bytes();
     for byte in text {
@@ -86,7 +86,7 @@ fn is_part(alloc: Global, case: &str) -> Result<bool, Fault> {
     Ok(is_told(rows, expected))
 }
 
-/// Wide characters that are cut at either edge and by a mask, places outside the screen, a cursor that is outside; a part with the cursor.
+/// Wide characters cut at either edge and by a mask, places outside the screen, a cursor outside; a part that follows the cursor.
 const PARTS: &str = "\
 3 6|ab中d\x1B[2;1Hxyz|part 0 0 2 4|
 2 4 2 4 visible
@@ -165,7 +165,7 @@ fn records_are_told(rt: HostRuntime) -> Result<(), Fail> {
     Ok(())
 }
 
-/// Lines are told once they and all before them are acknowledged, also where more wait than are kept apart; no line that is none is read.
+/// Lines are reported once they and all before them are acknowledged, also if more wait than are kept apart; no bad line is read.
 #[test]
 fn lines_are_taken(rt: HostRuntime) -> Result<(), Fail> {
     let mut lines = TakenLines::new();

@@ -1,4 +1,4 @@
-//! What is played on a stage, which one function owns: each way out of it is proved with all that is dropped there.
+//! The plays on a stage. One function owns it, since each of its exits is proved with all that is dropped there.
 ghost use Rattle.roam_turns.specs.Painting.{IsBehind};
 
 use crate::failing::{Failure, Failures, NONE, has_settled, is_right, play_all};
@@ -7,7 +7,7 @@ use crate::stage::Stage;
 use roam_cells::Fault;
 use std::alloc::Global;
 
-/// What is played on a stage.
+/// A play on a stage.
 #[derive(Clone, Copy)]
 pub enum Play {
     /// Fourteen rounds, in which calls fail: both terminals come to show the last screen.
@@ -18,7 +18,7 @@ pub enum Play {
     Opening,
 }
 
-// Whether a play ends as it should.
+// Returns true if a play has its expected end.
 fn ends(alloc: Global, stage: &mut Stage, play: Play) -> Result<bool, Fault>
     requires first { IsBehind stage.old.first.outer stage.old.first.client.kept.receiver.newest.number
         stage.old.first.client.kept.receiver.newest.state }
@@ -42,7 +42,7 @@ fn ends(alloc: Global, stage: &mut Stage, play: Play) -> Result<bool, Fault>
     }
 }
 
-/// Whether a play ends as it should on a new stage.
+/// Returns true if a play has its expected end on a new stage.
 pub fn is_played(alloc: Global, play: Play) -> Result<bool, Fault> {
     let mut stage = Stage::new(alloc)?;
     ends(alloc, &mut stage, play)

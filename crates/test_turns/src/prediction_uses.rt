@@ -7,7 +7,7 @@ use roam_prediction::{Moment, Predictions};
 use roam_screens::RowShot;
 use std::alloc::Global;
 
-/// What is shown over a screen once an act is typed there; the screen before it is the same, and nothing is acknowledged.
+/// Returns the screen with its overlay after an act is typed there; the screen before is the same, and nothing is acknowledged.
 pub fn shown_after(alloc: Global, act: &Act, screen: &RowShot) -> Result<RowShot, Fault> {
     let mut predictions = Predictions::new(alloc)?;
     predictions.typed(1, act, screen);

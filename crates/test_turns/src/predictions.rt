@@ -1,8 +1,8 @@
-//! What is shown over the screen of a terminal while keys are typed, as text.
+//! The overlay on the screen of a terminal while keys are typed, as text.
 //!
-//! A line begins with `feed`, what the program writes; `type`, an act; `paste`, how many acts are typed that aren't to be predicted; `ack`,
-//! how many acts are acknowledged; `lose`, how many are where the screen couldn't be kept; `at`, a moment in milliseconds; `slow`, how many
-//! milliseconds what is typed takes to be shown; or `shows`, the text of the cursor's row and, behind `|`, the cursor's column.
+//! A line begins with `feed`, the program's output; `type`, an act; `paste`, a number of typed acts without predictions; `ack`, a number of
+//! acknowledged acts; `lose`, the same after a screen that couldn't be kept; `at`, a moment in milliseconds; `slow`, the milliseconds until
+//! input is shown; or `shows`, the text of the cursor's row and, behind `|`, the cursor's column.
 use roam_acts::read_act;
 use roam_cells::Fault;
 use roam_prediction::{Moment, Predictions};
@@ -11,7 +11,7 @@ use roam_term::Term;
 use std::alloc::Global;
 use std::test::*;
 
-/// A terminal, what was shown of it before and is now, and what is predicted over it.
+/// A terminal, its screen before and now, and its predictions.
 #[derive(Drop)]
 struct Stage {
     term: Term,
@@ -82,7 +82,7 @@ impl Stage {
         Ok(true)
     }
 
-    // What is typed takes so long to be shown.
+    // Sets the milliseconds until input is shown.
     fn slow(&mut self, text: &str) -> bool {
         let Ok(delay) = text.parse::<u64>() else {
             return false;
@@ -140,7 +140,7 @@ impl Stage {
     }
 }
 
-// Whether a row has a text, and spaces behind it.
+// Returns true if a row has a text, and spaces behind it.
 fn is_text(row: &[char], text: &str) -> bool {
     let mut chars = text.chars();
     for c in row {
@@ -151,7 +151,7 @@ fn is_text(row: &[char], text: &str) -> bool {
     chars.next().is_none()
 }
 
-/// Stories, each of its own, with an empty line between them: a session of 4 rows and 20 columns, whose last row is the status row.
+/// Independent stories with an empty line between them: a session of 4 rows and 20 columns, whose last row is the status row.
 const STORIES: &str = "\
 feed $\x20
 type char 6c

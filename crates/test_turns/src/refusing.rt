@@ -9,7 +9,7 @@ use roam_turns::{MemoryPorts, ServerCore, serve_turn};
 use std::alloc::Global;
 use std::test::*;
 
-/// What it was handed: how many datagrams, of how many bytes, how many bytes of programs, how many ticks.
+/// What it was given: datagrams, their bytes, bytes of programs, and ticks.
 #[derive(Clone, Copy, Debug, PartialEq, Eq)]
 struct Refuser {
     datagrams: usize,
@@ -75,7 +75,7 @@ fn deliver(ports: &mut MemoryPorts) -> Result<(), Fault> {
     Ok(())
 }
 
-// Whether all that came was handed over, and nothing was sent.
+// Returns true if everything that arrived was passed on, and nothing was sent.
 fn is_handed_all(alloc: Global, ports: &mut MemoryPorts) -> bool {
     let mut refuser = Refuser {
         datagrams: 0,

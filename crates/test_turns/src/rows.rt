@@ -1,4 +1,4 @@
-//! The calls of a turn, in order, and what is shown and sent byte for byte.
+//! The calls of a turn, in order, and the shown and sent bytes.
 ghost use Rattle.std.specs.Prelude.{◌≡◌};
 ghost use Rattle.roam_turns.specs.Painting.{IsBehind};
 
@@ -30,7 +30,7 @@ fn letter(call: &RecordedCall) -> char {
     }
 }
 
-/// Whether these are the calls, a letter each.
+/// Returns true if these are the calls, a letter each.
 pub fn are_letters(calls: &[RecordedCall], told: &str) -> bool {
     let mut letters = told.chars();
     for call in calls {
@@ -41,9 +41,9 @@ pub fn are_letters(calls: &[RecordedCall], told: &str) -> bool {
     letters.next().is_none()
 }
 
-/// One turn of a new server, a line each: how many datagrams come, which call fails, how many bytes the program of pane 1 takes, and how
-/// many wait for it after the turn; the calls; and behind a bar what the program writes before it. Of 33 datagrams the last waits for the
-/// next turn. DA (`\x1B[c`) is answered by 8 bytes. A call that fails brings nothing, or takes nothing.
+/// One turn of a new server, a line each: the number of datagrams, the call that fails, the number of bytes that the program of pane 1
+/// takes, and the number queued for it after the turn; the calls; and behind a bar the program's output before it. Of 33 datagrams the last
+/// waits for the next turn. DA (`\x1B[c`) has an answer of 8 bytes. A call that fails brings nothing, or takes nothing.
 const TURNS: &str = "\
 0 0 9 0: NrLllllllllg|
 2 0 9 0: NRRrLllllllllg|
@@ -57,7 +57,7 @@ const TURNS: &str = "\
 2 5 9 0: NRRrLllllllllg|\x1B[c
 2 6 9 8: NRRrLllllllllGt|\x1B[c";
 
-/// What comes to a turn, and what is wanted of it.
+/// The input of a turn, and its expected result.
 #[derive(Clone, Copy)]
 struct Row<'a> {
     datagrams: u64,
@@ -68,7 +68,7 @@ struct Row<'a> {
     piece: &'a str,
 }
 
-// Whether a text is as many numbers as there is place for, which are put there.
+// Puts the numbers of a text into the places, and returns true if there are equally many.
 fn reads_numbers(text: &str, places: &mut [u64]) -> bool {
     let mut words = text.split(' ');
     for place in places.iter_mut() {
@@ -98,7 +98,7 @@ fn row_of(line: &str) -> Option<Row<'_>> {
     })
 }
 
-// What comes through ports, and which call of theirs fails.
+// Prepares the input of ports, and the call of theirs that fails.
 fn prepare(ports: &mut MemoryPorts, row: Row<'_>) -> Result<(), Fault> {
     for _ in 0..row.datagrams {
         ports.deliver(SERVER, b"no datagram")?;
@@ -138,7 +138,7 @@ fn a_turn_makes_its_calls_in_order(rt: HostRuntime) {
     }
 }
 
-// Whether the last screen that was shown is this text.
+// Returns true if the last shown screen is this text.
 fn showed(ports: &MemoryPorts, text: &str) -> bool {
     let mut is_shown = false;
     for call in ports.told() {
@@ -176,7 +176,7 @@ fn opens(alloc: Global, end: &mut End) -> bool
     showed(end.ports(), OPENED) && sent(end.ports()) == (1, 60)
 }
 
-// What a start sent comes to the server, and what that sent comes back.
+// Gives the server the datagrams of a start, and the start those of the server.
 fn carry(alloc: Global, stage: &mut Stage) -> Result<(), Fault>
     ensures client { stage.new.first.client ≡ stage.old.first.client }
     ensures outer { stage.new.first.outer ≡ stage.old.first.outer }

@@ -1,4 +1,4 @@
-//! A server and two client starts, each with its ports, and a network that carries what they send.
+//! A server and two client starts, each with its ports, and a network between them.
 ghost use Rattle.std.specs.Prelude.{◌≡◌, None, IfSome, IfOk};
 ghost use Rattle.roam_acts.specs.Acts.{IsInRange};
 ghost use Rattle.roam_turns.specs.Painting.{IsBehind};
@@ -39,7 +39,7 @@ pub fn carry(
     Ok(from.told().len())
 }
 
-/// A client start with what is noted of its terminal.
+/// A client start with the noted screen of its terminal.
 #[derive(Drop)]
 pub struct End {
     client: Client,
@@ -100,7 +100,7 @@ pub struct Stage {
     pub ports: MemoryPorts,
     pub first: End,
     pub second: End,
-    // Whether the act of each start was taken.
+    // True if the act of each start was taken.
     pub is_split: bool,
     pub is_typed: bool,
 }
@@ -139,7 +139,7 @@ pub fn serve_at(alloc: Global, server: &mut Server, ports: &mut MemoryPorts, now
     serve_turn(alloc, server, ports);
 }
 
-/// What a start sent comes to the server.
+/// Gives the server the datagrams of a start.
 pub fn carry_up(end: &mut End, server: &mut MemoryPorts) -> Result<(), Fault>
     ensures client { end.new.client ≡ end.old.client }
     ensures outer { end.new.outer ≡ end.old.outer }
@@ -148,7 +148,7 @@ pub fn carry_up(end: &mut End, server: &mut MemoryPorts) -> Result<(), Fault>
     Ok(())
 }
 
-/// What the server sent to a start comes there.
+/// Gives a start the datagrams of the server.
 pub fn carry_down(server: &MemoryPorts, end: &mut End) -> Result<(), Fault>
     ensures client { end.new.client ≡ end.old.client }
     ensures outer { end.new.outer ≡ end.old.outer }

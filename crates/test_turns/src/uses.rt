@@ -20,7 +20,7 @@ pub fn begin<P: Ports>(alloc: Global, client: &mut Client, ports: &mut P, server
     )
 }
 
-/// Whether such a turn, over ports in memory, sends a datagram to the server and opens the outer terminal.
+/// Returns true if such a turn, over ports in memory, sends a datagram to the server and opens the outer terminal.
 pub fn is_begun(alloc: Global, client: &mut Client, server: Addr) -> bool {
     let mut ports = MemoryPorts::new(alloc);
     let mut is_sent = false;

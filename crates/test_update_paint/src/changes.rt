@@ -1,9 +1,9 @@
-//! Changes of screens, byte for byte, in version 1: texts that are written as they were read, texts that are refused, what leads from one
-//! screen to another. What both versions share takes any screen.
+//! Changes of screens, byte for byte, in version 1: texts that are written again as read, refused texts, and changes between screens. The
+//! parts that both versions share take any screen.
 //!
-//! Tables are texts of hexadecimal digits in words; a word with `*8` behind it stands there eight times. A row has what becomes of a text,
-//! and the text: `kept`, written again as it was read; `beginnings`, each proper one refused; `refused`, and why. A hop has three texts
-//! with `>` between them: those that lead from a blank screen to two others, and the one that leads from the first to the second.
+//! Tables are texts of hexadecimal digits in words; a word with `*8` behind it is repeated eight times. A row has a result and a text:
+//! `kept`, written again as read; `beginnings`, each proper one refused; `refused`, with the reason. A hop has three texts with `>` between
+//! them: those from a blank screen to two others, and the one from the first to the second.
 
 use crate::change;
 use hex::FromHexError;
@@ -29,8 +29,8 @@ const CORNERS: &str =
     "0003 0005 0003 0005 00 00000004 00000000 00000001 010000000000 00000078 00000004 00000001 010000000000 00000078 \
     0000000a 00000001 010000000000 00000078 0000000e 00000001 010000000000 00000078";
 
-// How many other values each byte of ONE may have, by a reader of the grammar that shares no code with this crate; those of the code point
-// may have the values that make a character of one column.
+// The number of other values that each byte of ONE may have, by a reader of the grammar that shares no code with this crate. Those of the
+// code point may have the values that make a character of one column.
 const OTHER_VALUES: &str =
     "0 98 0 246 0 1 0 7 1 0 0 0 0 0 0 0 15 0 0 0 0 0 255 1 0 1 0 narrow narrow narrow narrow";
 
@@ -68,8 +68,8 @@ refused a colour of kind 2: 0002 0008 0001 0001 01 00000001 00000000 00000001 01
 refused a colour of kind 0 with an index: 0002 0008 0001 0001 01 00000001 00000000 00000001 01 00 0000 0001 00000061
 refused a byte too many: 0002 0008 0001 0001 01 00000000 00";
 
-// Screens, each by the text that leads there from a blank one: blank ones, a letter, the corners, a wide character in a style, two that are
-// full of one letter.
+// Screens, each by its text from a blank one: blank ones, a letter, the corners, a wide character in a style, two that are full of one
+// letter.
 const SCREENS: &str = "\
 0002 0004 0001 0001 01 00000000
 0002 0008 0001 0001 01 00000000
@@ -80,8 +80,8 @@ const SCREENS: &str = "\
 0018 0050 0001 0001 01 00000001 00000000 00000780 01000000000000000079*1920
 0064 00fa 0001 0001 01 00000001 00000000 000061a8 0100000000000000007a*25000";
 
-// Screens that an independent terminal made of random input, with the changes that an independent writer made of them; and the longest of
-// one letter a cell, where a cell has ten bytes, a run's head eight and a change thirteen.
+// Screens that an independent terminal made of random input, with the changes of an independent writer; and the longest one of one letter a
+// cell, with ten bytes a cell, eight a run's head, and thirteen a change.
 const HOPS: &str = "\
 0002 0004 0002 0002 01 00000001 00000004 00000001 010000000000 0000002d
 > 0002 0004 0002 0001 01 00000001 00000004 00000001 010000000000 0000002d
@@ -210,7 +210,7 @@ pub fn bytes_of(alloc: Global, words: &str) -> Result<Vec<u8>, Fault> {
     Ok(bytes)
 }
 
-/// Whether two screens show the same.
+/// Returns true if two screens are equal.
 pub fn is_same<S: Seen>(one: &S, other: &S) -> bool {
     if one.rows() != other.rows() || one.cols() != other.cols() {
         return false;
@@ -223,14 +223,14 @@ pub fn is_same<S: Seen>(one: &S, other: &S) -> bool {
     one.cursor() == other.cursor() && one.visible() == other.visible()
 }
 
-/// What a text makes of a screen.
+/// Returns the screen after a text.
 pub fn made<S: Synced>(alloc: Global, base: &S, text: &[u8]) -> Result<S, Fault> {
     let mut shot = base.copy(alloc)?;
     shot.apply(alloc, text)?;
     Ok(shot)
 }
 
-/// What a text in digits makes of a screen.
+/// Returns the screen after a text in digits.
 pub fn made_by<S: Synced>(alloc: Global, base: &S, words: &str) -> Result<S, Fault> {
     let text = bytes_of(alloc, words)?;
     made(alloc, base, &text)
@@ -240,12 +240,12 @@ fn is_change<S: Synced>(alloc: Global, base: &S, shot: &S, text: &[u8]) -> bool 
     matches!(change(alloc, base, shot), Ok(written) if written.as_slice() == text)
 }
 
-/// Whether a text leads from a screen to another, from where it is written again.
+/// Returns true if a text leads from a screen to another, and is written again from there.
 pub fn is_kept<S: Synced>(alloc: Global, blank: &S, text: &[u8]) -> bool {
     matches!(made(alloc, blank, text), Ok(shot) if is_change(alloc, blank, &shot, text))
 }
 
-// Whether a text is refused, and leaves a screen as it was.
+// Returns true if a text is refused, and leaves a screen as it was.
 fn is_refused<S: Synced + Seen>(alloc: Global, old: &S, text: &[u8]) -> bool {
     match Synced::copy(old, alloc) {
         Ok(mut shot) => shot.apply(alloc, text) == Err(Fault::BadChange) && is_same(&shot, old),
@@ -270,7 +270,7 @@ fn is_so<S: Synced + Seen>(alloc: Global, blank: &S, old: &S, what: &str, text: 
     }
 }
 
-/// Whether a row holds: what is kept leads from a blank screen, what is refused leaves the old one.
+/// Returns true if a row is true: a kept text leads on from a blank screen, and a refused one leaves the old screen.
 pub fn holds<S: Synced + Seen>(alloc: Global, blank: &S, old: &str, row: &str) -> bool {
     let (what, words) = row.split_once(": ").unwrap_or((row, ""));
     match (made_by(alloc, blank, old), bytes_of(alloc, words)) {
@@ -279,7 +279,7 @@ pub fn holds<S: Synced + Seen>(alloc: Global, blank: &S, old: &str, row: &str) -
     }
 }
 
-// Whether the change from one screen to another leads there.
+// Returns true if the change from one screen to another leads there.
 fn leads<S: Synced + Seen>(alloc: Global, base: &S, shot: &S) -> bool {
     match change(alloc, base, shot) {
         Ok(text) => matches!(made(alloc, base, &text), Ok(copy) if is_same(&copy, shot)),
@@ -296,12 +296,12 @@ fn leads_to_each<S: Synced + Seen>(alloc: Global, blank: &S, base: &S, screens: 
     true
 }
 
-/// Whether changes lead from a screen to each of them.
+/// Returns true if changes lead from a screen to each of them.
 pub fn reaches<S: Synced + Seen>(alloc: Global, blank: &S, screen: &str, screens: &str) -> bool {
     matches!(made_by(alloc, blank, screen), Ok(base) if leads_to_each(alloc, blank, &base, screens))
 }
 
-// Whether just this text is written from one screen to another, and leads there.
+// Returns true if exactly this text is written from one screen to another, and leads there.
 fn goes(alloc: Global, old: &RowShot1, new: &RowShot1, text: &[u8]) -> bool {
     is_change(alloc, old, new, text)
         && matches!(made(alloc, old, text), Ok(made) if is_same(&made, new))
@@ -322,7 +322,7 @@ fn blank_of(alloc: Global, cols: u16) -> Result<RowShot1, Fault> {
     RowShot1::of(alloc, &RowShot::blank(alloc, 2, cols)?)
 }
 
-// Whether a row, a screen or a hop holds from a blank screen on.
+// Returns true if a row, a screen or a hop is true from a blank screen on.
 fn holds_from_blank(alloc: Global, table: Table, case: &str) -> bool {
     let Ok(blank) = blank_of(alloc, 8) else {
         return false;
@@ -334,7 +334,7 @@ fn holds_from_blank(alloc: Global, table: Table, case: &str) -> bool {
     }
 }
 
-/// What a case is of.
+/// The table of a case.
 #[derive(Clone, Copy)]
 enum Table {
     Rows,
@@ -375,7 +375,7 @@ fn is_kept_but_for_a_space(alloc: Global, blank: &RowShot1, shot: &RowShot1, tex
     }
 }
 
-// Whether a text, ONE with a byte changed, is taken for what it says: it is written again, but for a space, which is no difference.
+// Returns true if ONE with a changed byte is read by its meaning: it is written again, except for a space, which is no difference.
 fn is_taken(alloc: Global, blank: &RowShot1, text: &[u8]) -> Result<bool, Fault> {
     match made(alloc, blank, text) {
         Ok(shot) => Ok(is_kept_but_for_a_space(alloc, blank, &shot, text)),
@@ -393,7 +393,7 @@ fn text_with(alloc: Global, one: &[u8], place: usize, value: u8) -> Result<Vec<u
     Ok(text)
 }
 
-// How many other values are taken at a place; more than there are where one is refused otherwise.
+// Returns how many other values are accepted at a place; more than there are if one is refused for another reason.
 fn count_taken(alloc: Global, blank: &RowShot1, one: &[u8], place: usize) -> usize {
     let mut count = 0usize;
     for value in 0..=255u8 {
@@ -426,7 +426,7 @@ fn count_narrow(place: usize) -> usize {
     count
 }
 
-// Whether so many other values are taken at a place of ONE.
+// Returns true if so many other values are accepted at a place of ONE.
 fn takes_others(alloc: Global, blank: &RowShot1, place: usize, wanted: &str) -> bool {
     let wanted = if wanted == "narrow" {
         Ok(count_narrow(place.saturating_sub(27)))
@@ -456,7 +456,7 @@ fn change_len(alloc: Global, base: &RowShot1, shot: &RowShot1) -> usize {
     }
 }
 
-// How long the change is from a wide character in 8 columns to a blank screen of fewer; 0 where there is no memory.
+// Returns the length of the change from a wide character in 8 columns to a blank screen of fewer; 0 if memory is refused.
 fn cut_len(alloc: Global, cols: u16, col: u8, flags: u8) -> usize {
     match (wide_at(alloc, col, flags), blank_of(alloc, cols)) {
         (Ok(base), Ok(blank)) => change_len(alloc, &base, &blank),
@@ -464,7 +464,7 @@ fn cut_len(alloc: Global, cols: u16, col: u8, flags: u8) -> usize {
     }
 }
 
-// Both halves, below `cols`, differ from blanks; the left one alone, cut, where its style does; beyond the last column none is named.
+// Both halves, below `cols`, differ from blanks; the left one alone, cut, if its style does; none beyond the last column is named.
 fn named_len(cols: u16, col: u8, is_plain: bool) -> usize {
     let right = u16::from(col) + 1;
     if right < cols {
@@ -476,7 +476,7 @@ fn named_len(cols: u16, col: u8, is_plain: bool) -> usize {
     }
 }
 
-// Whether a wide character that is cut is a space in its style.
+// Returns true if a wide character that is cut is a space in its style.
 fn is_cut_a_space(alloc: Global, cols: u16, col: u8) -> bool {
     cut_len(alloc, cols, col, 0) == named_len(cols, col, true)
         && cut_len(alloc, cols, col, 1) == named_len(cols, col, false)
@@ -489,7 +489,7 @@ fn is_x(shot: &RowShot1, row: u16, col: u16) -> bool {
     }
 }
 
-// Whether a screen of 3 by 5 has `x` in its corners alone.
+// Returns true if a screen of 3 by 5 has `x` only in its corners.
 fn has_corners(shot: &RowShot1) -> bool {
     for row in 1..4 {
         for col in 1..6 {
@@ -502,7 +502,7 @@ fn has_corners(shot: &RowShot1) -> bool {
     shot.rows() == 3 && shot.cols() == 5 && shot.cursor() == (3, 5) && !shot.visible()
 }
 
-/// What is tried of a blank screen.
+/// The trial of a blank screen.
 #[derive(Clone, Copy)]
 enum Trial<'a> {
     AddedAtTheEnd,
@@ -532,7 +532,7 @@ fn each_changed_byte_is_refused_or_exact(rt: HostRuntime) {
     }
 }
 
-// A change is added at the end, and turns each corner; a wide cell that is cut is a space in its style, at each column of each width.
+// A change is added at the end, and turns each corner. A wide cell that is cut is a space in its style, at each column of each width.
 #[test]
 fn ends_corners_and_cuts(rt: HostRuntime) {
     assert!(rt; is_tried(rt.alloc(), Trial::AddedAtTheEnd), "end");
@@ -544,7 +544,7 @@ fn ends_corners_and_cuts(rt: HostRuntime) {
     }
 }
 
-// Whether a call succeeded and did what it is to do, or failed for want of memory and left what stood there.
+// Returns true if a call succeeded and had its effect, or failed for want of memory and changed nothing.
 fn is_done_or_kept(answer: Result<(), Fault>, is_done: bool, is_kept: bool) -> bool {
     match answer {
         Ok(()) => is_done,
@@ -552,7 +552,7 @@ fn is_done_or_kept(answer: Result<(), Fault>, is_done: bool, is_kept: bool) -> b
     }
 }
 
-/// Whether the change from one screen to another is written and applied so, or memory is refused and nothing changes.
+/// Returns true if the change from one screen to another is written and applied so, or memory is refused and nothing changes.
 pub fn is_changed_or_kept<S: Synced + Seen>(
     alloc: Global,
     old: &mut S,
@@ -573,7 +573,7 @@ fn is_copied_or_refused(alloc: Global, shot: &RowShot1) -> bool {
     }
 }
 
-// What the screens themselves have no memory for ends it.
+// The test ends if there is no memory for the screens themselves.
 fn survives(alloc: Global) -> Result<bool, Fault> {
     let mut old = blank_of(alloc, 8)?;
     let text = bytes_of(alloc, ONE)?;

@@ -1,7 +1,7 @@
-//! What leads from one screen to another: the change texts of both versions, and what the painter writes, for `roam_bench hops` to tell;
-//! and tests of them, by public calls alone.
+//! The texts that lead from one screen to another, for `roam_bench hops`: the changes of both versions, and the painting; and tests of
+//! them, by public calls alone.
 //!
-//! They lie here and not beside the code, since a crate with tests is proved twice by the gate.
+//! They have a crate of their own, since the gate proves a crate with tests twice.
 #![tactic(auto)]
 
 #[cfg(test)]
@@ -21,7 +21,7 @@ use std::alloc::Global;
 /// How many bytes a terminal is fed at once.
 const PIECE: usize = 1024;
 
-// Takes a piece; what it answers goes.
+// Feeds a piece, and drops its answers.
 fn take_piece(term: &mut Term, piece: &[u8]) -> Result<(), Fault> {
     term.feed(piece)?;
     let answered = term.output_len();
@@ -61,7 +61,7 @@ pub fn narrow_change(alloc: Global, old: &RowShot, new: &RowShot) -> Result<Vec<
     change(alloc, &old, &new)
 }
 
-/// What the painter writes.
+/// Returns the painting.
 pub fn painted(alloc: Global, old: &RowShot, new: &RowShot) -> Result<Vec<u8>, Fault> {
     let mut text = Vec::new(alloc);
     paint(old, new, &mut text)?;

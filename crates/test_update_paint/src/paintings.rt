@@ -1,7 +1,7 @@
-//! Paintings, each shown by a terminal that stood in the middle of a sequence before it was opened.
+//! Paintings, each shown by a terminal that was in the middle of a sequence before it was opened.
 //!
-//! Tables are texts, a case after the other with an empty line between them: what is written to two terminals, with a bar between, and in
-//! `TEXTS` a name before and the text between their screens behind.
+//! Tables are texts, one case after another with an empty line between them: the input of two terminals, with a bar between. In `TEXTS` a
+//! name comes before, and the text between their screens behind.
 use crate::screen;
 use roam_cells::{Cell, Fault};
 use roam_paint::{open, paint};
@@ -10,7 +10,7 @@ use roam_term::Term;
 use std::alloc::Global;
 use std::test::*;
 
-// Two terminals of 2 by 8: a name, and in the next line what is written to both, and the text.
+// Two terminals of 2 by 8: a name, and in the next line the input of both, and the text.
 const TEXTS: &str = "\
 nothing
 ||\x1B[?25l\x1B[0m\x1B[1;1H\x1B[?25h
@@ -139,7 +139,7 @@ const PAIRS: &str = "\
 
 2 8 abc\x1B[?5h|2 8 abc";
 
-// The screen of a text such as `2 8 abc`: rows, columns, and what is written.
+// Returns the screen of a text such as `2 8 abc`: rows, columns, and the input.
 fn shown_by(alloc: Global, text: &str) -> Result<Shot, Fault> {
     let (rows, rest) = text.split_once(' ').unwrap_or((text, ""));
     let (cols, input) = rest.split_once(' ').unwrap_or((rest, ""));
@@ -164,7 +164,7 @@ fn has_cell(shown: &Shot, screen: &Shot, row: u16, col: u16) -> bool {
     }
 }
 
-// Whether what is shown is a screen, with blanks outside it.
+// Returns true if the terminal's screen is the expected one, with blanks outside it.
 fn is_shown(shown: &Shot, screen: &Shot) -> bool {
     for row in 1..=shown.rows() {
         for col in 1..=shown.cols() {
@@ -185,7 +185,7 @@ fn opening_to(alloc: Global, screen: &Shot) -> Result<Vec<u8>, Fault> {
     Ok(text)
 }
 
-// Whether a terminal shows a screen once a text was written to it.
+// Returns true if a terminal shows a screen after a text.
 fn shows_after(alloc: Global, term: &mut Term, text: &[u8], screen: &Shot) -> bool {
     term.feed(text).is_ok() && matches!(term.shot(alloc, 0), Ok(shown) if is_shown(&shown, screen))
 }
@@ -211,7 +211,7 @@ fn goes_over(alloc: Global, term: &mut Term, old: &Shot, new: &Shot) -> bool {
     }
 }
 
-// A terminal that stands anywhere is opened and goes by an old screen to a new one.
+// Opens a terminal in any state, leads it by an old screen to a new one, and returns true if it shows them.
 fn goes_by(alloc: Global, term: &mut Term, before: &str, old: &Shot, new: &Shot) -> bool {
     term.feed(before.as_bytes()).is_ok()
         && matches!(opening_to(alloc, old), Ok(text) if shows_after(alloc, term, &text, old))
@@ -281,7 +281,7 @@ fn texts(rt: HostRuntime) {
     assert!(rt; opens_behind(rt.alloc()));
 }
 
-// Whether a text is painted behind what stands there; where memory is refused nothing is added, and the same call then adds it.
+// Returns true if a text is appended; if memory is refused nothing is added, and the same call then adds it.
 fn is_painted_or_kept(old: &Shot, new: &Shot, out: &mut Vec<u8>, text: &str) -> bool {
     let before = out.len();
     if paint(old, new, out).is_err() && (out.len() != before || paint(old, new, out).is_err()) {
@@ -298,7 +298,7 @@ fn is_painted_or_nothing(alloc: Global) -> Result<bool, Fault> {
     Ok(is_painted_or_kept(&old, &new, &mut out, text))
 }
 
-// To be run with each of its allocations refused in turn, too. What the values themselves have no memory for ends it.
+// This test also runs with each of its allocations refused in turn. It ends if there is no memory for the values themselves.
 #[test]
 fn refused_memory_paints_nothing(rt: HostRuntime) {
     match is_painted_or_nothing(rt.alloc()) {

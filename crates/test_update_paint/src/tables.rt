@@ -75,7 +75,7 @@ fn rows_and_screens_by_tables(rt: HostRuntime) {
     }
 }
 
-// Whether a cell is `a` in a mixture.
+// Returns true if a cell is `a` in a mixture.
 fn is_mixed(cell: Option<Cell>) -> bool {
     let mixed = Style {
         foreground: Colour::Rgb(10, 20, 30),
@@ -87,7 +87,7 @@ fn is_mixed(cell: Option<Cell>) -> bool {
     }
 }
 
-// Whether a screen is the mixture, also for a client of version 1.
+// Returns true if a screen is the mixture, also for a client of version 1.
 fn is_the_mixture(alloc: Global, blank: &RowShot, shot: &RowShot) -> Result<bool, Fault> {
     let text = narrow_change(alloc, blank, shot)?;
     let narrowed = text.as_slice() == bytes_of(alloc, NARROWED)?.as_slice();
@@ -118,7 +118,7 @@ fn push_cells(text: &mut Vec<u8>) -> Result<(), Fault> {
     Ok(())
 }
 
-// The text from a blank screen to 200 by 500 where each cell has a mixture of its own and three code points.
+// Returns the text from a blank screen to 200 by 500 in which each cell has a mixture of its own and three code points.
 fn largest(alloc: Global) -> Result<Vec<u8>, Fault> {
     let mut text = bytes_of(alloc, "00c8 01f4 0001 0001 01 0186a0")?;
     push_styles(&mut text)?;
@@ -131,8 +131,8 @@ fn keeps_the_largest(alloc: Global, blank: &RowShot) -> bool {
     matches!(largest(alloc), Ok(text) if text.len() == 2_500_024 && is_kept(alloc, blank, &text))
 }
 
-// Texts that are no change, which is told whatever memory there is: nine styles for eight places, a table of eight that is cut short, no
-// number of runs, and a first style that is none.
+// Texts that are no change, refused with any memory: nine styles for eight places, a table of eight that is cut short, a missing number of
+// runs, and a bad first style.
 const REFUSED_AT_ONCE: &str = "\
 0002 0004 0001 0001 01 000009 000000000000000000 010000000000000000 020000000000000000 030000000000000000 040000000000000000 \
     050000000000000000 060000000000000000 070000000000000000 080000000000000000 00000000
@@ -150,7 +150,7 @@ fn are_refused_at_once(alloc: Global, old: &mut RowShot) -> Result<bool, Fault> 
     Ok(true)
 }
 
-// What the screens themselves have no memory for ends it.
+// The test ends if there is no memory for the screens themselves.
 fn survives(alloc: Global) -> Result<bool, Fault> {
     let mut old = RowShot::blank(alloc, 2, 8)?;
     let text = bytes_of(alloc, CORNERS)?;
