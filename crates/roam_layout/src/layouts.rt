@@ -46,7 +46,7 @@ impl Model for Layout {
     ghost invariant = { IsKept };
 }
 
-/// All rows but the last, in which a tree is measured (docs/DECISIONS.md, 31).
+/// Returns the area of a tree: all rows but the last, the status row. A tree's least size is measured in it.
 fn area_of(rows: u16, cols: u16) -> Rect
     requires rows { 1 ≤ rows }
     ensures area { result ≡ area rows cols }

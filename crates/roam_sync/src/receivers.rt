@@ -102,7 +102,7 @@ impl<S: Synced> Receiver<S> {
         if kept(self.earlier.as_slice(), &self.newest, floor) >= MOST_HELD {
             return Ok(Step::Gap);
         }
-        // Only from here on memory is asked for, and a change is looked at (docs/DECISIONS.md, 35).
+        // An old change, or one with a gap, was answered above: it takes no memory, and a bad one is not refused.
         let mut state = base.copy(alloc)?;
         state.apply(alloc, change)?;
         self.earlier.try_reserve(1)?;

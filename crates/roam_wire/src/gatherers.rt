@@ -167,7 +167,7 @@ impl Gatherer {
     pub fn untake(&mut self)
         ensures untaken { self.new ≡ untaken self.old }
     {
-        // The last take alone, also one that was Old (docs/DECISIONS.md, 37).
+        // It undoes only the last take. After one that returned `Old` nothing changes.
         match mem::replace(&mut self.undo, Undo::Nothing) {
             Undo::Nothing | Undo::Same => {}
             Undo::Fragment(index) => self.fragments.take_out(index),

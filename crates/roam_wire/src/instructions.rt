@@ -116,7 +116,7 @@ pub fn read_up(alloc: Global, bytes: &[u8], watches: bool) -> Result<Up, Fault>
     if acked >= NUMBER_LIMIT || first == 0 || first >= NUMBER_LIMIT || count > MOST_ACTS {
         return Err(Fault::BadDatagram(Reason::Length));
     }
-    // Before any act is read, whatever follows (docs/DECISIONS.md, 85).
+    // A read-only start has no acts, so this is checked before any act is read.
     if watches && count != 0 {
         return Err(Fault::BadDatagram(Reason::Length));
     }
