@@ -1,1 +1,1 @@
-"""What the live tools share; docs/LIVE.md has a row for each module. `common.early_sigint` is loaded first."""
+"""The modules of the live tools. docs/SOURCE_MAP.md lists them by subject. `common.early_sigint` is loaded first."""

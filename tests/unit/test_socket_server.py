@@ -228,7 +228,7 @@ class Bounds(Sockets):
     """What is bounded."""
 
     def test_numbers(self):
-        """As docs/LIVE.md has them."""
+        """The numbers are those in docs/HOST_PROTOCOL.md."""
         self.assertEqual((MOST_PEERS, LONGEST_HOST_LINE, HostPeer.most), (256, 256, 65536))
 
     def test_most(self):
