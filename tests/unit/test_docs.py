@@ -7,9 +7,20 @@ from test_user_texts import FLAGS, MOST_FLAGS, TOP, anchors, markdown, sentences
 DOCS = TOP / "docs"
 PAGES = sorted(DOCS.glob("*.md"))
 # The pages whose links are checked. The README and the guide have a test of their own, in test_user_texts.py.
-LINKED = [*PAGES, TOP / "CHANGELOG.md", TOP / "examples/README.md", *sorted((TOP / "crates").glob("**/README.md"))]
+LINKED = [*PAGES, TOP / "CHANGELOG.md", TOP / "examples/README.md"]
+CRATES = TOP / "crates"
 LONGEST_MEAN, LONG, MOST_LONG = 18, 30, 2
 LINK = re.compile(r"\]\((?!https?:)([^)#\s]*)(?:#([^)]*))?\)")
+
+
+def broken_links(path):
+    """Return the links of a page that lead to no file, or to no heading there."""
+    faults = []
+    for target, anchor in LINK.findall(path.read_text(encoding="utf-8").split("<!-- contracts -->")[0]):
+        file = path.parent / target if target else path
+        if not file.exists() or (anchor and anchor not in anchors(file)):
+            faults.append((str(path.relative_to(TOP)), target, anchor))
+    return faults
 
 
 class Pages(unittest.TestCase):
@@ -17,13 +28,12 @@ class Pages(unittest.TestCase):
 
     def test_links(self):
         """Each link leads to a file, and to a heading there."""
-        faults = []
-        for path in LINKED:
-            for target, anchor in LINK.findall(path.read_text(encoding="utf-8").split("<!-- contracts -->")[0]):
-                file = path.parent / target if target else path
-                if not file.exists() or (anchor and anchor not in anchors(file)):
-                    faults.append((str(path.relative_to(TOP)), target, anchor))
-        self.assertEqual(faults, [])
+        self.assertEqual([fault for path in LINKED for fault in broken_links(path)], [])
+
+    @unittest.skipUnless((CRATES / "roam/src").exists(), "a copy without the crates")
+    def test_crates(self):
+        """So does each link in the README of a crate."""
+        self.assertEqual([fault for path in sorted(CRATES.glob("**/README.md")) for fault in broken_links(path)], [])
 
     def test_index(self):
         """The index names each page."""
