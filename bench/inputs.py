@@ -1,14 +1,14 @@
 #!/usr/bin/env python3
 """Seeded inputs for the benchmarks: inputs.py FOLDER MEGABYTES KIND..
 
-Each kind makes one file of its name, a stream of bytes as a program in raw mode writes it (CR LF line ends). The same size
-gives the same bytes on every machine.
+Each kind makes one file of its name, a stream of bytes as a program in raw mode writes it (CR LF line ends). The same size gives the same
+bytes on every machine.
 
-prose     words in lines of up to 120 characters, so that about a third of them wraps at 80 columns
-colours   a new rendition (SGR) every 1 to 6 characters, with 1 to 10 parameters
-cjk       Chinese, kana, Hangul, Cyrillic, and Latin with combining marks
-redraw    full-screen frames addressed by CUP, with EL and ED
-log       time, coloured level and text a line, and bursts of short lines: it scrolls all the time
+- prose: words in lines of up to 120 characters, so that about a third of them wraps at 80 columns
+- colours: a new rendition (SGR) every 1 to 6 characters, with 1 to 10 parameters
+- cjk: Chinese, kana, Hangul, Cyrillic, and Latin with combining marks
+- redraw: full-screen frames addressed by CUP, with EL and ED
+- log: time, coloured level and text in each line, and bursts of short lines, so that it always scrolls
 """
 import os
 import random

@@ -1,10 +1,11 @@
 #!/usr/bin/env python3
-"""bench/kept.py ROAM [ROUNDS]: what it costs to keep the rows that leave a screen, beside tmux.
+"""bench/kept.py ROAM [ROUNDS]: the cost of scrollback, in roam and in tmux.
 
-At a shell on a terminal of 24 by 80, by turns: `seq 1 2000000`, and `cat` of a file of 50 MB, ROUNDS times (3), in roam as live/mux starts
-it, which keeps 10,000 rows, in roam that keeps none (ROAM_HISTORY=0), and in tmux with history-limit 10000. For each it prints the median
-of the seconds until the shell tells that it is done, and behind it of the seconds of processor that all processes of that side took
-meanwhile (what the shell runs isn't among them), and whether roam that keeps rows is below tmux. It needs python3, and tmux for its column.
+It alternates between the sides, at a shell on a terminal of 24 by 80: `seq 1 2000000`, and `cat` of a file of 50 MB, ROUNDS times (3). The
+sides are roam from live/mux, which stores 10,000 rows; roam that stores none (ROAM_HISTORY=0); and tmux with history-limit 10000.
+
+For each it prints two medians: the seconds until the shell reports the end, and the processor seconds of all processes of that side
+meanwhile, without those of the shell. It also prints if roam with scrollback is below tmux. It needs python3, and tmux for its column.
 """
 import os
 import pathlib
@@ -24,7 +25,7 @@ KEPT, WITHOUT, TMUX = "roam", "roam without", "tmux"
 
 @contextmanager
 def tmux_kept(folder, **environment):
-    """The terminal of a client of tmux that keeps as many rows."""
+    """Return the terminal of a tmux client that stores as many rows."""
     chosen = pathlib.Path(folder, "tmux.conf")
     chosen.write_text("set -g history-limit 10000\n", encoding="utf-8")
     words = ["tmux", "-S", os.path.join(folder, "tmux_kept"), "-f", str(chosen)]
@@ -34,7 +35,7 @@ def tmux_kept(folder, **environment):
 
 
 def sides_of(stack, program, folder):
-    """The terminal of each side, and the folder by which its processes are known."""
+    """Return the terminal of each side, and the folder that identifies its processes."""
     found = {}
     for name, history in ((KEPT, "10000"), (WITHOUT, "0")):
         own = os.path.join(folder, name.replace(" ", "_"))

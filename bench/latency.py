@@ -1,11 +1,12 @@
 #!/usr/bin/env python3
-"""bench/latency.py ROAM [COUNT]: milliseconds until a client's terminal gets what it should show, of roam, tmux and mosh.
+"""bench/latency.py ROAM [COUNT]: milliseconds until a client's terminal gets the expected output, of roam, tmux and mosh.
 
-Two ways are measured, each COUNT times: from bytes that a pane's program writes, and from a key that is typed at the client's terminal,
-through the echo of a shell. roam is `serve` and `attach` over UDP on loopback with a Unix socket as pane 1, and for the keys what live/mux
-starts; tmux and mosh run a copy of a pipe, and for the keys a shell, and mosh predicts nothing. All run at once and are tried in turn, so
-that what else the machine does meets each alike; a pause between 25 and 60 ms is before each letter. It needs python3, and tmux and mosh
-for their rows; it prints the median, the 99th of a hundred, and both as multiples of tmux's.
+It measures two ways, each COUNT times: from bytes that a pane's program writes, and from a key typed at the client's terminal, through the
+echo of a shell. roam is `serve` and `attach` over UDP on loopback with a Unix socket as pane 1, and for keys the processes of live/mux.
+tmux and mosh run a copy of a pipe, and for keys a shell; mosh predicts nothing.
+
+All run at once and are measured in turn, so that other load affects each alike. A pause of 25 to 60 ms precedes each letter. It needs
+python3, and tmux and mosh for their rows. It prints the median, the 99th percentile, and both as multiples of tmux's.
 """
 import fcntl
 import os
@@ -28,14 +29,14 @@ from contextlib import ExitStack, contextmanager
 WAIT = 5.0
 TOOLS = pathlib.Path(__file__).resolve().parent.parent / "live"
 
-# Letters that stand in no control function that is painted, nor in a prompt; after so many the line is erased.
+# Letters that occur in no painted control function and in no prompt; after so many the line is erased.
 LETTERS = b"QVWYNOU"
 LINE = 28
 ERASE = b"\x15"
 
 
 def until(source, wanted):
-    """Reads until this byte comes; whether it came in time."""
+    """Read until this byte comes; return False if it is late."""
     end = time.monotonic() + WAIT
     while True:
         left = end - time.monotonic()
@@ -49,13 +50,13 @@ def until(source, wanted):
 
 
 def drained(source):
-    """Reads until nothing has come for a quarter of a second."""
+    """Read until nothing has come for a quarter of a second."""
     while select.select([source], [], [], 0.25)[0] and os.read(source, 65536):
         pass
 
 
 def measured(sides, count, before):
-    """The times of each side in milliseconds, by rising length. Before each letter its side is given some bytes, which a number chooses."""
+    """Return the times of each side in milliseconds, sorted. Before each letter its side gets some bytes, which a number selects."""
     random.seed(1)
     times = {name: [] for name in sides}
     for k in range(count):
@@ -74,7 +75,7 @@ def measured(sides, count, before):
 
 
 def report(title, times):
-    """Prints the times of all sides."""
+    """Print the times of all sides."""
     print(f"{title:<40} {'median':>8} {'99th':>8}   of tmux's")
     marks = {name: (found[len(found) // 2], found[len(found) * 99 // 100]) for name, found in times.items()}
     for name, found in marks.items():
@@ -84,7 +85,7 @@ def report(title, times):
 
 @contextmanager
 def running(words, **options):
-    """A process that is ended."""
+    """Run a process that ends with the block."""
     process = subprocess.Popen(words, **options)
     try:
         yield process
@@ -95,7 +96,7 @@ def running(words, **options):
 
 @contextmanager
 def on_terminal(words, **environment):
-    """The other end of a pseudo-terminal of 24 by 80 on which a program runs."""
+    """Return the master of a pseudo-terminal of 24 by 80 on which a program runs."""
     master, slave = pty.openpty()
     fcntl.ioctl(slave, termios.TIOCSWINSZ, struct.pack("HHHH", 24, 80, 0, 0))
     known = dict(os.environ, TERM="xterm-256color", LC_ALL="C.UTF-8", PS1="$ ", SHELL="/bin/sh", **environment)
@@ -104,21 +105,21 @@ def on_terminal(words, **environment):
 
 
 def piped(folder, name):
-    """A pipe, and a shell command that copies it to its terminal."""
+    """Return a pipe, and a shell command that copies it to its terminal."""
     pipe = os.path.join(folder, name)
     os.mkfifo(pipe)
     return pipe, f"stty raw -echo; exec cat {pipe}"
 
 
 def writer_of(pipe):
-    """What writes to a pipe."""
+    """Return a function that writes to a pipe."""
     end = os.open(pipe, os.O_WRONLY)
     return lambda piece: os.write(end, piece)
 
 
 @contextmanager
 def roam_pane(program, folder):
-    """A server with a pane whose program this is, and a client."""
+    """Run a server with a pane whose program is this one, and a client."""
     port = str(random.Random(os.getpid()).randrange(20000, 60000))
     keys = os.path.join(folder, "keys")
     open(keys, "w").close()
@@ -134,7 +135,7 @@ def roam_pane(program, folder):
 
 @contextmanager
 def tmux(folder, shell, socket_name, **environment):
-    """The terminal of a client of tmux that runs a shell command."""
+    """Return the terminal of a tmux client that runs a shell command."""
     words = ["tmux", "-S", os.path.join(folder, socket_name), "-f", "/dev/null"]
     with on_terminal([*words, "new-session", shell], **environment) as master:
         yield master
@@ -143,7 +144,7 @@ def tmux(folder, shell, socket_name, **environment):
 
 @contextmanager
 def mosh(shell, port, **environment):
-    """The terminal of a client of mosh whose server runs a shell command."""
+    """Return the terminal of a mosh client whose server runs a shell command."""
     words = ["mosh-server", "new", "-i", "127.0.0.1", "-p", str(port), "--", "sh", "-c", shell]
     known = dict(os.environ, LC_ALL="C.UTF-8", PS1="$ ", **environment)
     said = subprocess.run(words, env=known, capture_output=True, text=True, check=True)
@@ -158,7 +159,7 @@ def mosh(shell, port, **environment):
 
 @contextmanager
 def roam_keys(program, folder, **environment):
-    """The terminal of a session that live/mux starts."""
+    """Return the terminal of a session that live/mux starts."""
     known = {"ROAM": program, "XDG_RUNTIME_DIR": folder, **environment}
     with on_terminal([str(TOOLS / "mux"), "measured"], **known) as master:
         yield master
@@ -166,7 +167,7 @@ def roam_keys(program, folder, **environment):
 
 
 def pane_sides(stack, program, folder):
-    """How a pane's program writes, and where it is shown."""
+    """Return for each side how a pane's program writes, and its display."""
     sides = {"roam": stack.enter_context(roam_pane(program, folder))}
     if shutil.which("tmux"):
         pipe, shell = piped(folder, "tmux_pipe")
@@ -180,7 +181,7 @@ def pane_sides(stack, program, folder):
 
 
 def key_sides(stack, program, folder, known=lambda name: {}):
-    """How a person types, and where it is shown; what the processes of each side find in their environment, by its name."""
+    """Return for each side how a user types, and its display. `known` returns the environment of a side by name."""
     masters = {"roam": stack.enter_context(roam_keys(program, folder, **known("roam")))}
     if shutil.which("tmux"):
         masters["tmux"] = stack.enter_context(tmux(folder, "exec sh", "tmux_keys", **known("tmux")))

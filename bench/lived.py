@@ -1,10 +1,11 @@
 #!/usr/bin/env python3
-"""bench/lived.py ROAM [KEYS]: what one who lives in a session waits for, and what it costs, of roam, tmux and mosh.
+"""bench/lived.py ROAM [KEYS]: the waiting times of a user of a session, and their cost, of roam, tmux and mosh.
 
-At a shell on a terminal of 24 by 80, one after the other on each side: the time from a key to its echo, KEYS times (200); a paste of
-20,000 bytes to a program that counts them; `seq 1 2000000`; `cat` of a file of 50 MB. roam is what live/mux starts; mosh predicts
-nothing. For each it prints the seconds until the shell tells that it is done, and the seconds of processor that the processes of that
-side took meanwhile (what the shell runs isn't among them). It needs python3, and tmux and mosh for their columns.
+Each side runs, at a shell on a terminal of 24 by 80: KEYS keys (200), timed to their echo; a paste of 20,000 bytes to a program that counts
+them; `seq 1 2000000`; and `cat` of a file of 50 MB. roam is the processes of live/mux; mosh predicts nothing.
+
+For each it prints the seconds until the shell reports the end, and the processor seconds of that side's processes meanwhile, without those
+of the shell. It needs python3, and tmux and mosh for their columns.
 """
 import os
 import pathlib
@@ -20,7 +21,7 @@ from latency import LETTERS, drained, key_sides, until
 
 MARK = "LIVED_SIDE"
 
-# Show a letter each, of which no other command and nothing that they show has one.
+# Commands that show one letter each, which no other command and no other output contains.
 DONE = {b"Z": rb"printf '\132\n'", b"X": rb"printf '\130\n'", b"J": rb"printf '\112\n'"}
 LIMIT = 60.0
 TICK = os.sysconf("SC_CLK_TCK")
@@ -29,7 +30,7 @@ MEGABYTES = 50
 
 
 def told_of(pid, name):
-    """A file of a process in /proc, or nothing where it has gone."""
+    """Return a file of a process in /proc, or nothing if the process has ended."""
     try:
         return pathlib.Path(f"/proc/{pid}/{name}").read_bytes()
     except OSError:
@@ -37,14 +38,14 @@ def told_of(pid, name):
 
 
 def ids_of(folder):
-    """The processes of a side: those that were started with its mark, but for shells."""
+    """Return the processes of a side: those started with its mark, except shells."""
     mark = f"{MARK}={folder}\0".encode()
     pids = [name for name in os.listdir("/proc") if name.isdigit()]
     return [pid for pid in pids if mark in told_of(pid, "environ") and told_of(pid, "comm").strip() not in (b"sh", b"dash", b"bash")]
 
 
 def processor(folder):
-    """The seconds of processor that a side took so far."""
+    """Return the processor seconds of a side so far."""
     ticks = 0
     for pid in ids_of(folder):
         fields = told_of(pid, "stat").rpartition(b")")[2].split()
@@ -53,7 +54,7 @@ def processor(folder):
 
 
 def write_all(side, text):
-    """Writes all of a text to a terminal, and reads what comes meanwhile; what came."""
+    """Write a whole text to a terminal, and return the output meanwhile."""
     seen = b""
     while text:
         readable, writable, _ = select.select([side], [side], [], LIMIT)
@@ -65,7 +66,7 @@ def write_all(side, text):
 
 
 def wait_for(side, wanted, seen=b""):
-    """Reads until these bytes have come, or ends the run."""
+    """Read until these bytes have come, or end the run."""
     end = time.monotonic() + LIMIT
     while wanted not in seen:
         if not select.select([side], [], [], max(0.0, end - time.monotonic()))[0]:
@@ -74,7 +75,7 @@ def wait_for(side, wanted, seen=b""):
 
 
 def echo_time(side, count):
-    """The median of the milliseconds from a key to its echo."""
+    """Return the median of the milliseconds from a key to its echo."""
     times = []
     for k in range(count):
         letter = LETTERS[k % len(LETTERS) : k % len(LETTERS) + 1]
@@ -93,7 +94,7 @@ def echo_time(side, count):
 
 
 def paste(side):
-    """Pastes lines to wc, which has to count them all."""
+    """Paste lines to wc, which has to count them all."""
     os.write(side, b"stty -echo; wc -c; stty echo; " + DONE[b"Z"] + b"\r")
     time.sleep(0.5)
     line = b"a line of text that is pasted, of fifty bytes, yes.\r"[-50:]
@@ -102,13 +103,13 @@ def paste(side):
 
 
 def run(side, command, letter):
-    """Runs a command of the shell to its end."""
+    """Run a shell command to its end."""
     os.write(side, command.encode() + b"; " + DONE[letter] + b"\r")
     wait_for(side, letter)
 
 
 def timed(folder, do):
-    """Seconds by the clock and of processor."""
+    """Return elapsed and processor seconds."""
     begun, spent = time.perf_counter(), processor(folder)
     do()
     time.sleep(0.2)

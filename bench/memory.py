@@ -1,10 +1,12 @@
 #!/usr/bin/env python3
 """bench/memory.py ROAM [STARTS [SECONDS]]: the peak memory of a server with so many client starts (64), over UDP and over streams.
 
-The session has 200 rows and 500 columns, and the program of its one pane writes for so many seconds (10): one cell at a place by chance 50
-times a second; or all places anew on and on, in one style, in colours, or wide characters, which so many starts can't keep up with on few
-processors. Each load has a server of its own. For each it prints the peak of the server's resident memory in MB, the texts that were
-written, and the MB that a start painted in the mean. It needs python3.
+The session has 200 rows and 500 columns, and the program of its one pane writes for so many seconds (10). It writes one cell at a random
+position 50 times a second; or all cells in a loop, in one style, in colours, or as wide characters. So many starts can't keep up with that
+on few processors.
+
+Each load has a server of its own. For each it prints the peak of the server's resident memory in MB, the texts that were written, and the
+mean MB that a start painted. It needs python3.
 """
 import os
 import random
@@ -22,13 +24,13 @@ SCREENS = 6
 
 
 def resident(pid):
-    """The peak of a process's resident memory, in MB."""
+    """Return the peak of a process's resident memory, in MB."""
     with open(f"/proc/{pid}/status") as status:
         return next(int(line.split()[1]) / 1024 for line in status if line.startswith("VmHWM"))
 
 
 def row_of(load):
-    """The text of a row of a screen."""
+    """Return the text of a row of a screen."""
     if load == "letters":
         return bytes(random.choices(LETTERS, k=COLS))
     if load == "colours":
@@ -37,17 +39,17 @@ def row_of(load):
 
 
 def screen_of(load):
-    """The text that shows a screen of a load."""
+    """Return the text that shows a screen of a load."""
     return b"".join(b"\x1b[%d;1H%s" % (row + 1, row_of(load)) for row in range(ROWS))
 
 
 def cell():
-    """The text that writes one cell."""
+    """Return the text that writes one cell."""
     return b"\x1b[%d;%dH%c" % (1 + random.randrange(ROWS), 1 + random.randrange(COLS), random.choice(LETTERS))
 
 
 def write(pane, load, seconds):
-    """Writes a load into a pane for so many seconds; how many texts that were."""
+    """Write a load into a pane for so many seconds; return the number of texts."""
     screens, count = [screen_of(load) for _ in range(SCREENS if load != "cells" else 0)], 0
     end = time.monotonic() + seconds
     while time.monotonic() < end:
@@ -59,14 +61,14 @@ def write(pane, load, seconds):
 
 
 def serving(roam, folder):
-    """Starts a server in a folder, which takes a free port too, and waits until it is told; the server, and its port."""
+    """Start a server in a folder and at a free port; return it and the port that it reports."""
     words = ["serve", "--dir", folder, "--session", "1", "--port", "0"]
     server = subprocess.Popen([roam, *words], stderr=subprocess.PIPE)
     return server, server.stderr.readline().split()[-1].decode()
 
 
 class Start:
-    """A client start, and how many bytes it painted."""
+    """A client start, and its count of painted bytes."""
 
     def __init__(self, roam, *words):
         self.process = subprocess.Popen([roam, "attach", *words], stdout=subprocess.PIPE, stderr=subprocess.DEVNULL)
@@ -74,18 +76,18 @@ class Start:
         threading.Thread(target=self.read, daemon=True).start()
 
     def read(self):
-        """Reads what it paints."""
+        """Read its painting."""
         while text := self.process.stdout.read1(65536):
             self.painted += len(text)
 
     def end(self):
-        """Ends it."""
+        """End it."""
         self.process.kill()
         self.process.wait()
 
 
 def measure(roam, way, load, starts, seconds):
-    """The peak of a server under a load, the texts written, and the MB that a start painted in the mean."""
+    """Return the peak of a server under a load, the texts written, and the mean MB that a start painted."""
     with tempfile.TemporaryDirectory() as folder, ExitStack() as stack:
         server, port = serving(roam, folder)
         stack.callback(server.wait)

@@ -1,9 +1,9 @@
 #!/usr/bin/env python3
-"""bench/pasted.py ROAM [TIMES]: how long a paste takes, of roam, tmux and mosh.
+"""bench/pasted.py ROAM [TIMES]: the duration of a paste, of roam, tmux and mosh.
 
-A program on a terminal of 24 by 80 has asked for brackets and writes all that it reads into a file. Texts of 20,000 bytes and of 1 MB are
-pasted, TIMES times (9) on each side by turns: the seconds from the first byte that is written to the terminal to the last one in the file,
-best and median. It needs python3, and tmux and mosh for their columns.
+A program on a terminal of 24 by 80 uses bracketed paste and writes all its input into a file. Texts of 20,000 bytes and of 1 MB are pasted,
+TIMES times (9), on each side by turns. It prints the seconds from the first byte written to the terminal to the last one in the file, best
+and median. It needs python3, and tmux and mosh for their columns.
 """
 import os
 import pathlib
@@ -20,12 +20,12 @@ from latency import drained, key_sides
 LENGTHS = (20_000, 1_000_000)
 OPENS, CLOSES = b"\x1b[200~", b"\x1b[201~"
 
-# So many seconds a paste has.
+# Seconds for a paste.
 LIMIT = 120.0
 
 
 def pasted(side, text, path):
-    """The seconds that a text takes to a file that has had all before it."""
+    """Return the seconds of a text until it is in a file that already has all earlier ones."""
     begun, before = time.perf_counter(), path.stat().st_size
     left, length = memoryview(text), len(text)
     while path.stat().st_size < before + length:

@@ -1,9 +1,9 @@
 #!/usr/bin/env python3
-"""bench/plots.py: draws docs/speed.svg and docs/cost.svg of the tables bench/figures/speed.tsv and cost.tsv.
+"""bench/plots.py: draws docs/speed.svg and docs/cost.svg from the tables bench/figures/speed.tsv and cost.tsv.
 
-It needs Python's standard library alone. A table has lines that begin with # (the first is told under the plot), a line of column names,
-and a line a row; columns are split by tabs. Text and lines are in a grey that stands out on white and on dark; nothing is painted behind
-them.
+It needs only Python's standard library. A table has lines that begin with # (the first becomes the caption), a line of column names, and a
+line for each row; tabs separate columns. Text and lines are in a grey that is visible on white and on dark backgrounds, and the background
+is transparent.
 """
 import math
 import pathlib
@@ -19,7 +19,7 @@ FONT = "font-family='ui-sans-serif, Helvetica, Arial, sans-serif'"
 
 
 def table(name):
-    """The first comment of a table, its column names, and its rows."""
+    """Return the first comment of a table, its column names, and its rows."""
     lines = (BENCH / "figures" / name).read_text(encoding="utf-8").splitlines()
     notes = [line.lstrip("# ") for line in lines if line.startswith("#")]
     rows = [line.split("\t") for line in lines if line and not line.startswith("#")]
@@ -27,12 +27,12 @@ def table(name):
 
 
 def number(word):
-    """A figure, or none for a dash."""
+    """Return a figure, None for a dash."""
     return None if word == "-" else float(word.replace(",", ""))
 
 
 class Drawing:
-    """An SVG that grows by shapes."""
+    """An SVG built from shapes."""
 
     def __init__(self, width, height, title):
         self.width, self.height, self.shapes = width, height, [f"<title>{escape(title)}</title>"]
@@ -64,7 +64,7 @@ class Drawing:
 
 
 def step_for(most):
-    """A round step of an axis that has four to eight of them."""
+    """Return a round step for an axis with four to eight steps."""
     step = 10 ** math.floor(math.log10(most))
     for part in (1, 2, 4, 5, 10):
         if most / (step / part) >= 4:
@@ -73,7 +73,7 @@ def step_for(most):
 
 
 def short(value):
-    """A figure in three digits at most, or in all of its whole part."""
+    """Return a figure in three digits at most, or its whole integer part."""
     return f"{value:.0f}" if value >= 100 else f"{value:.3g}"
 
 
@@ -150,7 +150,7 @@ def cost():
         drawing.line(across(count), top, across(count), top + tall)
         drawing.text(across(count), top + tall + 18, size, 12, "middle")
         drawing.text(across(count), top + tall + 33, f"{count:,} cells", 10.5, "middle")
-    # What would grow as the cells do, from the cheapest cost's first figure on.
+    # A cost proportional to the cells, from the cheapest cost's first figure on.
     start = min(line[0] for _, line in figures if line[0])
     end = [(count, start * count / cells[0]) for count in cells if start * count / cells[0] <= 10**high]
     drawing.line(across(cells[0]), down(start), across(end[-1][0]), down(end[-1][1]), GREY, 1.2, "2 5")
@@ -162,13 +162,13 @@ def cost():
         for point in points:
             drawing.dot(*point, colour)
         labels.append([points[-1][1], name, colour, points[-1]])
-    # Figures stand above their points, and never over one another.
+    # Figures are above their points, and never overlap.
     for column, count in enumerate(cells):
         above = top + tall + 20
         for figure in sorted(line[column] for _, line in figures if line[column]):
             above = min(down(figure) - 9, above - 12)
             drawing.text(across(count), above, short(figure), 10, "middle")
-    # Names stand at the right, by the last figure, and never over one another.
+    # Names are at the right, by the last figure, and never overlap.
     labels.sort()
     for index, label in enumerate(labels):
         label[0] = max(label[0], labels[index - 1][0] + 18) if index else label[0]

@@ -1,8 +1,8 @@
 #!/usr/bin/env python3
-"""The table of show.sh: show_measure.py METER ROAM VTERM INPUTS RUNS. VTERM may be a dash where there is no libvterm.
+"""The table of show.sh: show_measure.py METER ROAM VTERM INPUTS RUNS. VTERM may be a dash if there is no libvterm.
 
-MB/s are bytes by processor time (user and system) of a whole process, the best of the runs, in which the programs take turns;
-peak memory is the greatest resident set of any run.
+MB/s are bytes by processor time (user and system) of a whole process: the best of the runs, in which the programs alternate. Peak memory is
+the greatest resident set of any run.
 """
 import os
 import subprocess

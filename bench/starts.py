@@ -1,10 +1,12 @@
 #!/usr/bin/env python3
-"""bench/starts.py ROAM [TIMES]: how long a person waits for a session, of roam and tmux, and what it costs to keep.
+"""bench/starts.py ROAM [TIMES]: the time that a user waits for a session, of roam and tmux, and the session's memory.
 
-TIMES (15) in turn on each side, on a terminal of 24 by 80: from the call that starts a session to the shell's prompt; from the call that
-attaches to it to what it shows; and from the call that lists ten sessions to its end. It prints the best and the median of each, since on a
-busy machine the best says what the programs do. Then the memory that the processes of a session take, each page shared out among those that
-have it (PSS). roam is what `roam mux` runs; tmux's column is left out where tmux isn't.
+It measures TIMES times (15), alternating, on a terminal of 24 by 80. The first time is from the call that starts a session to the shell's
+prompt; the second from the call that attaches to it to its display; the third from the call that lists ten sessions to its end. It prints
+the best and the median of each, since on a busy machine the best reflects the programs themselves.
+
+Then follows the memory of a session's processes, with each shared page divided among them (PSS). roam is `roam mux`. Without tmux, its
+column is absent.
 """
 import fcntl
 import json
@@ -28,7 +30,7 @@ SHOWN = b"seen-here"
 
 
 class Terminal:
-    """A terminal of 24 by 80 with a command on it, and when that was called."""
+    """A terminal of 24 by 80 with a command on it, and the moment of its start."""
 
     def __init__(self, words, environment):
         self.end, other = pty.openpty()
@@ -39,7 +41,7 @@ class Terminal:
         os.close(other)
 
     def took(self, wanted):
-        """The milliseconds until these bytes have come, since the call."""
+        """Return the milliseconds from the call until these bytes have come."""
         while wanted not in self.seen:
             if not select.select([self.end], [], [], LIMIT)[0]:
                 sys.exit(f"starts: {wanted} didn't come, and this did: {self.seen[-200:]}")
@@ -47,19 +49,19 @@ class Terminal:
         return (time.monotonic() - self.begun_at) * 1000
 
     def types(self, text):
-        """Types bytes."""
+        """Type bytes."""
         self.seen = b""
         os.write(self.end, text)
 
     def close(self):
-        """Ends the command, and hangs up."""
+        """End the command, and hang up."""
         self.process.terminate()
         self.process.wait()
         os.close(self.end)
 
 
 def run(words, environment):
-    """Runs a command to its end, and tells the milliseconds."""
+    """Run a command to its end, and return the milliseconds."""
     begun_at = time.monotonic()
     subprocess.run(words, env=environment, stdin=subprocess.DEVNULL, stdout=subprocess.DEVNULL, check=True)
     return (time.monotonic() - begun_at) * 1000
@@ -82,7 +84,7 @@ class Side:
         self.kill = [*mux, "kill", "-f"] if is_roam else [*tmux, "kill-session", "-t"]
 
     def session(self):
-        """The milliseconds from the start of a session to its prompt, and from an attach to what it shows."""
+        """Return the milliseconds from the start of a session to its prompt, and from an attach to its display."""
         first = Terminal([*self.new, "s", "/bin/sh"], self.environment)
         started = first.took(b"$")
         first.types(b"echo seen''-here\r")
@@ -95,7 +97,8 @@ class Side:
         return started, attached
 
     def listed(self, times):
-        """The milliseconds of a list of ten sessions, so many times, and the memory of their processes in KiB, where these are noted."""
+        """Return the milliseconds of a list of ten sessions, for each of so many times, and the memory of their recorded processes in KiB.
+        """
         names = [f"s{number}" for number in range(LISTED)]
         for name in names:
             run([*self.new_detached, name], self.environment)
@@ -108,24 +111,24 @@ class Side:
         return found, memory
 
     def end(self):
-        """Ends what is left, where a measure was broken off."""
+        """End the remaining processes after an aborted measurement."""
         for name in ("s", *(f"s{number}" for number in range(LISTED))):
             subprocess.run([*self.kill, name], env=self.environment, stdin=subprocess.DEVNULL, stderr=subprocess.DEVNULL, check=False)
 
 
 def memory_of(process):
-    """A process's memory in KiB, its part of what it shares."""
+    """Return a process's memory in KiB, with its share of shared pages."""
     lines = pathlib.Path(f"/proc/{process}/smaps_rollup").read_text(encoding="utf-8").splitlines()
     return next(int(line.split()[1]) for line in lines if line.startswith("Pss:"))
 
 
 def told(name, found):
-    """Prints the best and the median."""
+    """Print the best and the median."""
     print(f"  {name:24} best {min(found):6.0f} ms, median {statistics.median(found):6.0f} ms", flush=True)
 
 
 def measure(sides, times):
-    """Measures, and prints what came."""
+    """Measure, and print the results."""
     found = {name: [] for name in sides}
     for _ in range(times):
         for name, side in sides.items():

@@ -1,9 +1,9 @@
 #!/usr/bin/env python3
-"""bench/tmux_bytes.py ROWS COLS: how many bytes tmux sends its client for an echoed key, a scrolled screen and a full one.
+"""bench/tmux_bytes.py ROWS COLS: the bytes that tmux sends its client for an echoed key, a scrolled screen and a full one.
 
-The changes are those of `roam_bench paint`: a screen full of letters, then one letter in its fifth row, then a line feed with another line at
-the bottom, then another letter in each place. The client is a pseudo-terminal of ROWS by COLS with TERM=xterm-256color, the status line
-is off, and the bytes are counted that come until nothing has come for half a second. It needs tmux and python3.
+The changes are those of `roam_bench paint`: a screen full of letters; one letter in its fifth row; a line feed with another line at the
+bottom; another letter in each cell. The client is a pseudo-terminal of ROWS by COLS with TERM=xterm-256color, and the status line is off.
+It counts bytes until none has come for half a second. It needs tmux and python3.
 """
 import fcntl
 import os
@@ -23,7 +23,7 @@ def letters(rows, cols, first):
 
 
 def drained(terminal):
-    """The bytes that come until it is quiet."""
+    """Return the bytes that come until it is quiet."""
     count = 0
     while select.select([terminal], [], [], QUIET)[0]:
         count += len(os.read(terminal, 65536))

@@ -1,10 +1,10 @@
 """roam_bundle.py: loads many modules at once, from one file of compiled code. Run as a script it writes these files, as installers do.
 
-Python's import takes some 2,500 bytecodes and five system calls for each module, most of the cost of starting a front end. A
-bundle has the code of modules in the order of their imports, in `__pycache__` beside this file. It is used while each source is as it was;
-otherwise the modules are imported as ever, and the bundle is written anew. If Python is told to write no bytecode there are no bundles.
+Python's import takes some 2,500 bytecodes and five system calls for each module, most of the cost of starting a front end. A bundle has the
+code of modules in the order of their imports, in `__pycache__` beside this file. It is valid while each source is unchanged; otherwise the
+modules are imported as usual, and the bundle is written anew. If Python is configured to write no bytecode there are no bundles.
 
-A tool imports this before all else: an interrupt while it loads ends it without a word, and `run_tool` takes interrupts from then on.
+A tool imports this first: an interrupt while it loads ends it silently, and `run_tool` handles later ones.
 """
 import gc
 import marshal
@@ -19,8 +19,8 @@ FOLDER = os.path.dirname(os.path.realpath(__file__))
 PACKAGE = "roam_live"
 
 # For each bundle, the bundles that are loaded before it, and its root modules. It has the roots and all modules that they import at once,
-# except those of the bundles before. `mux` is for all words that go to a session, `all_sessions` for `ls`, `asking` for words that ask a
-# session, `first_painting` and `front_end` for a front end, `late` for its imports on first use, and `host` for a pty host.
+# except those of the bundles before. `mux` is for all commands on a session, `all_sessions` for `ls`, and `asking` for commands that query
+# a session. `first_painting` and `front_end` are for a front end, `late` for its imports on first use, and `host` for a pty host.
 ROOTS = {
     "mux": ((), (f"{PACKAGE}.cli.mux", f"{PACKAGE}.cli.attaching")),
     "all_sessions": (("mux",), (f"{PACKAGE}.cli.all_sessions", f"{PACKAGE}.session.survey")),
@@ -34,28 +34,28 @@ ROOTS = {
     "host": ((), (f"{PACKAGE}.host.window", f"{PACKAGE}.host.windows")),
 }
 
-# A bundle begins with the length of its head in so many bytes; a head has no more bytes than these.
+# A bundle begins with the length of its head, in so many bytes; and the most bytes of a head.
 WORD, MOST_HEAD = 8, 1 << 20
 
 ModuleType, ModuleSpec = type(sys), type(sys.__spec__)
 
 
 def path_of(name):
-    """Return the path of a bundle, which each version of Python has for itself."""
+    """Return the path of a bundle. Each version of Python has its own."""
     return f"{FOLDER}/__pycache__/{name}.{sys.implementation.cache_tag}.bundle"
 
 
 def stamp_of(source):
-    """Return the time and size of a source, which change with it."""
+    """Return the time and size of a source, which identify its state."""
     found = os.stat(source)
     return found.st_mtime_ns, found.st_size
 
 
 def load(name):
-    """Load the modules of a bundle that are not there yet, or leave them to be imported. Without a bundle of that name nothing is done."""
+    """Load the missing modules of a bundle. Without a bundle of that name do nothing; the modules are then imported."""
     if name not in ROOTS or sys.dont_write_bytecode:
         return
-    # The garbage collector need not look at these modules, now or later: they stay.
+    # The garbage collector can skip these modules, now and later: they stay.
     gc.disable()
     try:
         modules = modules_in(name)
@@ -82,7 +82,7 @@ def modules_in(name):
 
 
 def head_of(end):
-    """Return the names, sources and stamps of an open bundle, and where the code begins; ValueError if a source has changed."""
+    """Return the names, sources and stamps of an open bundle, and the offset of the code; ValueError if a source has changed."""
     length = int.from_bytes(os.pread(end, WORD, 0), "big")
     magic, folder, modules = marshal.loads(os.pread(end, min(length, MOST_HEAD), WORD))
     if (magic, folder) != (MAGIC_NUMBER, FOLDER) or any(stamp_of(source) != stamp for _, source, stamp in modules):
@@ -98,7 +98,7 @@ def with_codes(end, head):
 
 
 def opened(name):
-    """Return an open bundle and what `head_of` returns; None if there is none. It stays the same if its file is replaced."""
+    """Return an open bundle and the result of `head_of`; None if there is none. It stays the same if its file is replaced."""
     if sys.dont_write_bytecode:
         return None
     for _ in range(2):
@@ -133,10 +133,10 @@ def begin(name, source, code):
         setattr(sys.modules[parent], last, module)
 
 
-# ---- how a bundle is made
+# ---- writing bundles
 
 def write(name):
-    """Write a bundle if this user may, so that the next process has it."""
+    """Write a bundle for the next process, if this user may."""
     if not os.access(os.path.dirname(path_of(name)), os.W_OK):
         return
     made = f"{path_of(name)}.{os.getpid()}"
@@ -152,7 +152,7 @@ def write(name):
 
 
 def made_of(name):
-    """Return the modules of a bundle, compiled: each behind those that it imports."""
+    """Return the modules of a bundle, compiled: each after those that it imports."""
     before = {}
     for one in ROOTS[name][0]:
         add_all(ROOTS[one][1], before)
@@ -162,7 +162,7 @@ def made_of(name):
 
 
 def add_all(names, found):
-    """Add modules, each behind its packages and its imports, unless they are there."""
+    """Add missing modules, each after its packages and its imports."""
     import ast
 
     for name in names:

@@ -14,30 +14,32 @@ import subprocess
 import threading
 import time
 
-from tried import Outer, comes  # First: it finds the package of live/.
+from tried import Outer, comes  # First, since it finds the package of live/.
 from roam_live.common.errors import Fault
 from roam_live.common.process import TOOLS
 
-# The others take so many seconds each way, drawn evenly, where nothing else is asked for: later ones overtake earlier ones.
+# The other sides have this one-way delay in seconds, drawn uniformly, by default: later packets overtake earlier ones.
 DELAY = (0.040, 0.080)
 
-# The near machine may move to its other address, and the far one too.
+# Both machines may move to their second address.
 ADDRESSES = ("10.213.7.1", "10.213.7.2")
 MOVED = ("10.213.7.3", "10.213.7.4")
 
-# The sides that are compared, and the ports by which their packets are told apart: that of ssh of each of roam's, and mosh's.
+# The compared sides, whose packets are distinguished by port: that of each of roam's ssh connections, and mosh's.
 SIDES = ("pipe", "sealed", "mosh")
 SSH_PORTS = {"pipe": 2222, "sealed": 2223}
 MOSH_PORT = 60900
 TCP, UDP = 6, 17
 
-# The calls that make a TUN device without a header of its own.
+# The ioctls that make a TUN device without a header of its own.
 TUNSETIFF, IFF_TUN, IFF_NO_PI = 0x400454CA, 0x0001, 0x1000
 
 
 class Link(threading.Thread):
-    """Carries IP datagrams between two devices, badly: so many of a hundred are lost, and of each side so many kB a second go through each
-    way, where a rate is named, with so many seconds of them before the narrow place."""
+    """Carries IP datagrams between two devices, badly: it loses a percentage of them.
+
+    With a rate, each side gets so many kB a second each way, with a queue of so many seconds at the bottleneck.
+    """
 
     def __init__(self, names, lost=5.0, rate=0.0, queue=0.5, delay=DELAY):
         super().__init__(daemon=True)
@@ -49,20 +51,20 @@ class Link(threading.Thread):
         self.clear()
 
     def clear(self):
-        """Counts from here on: the bytes and packets of each side, and of the sealed one those by either protocol."""
+        """Restart the counts: the bytes and packets of each side, and of the sealed one those by either protocol."""
         self.carried, self.packets, self.dropped = ({name: 0 for name in SIDES} for _ in range(3))
         self.sealed = {TCP: 0, UDP: 0}
 
     @staticmethod
     def device(name):
-        """A new TUN device."""
+        """Return a new TUN device."""
         end = os.open("/dev/net/tun", os.O_RDWR | os.O_NONBLOCK)
         fcntl.ioctl(end, TUNSETIFF, struct.pack("16sH", name.encode(), IFF_TUN | IFF_NO_PI))
         return end
 
     @staticmethod
     def side(datagram):
-        """Whose a datagram is; None where it is nobody's."""
+        """Return the side of a datagram; None if it has none."""
         if datagram[0] >> 4 != 4 or datagram[9] not in (TCP, UDP):
             return None
         begin = (datagram[0] & 15) * 4
@@ -83,7 +85,7 @@ class Link(threading.Thread):
                         os.write(end, datagram)
 
     def take(self, end, datagram):
-        """Takes a datagram that came from an end: it is lost, or flies."""
+        """Take a datagram from an end: it is lost, or in flight."""
         name = self.side(datagram)
         if not name:
             return
@@ -100,7 +102,7 @@ class Link(threading.Thread):
         heapq.heappush(self.flying, (time.monotonic() + late + self.chance.uniform(*self.delay), self.count, other, datagram))
 
     def waits(self, name, end, length):
-        """How long so many bytes wait before the narrow place; None where there is no room."""
+        """Return the wait of so many bytes at the bottleneck; None if there is no room."""
         if not self.rate:
             return 0.0
         late = max(0.0, self.free.get((name, end), 0.0) - time.monotonic())
@@ -113,7 +115,7 @@ class Link(threading.Thread):
 
 
 def run(*words):
-    """Runs a command that has to go well."""
+    """Run a command that has to succeed."""
     ran = subprocess.run(words, stdout=subprocess.PIPE, stderr=subprocess.PIPE, text=True, check=False)
     if ran.returncode:
         raise Fault(f"{' '.join(words)}: {(ran.stderr or ran.stdout).strip()}")
@@ -131,7 +133,7 @@ class Machines:
         self.link = Link(self.devices, **more)
 
     def begin(self):
-        """Makes them."""
+        """Create them."""
         for space, device, address, other in zip(self.spaces, self.devices, self.addresses, reversed(self.addresses)):
             run("ip", "netns", "add", space)
             self.made.append(space)
@@ -142,7 +144,7 @@ class Machines:
         self.link.start()
 
     def end(self):
-        """Removes them, with what runs there."""
+        """Remove them, with their processes."""
         for space in self.made:
             for process in run("ip", "netns", "pids", space).split():
                 with contextlib.suppress(ProcessLookupError):
@@ -154,7 +156,7 @@ class Machines:
             subprocess.run(["ip", "netns", "delete", space], check=False)
 
     def move(self, place):
-        """Gives a machine, 0 or 1, its other address."""
+        """Give a machine, 0 or 1, its other address."""
         before, other = self.addresses[place], self.addresses[1 - place]
         after = MOVED[place] if before == ADDRESSES[place] else ADDRESSES[place]
         space, device = self.spaces[place], self.devices[place]
@@ -165,7 +167,7 @@ class Machines:
         self.addresses[place] = after
 
     def processes(self, place, name):
-        """The processes of a machine that have a name."""
+        """Return the processes of a machine with a name."""
         found = map(int, run("ip", "netns", "pids", self.spaces[place]).split())
         return [process for process in found if text_of(pathlib.Path(f"/proc/{process}/comm")).strip() == name.encode()]
 
@@ -182,7 +184,7 @@ def two_machines(**more):
 
 
 def text_of(path):
-    """What a file has, where it is still there."""
+    """Return the contents of a file, if it still exists."""
     with contextlib.suppress(OSError):
         return path.read_bytes()
     return b""
@@ -190,7 +192,7 @@ def text_of(path):
 
 @contextlib.contextmanager
 def ssh_server(folder, machines):
-    """An sshd on the far machine with keys of its own; the words of an ssh that may enter, for each side."""
+    """Start an sshd on the far machine with keys of its own; return the words of an ssh with access, for each side."""
     for name in ("host", "user"):
         run("ssh-keygen", "-q", "-t", "ed25519", "-N", "", "-f", str(folder / name))
     key = (folder / "host.pub").read_text(encoding="utf-8")
@@ -214,7 +216,7 @@ def ssh_server(folder, machines):
 
 
 def roam_client(machines, ssh, name, size=(24, 80), prediction="never"):
-    """A terminal with a session of the far machine through `mux ssh`, as a side has it."""
+    """Return a terminal with a session of the far machine through `mux ssh`, for one side."""
     known = " ".join(f"{word}='{os.environ[word]}'" for word in ("ROAM", "XDG_RUNTIME_DIR", "SHELL", "PS1", "PATH", "LC_ALL"))
     words = ["ssh", "--predict", prediction, "--ssh", ssh[name], "--far", f"env {known} {TOOLS / 'mux'}", ADDRESSES[1], name]
     environment = {"ROAM_UDP": "never"} if name == "pipe" else {}
@@ -222,7 +224,7 @@ def roam_client(machines, ssh, name, size=(24, 80), prediction="never"):
 
 
 def mosh_client(machines, size=(24, 80), prediction="never"):
-    """A terminal with a shell of the far machine through mosh."""
+    """Return a terminal with a shell of the far machine through mosh."""
     words = ["ip", "netns", "exec", machines.spaces[1], "mosh-server", "new", "-i", ADDRESSES[1], "-p", str(MOSH_PORT), "--", "/bin/sh"]
     key = re.search(r"MOSH CONNECT \d+ (\S+)", run(*words))[1]
     client = ["ip", "netns", "exec", machines.spaces[0], "mosh-client", ADDRESSES[1], str(MOSH_PORT)]

@@ -1,5 +1,7 @@
-"""What sides go through over a bad network, one beside the other: typing and idling, a cut, new addresses, pastes, large screens, a flood;
-and the sealed one alone: UDP that is blocked, an ssh that is killed, what ssh forwards."""
+"""The phases of all sides over a bad network, in parallel: typing and idling, a cut, new addresses, pastes, large screens, a flood.
+
+The sealed side also has blocked UDP, a killed ssh, and forwarded connections.
+"""
 import os
 import pathlib
 import random
@@ -9,10 +11,10 @@ import subprocess
 import threading
 import time
 
-from tried import check, comes  # First: it finds the package of live/.
+from tried import check, comes  # First, since it finds the package of live/.
 from networks import ADDRESSES, DELAY, SIDES, SSH_PORTS, TCP, UDP, mosh_client, roam_client, text_of
 
-# What is typed: letters that stand in no control function that is painted. One each so many seconds, and the one typed in a cut.
+# The typed letters, which occur in no painted control function; the seconds between them, and the one typed in a cut.
 LETTERS = b"QVWYNOU"
 RATE = 0.5
 CUT_LETTER = b"Z"
@@ -20,23 +22,23 @@ CUT_TYPED = 0.8
 IDLE_PART = 2
 LATEST = 90.0
 
-# The sizes of large screens, how many of each are shown, and the time after one in which nothing is.
+# The sizes of large screens, the number of each, and the pause after one.
 SIZES = ((24, 80), (100, 250))
 SCREENS = 6
 AFTER = 2.5
 
-# What is pasted: so many texts of so many characters, between the brackets of a paste.
+# The pastes: so many texts of so many characters, in the brackets of a paste.
 PASTES = 9
 PASTED = 20_000
 OPENS, CLOSES = b"\x1b[200~", b"\x1b[201~"
 
-# So long a flood lasts, and so often a screen comes in it.
+# The duration of a flood, and the seconds between its screens.
 FLOOD = 12.0
 EACH = 0.05
 
 
 class Typist(threading.Thread):
-    """Types letters at a steady rate, and notes when each was painted."""
+    """Types letters at a steady rate, and records when each was painted."""
 
     def __init__(self, outer, seconds, latest=LATEST):
         super().__init__()
@@ -58,7 +60,7 @@ class Typist(threading.Thread):
             self.look()
 
     def look(self):
-        """Goes on with what was painted."""
+        """Handle the painted output."""
         while len(self.delays) < len(self.typed):
             letter, moment = self.typed[len(self.delays)]
             place = self.outer.written.find(letter, self.seen)
@@ -68,18 +70,18 @@ class Typist(threading.Thread):
             self.delays.append(painted_at(self.outer, place) - moment)
 
     def first_after(self, moment):
-        """How long after a moment the first key was painted that was on its way then, or typed later; None where none was."""
+        """Return the delay from a moment to the painting of the first key in flight then, or typed later; None if there was none."""
         painted = [typed + delay for (_, typed), delay in zip(self.typed, self.delays)]
         return next((one - moment for one in painted if one > moment + 2 * DELAY[0]), None)
 
 
 def painted_at(outer, place):
-    """When the byte at a place was painted."""
+    """Return when the byte at an offset was painted."""
     return next(moment for moment, length in list(outer.moments) if length > place)
 
 
 def typed_on(sides, seconds, meanwhile=lambda: None, latest=LATEST):
-    """Types on all sides at once; what is done once all have begun is done here."""
+    """Type on all sides at once; `meanwhile` runs once all have begun."""
     typists = [Typist(side.outer, seconds, latest) for side in sides]
     for typist in typists:
         typist.start()
@@ -90,7 +92,7 @@ def typed_on(sides, seconds, meanwhile=lambda: None, latest=LATEST):
 
 
 class Side:
-    """A program over the link: its name, its terminal, and the file into which what is typed there goes."""
+    """A program over the link: its name, its terminal, and the file for its input."""
 
     def __init__(self, name, outer, folder):
         self.name, self.outer, self.file = name, outer, folder / f"{name}.typed"
@@ -99,32 +101,32 @@ class Side:
         check(f"{name}: it is shown", self.is_there, outer.written[-200:])
 
     def cat(self):
-        """Has a program be there that keeps what is typed."""
+        """Run a program that records the input."""
         self.file.write_bytes(b"")
         self.outer.type(f"stty -icanon min 1; cat > {self.file}\r".encode())
 
     def stop(self):
-        """Ends it."""
+        """End it."""
         self.outer.type(b"\x03")
         time.sleep(1.5)
         self.outer.type(b"stty sane; clear\r")
         time.sleep(2)
 
     def note(self, name, value):
-        """Notes what was measured, and prints it."""
+        """Record a measurement, and print it."""
         self.measured[name] = value
         print(f"        {self.name:7} {name}: {value if isinstance(value, str) else f'{value:.2f}'}", flush=True)
 
 
 def sides_of(names, machines, ssh, folder, prediction="never"):
-    """The sides of these names, in their order; mosh's first, so that nobody takes its port."""
+    """Return the sides of these names, in order; mosh's first, so that nobody takes its port."""
     made = {name: Side(name, mosh_client(machines, prediction=prediction), folder) for name in names if name == "mosh"}
     made.update({name: Side(name, roam_client(machines, ssh, name, prediction=prediction), folder) for name in names if name != "mosh"})
     return [made[name] for name in SIDES if name in made and made[name].is_there]
 
 
 def spread(delays):
-    """The median, the 90th and 99th of a hundred, and the longest, in ms."""
+    """Return the median, the 90th and 99th percentile, and the longest, in ms."""
     ordered = sorted(delay * 1000 for delay in delays) or [0.0]
     places = (len(ordered) * 9 // 10, len(ordered) * 99 // 100, len(ordered) - 1)
     return [statistics.median(ordered), *(ordered[place] for place in places)]
@@ -134,7 +136,7 @@ def spread(delays):
 
 
 def phase_type(sides, machines, asked):
-    """Types on all sides at once, then nothing: delays and bytes a minute."""
+    """Type on all sides at once, then nothing: delays and bytes a minute."""
     for side in sides:
         side.cat()
     time.sleep(6)
@@ -162,7 +164,7 @@ def phase_type(sides, machines, asked):
 
 
 def phase_cut(sides, machines, asked):
-    """Cuts the link, types a key meanwhile, and notes how long after the cut it is painted."""
+    """Cut the link, type a key meanwhile, and record its delay after the cut."""
     for side in sides:
         side.cat()
     time.sleep(5)
@@ -185,7 +187,7 @@ def phase_cut(sides, machines, asked):
 
 
 def moved(sides, machines, place, name, latest):
-    """Types while a machine gets another address, and notes when the first key after that is painted."""
+    """Type while a machine gets another address, and record when the first key after that is painted."""
     for side in sides:
         side.cat()
     time.sleep(5)
@@ -208,22 +210,22 @@ def moved(sides, machines, place, name, latest):
 
 
 def phase_move(sides, machines, asked):
-    """The near machine gets another address while somebody types."""
+    """Change the near machine's address while somebody types."""
     moved(sides, machines, 0, "near", LATEST)
 
 
 def phase_farmove(sides, machines, asked):
-    """The far machine does."""
+    """Do the same with the far machine."""
     moved(sides, machines, 1, "far", 30.0)
 
 
 def mark(k):
-    """What the last row of a screen is."""
+    """Return the last row of a screen."""
     return "".join(chr(0x41 + (3 * k + 5 * i) % 26) for i in range(6))
 
 
 def paint_files(folder, rows, cols, count):
-    """Files that paint a screen of coloured words, the last row a mark."""
+    """Write files that paint a screen of coloured words, the last row a mark."""
     chance = random.Random(rows)
     for k in range(count):
         text = "\x1b[H"
@@ -239,7 +241,7 @@ def paint_files(folder, rows, cols, count):
 
 
 def resized(sides, rows, cols):
-    """Gives all terminals a size, and the sessions there too, which none makes smaller by itself."""
+    """Set the size of all terminals, and of the sessions there too, which never shrink by themselves."""
     for side in sides:
         side.outer.resize(rows, cols)
     time.sleep(2)
@@ -249,7 +251,7 @@ def resized(sides, rows, cols):
 
 
 def phase_screens(sides, machines, asked):
-    """Shows screens of coloured words, one after another: how long each takes, and its bytes."""
+    """Show screens of coloured words, one after another, with the time and the bytes of each."""
     for rows, cols in SIZES:
         paint_files(asked.folder, rows - 2, cols, SCREENS)
         resized(sides, rows, cols)
@@ -273,7 +275,7 @@ def phase_screens(sides, machines, asked):
 
 
 def phase_flood(sides, machines, asked):
-    """A screen that changes whole all the time, then an interrupt: screens a second, and how soon what is typed then is shown."""
+    """Measure a screen that changes completely all the time, then an interrupt: screens a second, and the delay of later input."""
     rows, cols = SIZES[-1]
     paint_files(asked.folder, rows - 2, cols, 12)
     resized(sides, rows, cols)
@@ -296,10 +298,10 @@ def phase_flood(sides, machines, asked):
 
 
 def ended_flood(side):
-    """Interrupts a flood and types behind it: how long it took until that was shown, None where the flood has ended and it isn't shown.
+    """Interrupt a flood and type behind it; return the delay of that input, None if it never appears after the flood's end.
 
-    An interrupt may reach a program that has just ended, and then nobody; so may two, where the network brings them together: the flood
-    goes on then, and it is interrupted again.
+    An interrupt may reach a program that has just ended, and then nobody; so may two, if the network merges them. The flood then continues,
+    and it is interrupted again.
     """
     while True:
         for _ in range(2):
@@ -318,7 +320,7 @@ def ended_flood(side):
 
 
 def keeps_pasted(side, text):
-    """The seconds from the first byte of a paste until the program has the last one; None where it hasn't all of it in time."""
+    """Return the seconds from the first byte of a paste until the program has the last one; None if it is late."""
     before, typed = side.file.stat().st_size, time.monotonic()
     side.outer.type(OPENS + text + CLOSES)
     wanted = OPENS + text + CLOSES
@@ -329,7 +331,7 @@ def keeps_pasted(side, text):
 
 
 def phase_paste(sides, machines, asked):
-    """Pastes into a program that keeps what it reads and has asked for brackets, side by side in turn: how long each paste takes."""
+    """Paste into a program with bracketed paste that records its input, on all sides in turn, and measure each paste."""
     chance, took = random.Random(1), {side.name: [] for side in sides}
     for side in sides:
         side.file.write_bytes(b"")
@@ -349,11 +351,11 @@ def phase_paste(sides, machines, asked):
         side.stop()
 
 
-# ---- the sealed side alone
+# ---- only the sealed side
 
 
 def way_of(machines, side, seconds=4):
-    """By what an encrypted side goes, while somebody types."""
+    """Return the transport of an encrypted side, while somebody types."""
     machines.link.clear()
     typist = typed_on([side], seconds)[0]
     tcp, udp = machines.link.sealed[TCP], machines.link.sealed[UDP]
@@ -363,32 +365,32 @@ def way_of(machines, side, seconds=4):
 
 
 def is_by_udp(machines, seconds=3):
-    """Whether nothing but UDP goes for some seconds."""
+    """Return True if only UDP packets pass for some seconds."""
     machines.link.clear()
     time.sleep(seconds)
     return machines.link.sealed[UDP] > 0 and machines.link.sealed[TCP] == 0
 
 
 def far_relays(name="sealed"):
-    """The far relays of a side, without what holds a command for one."""
+    """Return the far relays of a side, without the processes that keep a command open for one."""
     found = [path.parent for path in pathlib.Path("/proc").glob("[0-9]*/cmdline") if is_far(path, name)]
     return [int(path.name) for path in found if not set(children_of(path)) & {int(other.name) for other in found}]
 
 
 def is_far(path, name):
-    """Whether words are those of a far relay of a side of this trial."""
+    """Return True if arguments are those of a far relay of a side in this run."""
     words = text_of(path)
     return f"{os.environ['XDG_RUNTIME_DIR']}/roam/{name}/w/1\0".encode() in words and b"/relay\0--far\0" in words
 
 
 def sealed_ssh(machines):
-    """The ssh of the sealed side: that of the pipe has another port."""
+    """Return the ssh of the sealed side: that of the pipe has another port."""
     port = f"\0{SSH_PORTS['sealed']}\0".encode()
     return [process for process in machines.processes(0, "ssh") if port in text_of(pathlib.Path(f"/proc/{process}/cmdline"))]
 
 
 def children_of(path):
-    """The processes that a process started."""
+    """Return the children of a process."""
     try:
         return [int(word) for word in (path / "task" / path.name / "children").read_text(encoding="ascii").split()]
     except OSError:
@@ -396,7 +398,7 @@ def children_of(path):
 
 
 def phase_blocked(machines, ssh, asked):
-    """UDP is blocked at the start, opened, blocked again, opened again."""
+    """Block UDP at the start, open it, block it again, and open it again."""
     link = machines.link
     link.is_blocked = True
     side = Side("sealed", roam_client(machines, ssh, "sealed"), asked.folder)
@@ -422,7 +424,7 @@ def phase_blocked(machines, ssh, asked):
 
 
 def phase_kill(machines, ssh, asked):
-    """ssh is killed some seconds after the session is shown, at once, and later."""
+    """Kill ssh some seconds after the session is shown, at once, and later."""
     for wait in (8.0, 0.0):
         side = Side("sealed", roam_client(machines, ssh, "sealed"), asked.folder)
         time.sleep(wait)

@@ -1,4 +1,4 @@
-"""What the scripts that try roam share: checks that print a line each, scenes by name, and a pseudo-terminal with a tool on it."""
+"""Common parts of the test scripts: checks that print a line each, scenes by name, and a pseudo-terminal with a tool on it."""
 import fcntl
 import json
 import os
@@ -12,7 +12,7 @@ import termios
 import threading
 import time
 
-# What people run, and the package that it shares; and the terminal that the unit tests have too.
+# The tools, and their package; and the terminal of the unit tests.
 LIVE = pathlib.Path(__file__).resolve().parents[2] / "live"
 sys.path[:0] = [str(LIVE), str(LIVE.parent / "tests/unit")]
 
@@ -23,30 +23,30 @@ from roam_live.common.process import TOOLS, program
 from roam_live.protocol.client_link import ClientLink
 from roam_live.protocol.screen_cells import ShownCells, Style, cells_of
 
-# So many seconds something has for coming.
+# The default seconds for an expected event.
 WAIT = 15.0
 
-# The session of a scene, and the program of this process.
+# The session of a scene, and this process's program.
 SESSION = "tried"
 PROGRAM = os.environ.get("ROAM", "")
 
-# The name of a session as the last row begins with it: no number, since panes have those.
+# The session's name at the start of the last row: no number, since panes have those.
 NAMED = re.compile(r"\[[a-z][a-z0-9_-]*\] ")
 
 failed = []
 
-# What is tried, by name: a function of a folder of its own.
+# The scenes by name: functions of a folder of their own.
 SCENES = {}
 
 
 def scene(does):
-    """Has a function be a scene."""
+    """Register a function as a scene."""
     SCENES[does.__name__] = does
     return does
 
 
 def check(name, holds, seen=""):
-    """Prints a check's line; what was seen instead, where it doesn't hold."""
+    """Print a check's line, with the value seen if it fails."""
     if callable(seen) and not holds:
         seen = seen()
     print(f"ok      {name}" if holds else f"FAILED  {name}: {seen}", flush=True)
@@ -55,7 +55,7 @@ def check(name, holds, seen=""):
 
 
 def comes(test, seconds=WAIT):
-    """Whether something comes to hold in time."""
+    """Return True if a condition becomes true in time."""
     end = time.monotonic() + seconds
     while not test():
         if time.monotonic() > end:
@@ -65,22 +65,22 @@ def comes(test, seconds=WAIT):
 
 
 def tool(name, *words):
-    """The words of a tool."""
+    """Return the words of a tool."""
     return [str(TOOLS / name), *words]
 
 
 def script(name, *words):
-    """The words of a script that tries roam."""
+    """Return the words of a test script."""
     return [str(LIVE.parent / "tests/stress" / name), *words]
 
 
 def children(process):
-    """The processes that a process started."""
+    """Return the children of a process."""
     return [int(word) for word in pathlib.Path(f"/proc/{process}/task/{process}/children").read_text(encoding="utf-8").split()]
 
 
 def is_command(process):
-    """Whether a process is a pane's, by its words: not a scrollback process, a server or a client process."""
+    """Return True if a process is a pane's, by its arguments: not a scrollback process, a server or a client process."""
     try:
         words = pathlib.Path(f"/proc/{process}/cmdline").read_bytes().split(b"\0")
     except OSError:
@@ -89,7 +89,7 @@ def is_command(process):
 
 
 def is_scrollback_process(process):
-    """Whether a process is a scrollback process, by its words."""
+    """Return True if a process is a scrollback process, by its arguments."""
     try:
         return pathlib.Path(f"/proc/{process}/cmdline").read_bytes().split(b"\0")[1:2] == [b"rows"]
     except OSError:
@@ -97,58 +97,58 @@ def is_scrollback_process(process):
 
 
 def commands(host):
-    """The commands of panes that the pty host has started, without what else it has."""
+    """Return the commands of panes that the pty host has started, without its other children."""
     return [process for process in children(host) if is_command(process)]
 
 
 def listed():
-    """What `mux ls` says."""
+    """Return the output of `mux ls`."""
     return subprocess.run(tool("mux", "ls"), stdout=subprocess.PIPE, check=True).stdout.decode().split()
 
 
 def folder_of(name, base=None):
-    """The folder of a session."""
+    """Return the folder of a session."""
     return pathlib.Path(base or os.environ["XDG_RUNTIME_DIR"], "roam", name)
 
 
 def window_of(name, number=1, base=None):
-    """The folder of a window of a session, its first where none is named."""
+    """Return the folder of a session's window, by default the first."""
     return folder_of(name, base) / f"w/{number}"
 
 
 def noted(name, number=1, base=None):
-    """What is noted of a session, and of a window of it."""
+    """Return the note of a session, and of a window of it."""
     paths = (window_of(name, number, base) / "state.json", folder_of(name, base) / "state.json")
     return {role: one for path in paths for role, one in json.loads(path.read_text(encoding="utf-8")).items()}
 
 
 def terminals_of(name, number=1):
-    """The socket of the client process of a session's window."""
+    """Return the socket of a window's client process."""
     return window_of(name, number) / "terminals"
 
 
 def connected(name, is_read_only=True):
-    """A connection to a session's client process, over which records come."""
+    """Return a connection to a session's client process that receives records."""
     link = ClientLink(terminals_of(name), is_read_only)
     link.connect()
     return link
 
 
 def told_cells(name):
-    """The cells that a session shows, as its client process tells them to who watches."""
+    """Return the cells of a session, as its client process sends them to a read-only connection."""
     return cells_of(asked_screen(connected(name), "look sgr"))
 
 
 def said(*words):
-    """The status of `mux` with these words, and what it says, on standard output and then on standard error."""
+    """Return the status of `mux` with these words, its standard output and its standard error."""
     run = subprocess.run(tool("mux", *words), stdin=subprocess.DEVNULL, stdout=subprocess.PIPE, stderr=subprocess.PIPE, check=False)
     return run.returncode, run.stdout.decode(), run.stderr.decode()
 
 
 class Outer:
-    """A terminal with a tool on it. What stood there before is a line, `before`."""
+    """A terminal with a tool on it. Its old screen has a line, `before`."""
 
-    # All that were made.
+    # All terminals of the scene.
     made = []
 
     def __init__(self, words, size=(24, 80), environment=None):
@@ -159,7 +159,7 @@ class Outer:
         self.written = bytearray(b"before\r\n")
         self.emulated, self.read_to, self.is_resized = Emulated(*size), 0, False
         self.made.append(self)
-        # When so many bytes had been written.
+        # The moments at which so many bytes had been written.
         self.moments = []
         ends = {"stdin": self.slave, "stdout": self.slave, "stderr": self.slave}
         known = {"TERM": "xterm-256color", **os.environ, **(environment or {})}
@@ -169,7 +169,7 @@ class Outer:
         threading.Thread(target=self.read, daemon=True).start()
 
     def read(self):
-        """Keeps what the tool writes."""
+        """Read the tool's output."""
         while True:
             try:
                 chunk = os.read(self.master, 65536)
@@ -179,13 +179,13 @@ class Outer:
             self.moments.append((time.monotonic(), len(self.written)))
 
     def type(self, text):
-        """Types bytes, all of them."""
+        """Type all these bytes."""
         view = memoryview(text)
         while view:
             view = view[os.write(self.master, view[:4096]) :]
 
     def emulation(self):
-        """The terminal as it is shown, with all that was written so far."""
+        """Return the terminal after all output so far."""
         end = len(self.written)
         if end > self.read_to:
             self.emulated.fed(bytes(self.written[self.read_to : end]))
@@ -193,15 +193,15 @@ class Outer:
         return self.emulated
 
     def rows(self):
-        """The rows that are shown."""
+        """Return the visible rows."""
         return self.emulation().lines()
 
     def cells(self):
-        """The cells that are shown, with their styles, and the cursor."""
+        """Return the visible cells, with their styles, and the cursor."""
         return self.emulation().painted()
 
     def is_as_shown(self):
-        """Whether `roam show` shows the same of all that was written: not where the size was another meanwhile."""
+        """Return True if `roam show` shows the same from the whole output. A size that changed meanwhile prevents that."""
         seen = self.emulation()
         words = [program(), "show", "--rows", str(self.size[0]), "--cols", str(self.size[1])]
         run = subprocess.run(words, input=bytes(self.written[: self.read_to]), stdout=subprocess.PIPE, check=True)
@@ -210,14 +210,14 @@ class Outer:
         return self.is_resized or [f"|{line}|" for line in seen.lines()] + [cursor] == shown[: self.size[0] + 1]
 
     def shows(self, text, seconds=WAIT):
-        """Whether a text comes to stand somewhere."""
+        """Return True if a text appears anywhere in time."""
         return comes(lambda: any(text in row for row in self.rows()), seconds)
 
     def shown_at(self, text, seconds=WAIT):
-        """When a text came to stand somewhere from now on, by the rows after each chunk that was painted; None where it doesn't in time.
+        """Return the moment at which a text appeared, by the rows after each painted chunk; None if it doesn't in time.
 
-        It is read once the text was painted as it is, or nothing was painted for a moment: reading takes this process long, which may carry
-        what is measured.
+        The output is parsed once it contains the text literally, or pauses for a moment. Parsing takes this process long, which may relay
+        the measured data itself.
         """
         begun, searched, found = time.monotonic(), len(self.written), -1
         while True:
@@ -235,57 +235,62 @@ class Outer:
             time.sleep(0.002)
 
     def is_still(self):
-        """Whether something was painted that isn't read, and nothing for a second."""
+        """Return True if there is unread output, and nothing new for a second."""
         return bool(self.moments) and self.moments[-1][1] > self.read_to and self.moments[-1][0] < time.monotonic() - 1
 
     def stands(self, row, col, text, seconds=WAIT):
-        """Whether a text comes to stand at a row and a column, from 0."""
+        """Return True if a text appears at a row and a column in time, from 0."""
         return comes(lambda: self.rows()[row][col:].startswith(text), seconds)
 
     def last_row(self):
-        """The last row behind the session's name, which it begins with where there is room."""
+        """Return the last row after the session's name, which it begins with if there is room."""
         return NAMED.sub("", self.rows()[-1], count=1) if NAMED.match(self.rows()[-1]) else self.rows()[-1]
 
     def status(self, text, seconds=WAIT, end=""):
-        """Whether the last row comes to begin with a text behind the session's name, and to end in another. What is painted above it may
-        come before or after that."""
+        """Return True if the last row begins with a text after the session's name, and ends with another, in time. The painting above may
+        come before or after that.
+        """
         return comes(lambda: self.last_row().startswith(text) and self.last_row().endswith(end), seconds)
 
     def was_told(self, *texts, begin=0):
-        """Whether one of these lines comes to be written behind so many bytes: it stands for a moment, and may be gone before it is looked
-        at again."""
+        """Return True if one of these lines is written after so many bytes. It is shown for a moment, and may be gone before the next
+        check.
+        """
         return comes(lambda: any(self.written.find(text.encode(), begin) >= 0 for text in texts))
 
     def settled(self, row):
-        """The rows that are shown once a shell's prompt stands at a row, from 0, and the last one tells that the shell is in front."""
+        """Return the rows once a shell's prompt is at a row, from 0, and the last row shows the shell."""
         self.stands(row, 0, "$")
         comes(lambda: self.rows()[-1].rstrip().endswith(":sh*"))
         return self.rows()
 
     def resize(self, rows, cols):
-        """Gives the terminal another size, as a person does."""
+        """Change the terminal's size, like a user."""
         self.emulation().resize(rows, cols)
         self.size, self.is_resized = (rows, cols), True
         tty.set_size(self.slave, rows, cols)
 
     def display_keypad(self):
-        """What was written last of the keypad's codes: those of applications, or numbers; nothing where neither was."""
+        """Return the last keypad code in the output, for applications or numbers; nothing if there is none."""
         last = max(bytes(self.written).rfind(code) for code in (b"\x1b=", b"\x1b>"))
         return bytes(self.written[last : last + 2]) if last >= 0 else b""
 
     def ends(self):
-        """Whether the tool ends in time."""
+        """Return True if the tool ends in time."""
         return comes(lambda: self.process.poll() is not None)
 
     def is_restored(self):
-        """Whether the terminal is as it was: the modes, and what stood there."""
+        """Return True if the terminal is restored: the modes, and the old screen."""
         is_kept = comes(lambda: self.rows()[0].startswith("before"), 2)
         return is_kept and termios.tcgetattr(self.slave) == self.modes and b"\x1b[?1049l" in self.written[-200:]
 
 
 def part_at(cells, row, col, size):
-    """What a part of a session's cells shows that begins at a row and a column, from 1: a wide character that is cut is a space in its
-    style, and what is outside is blank. Of the cursor its place there is told, or nothing where it is hidden or outside."""
+    """Return a part of a session's cells from a row and a column on, from 1. A cut wide character is a space in its style, and the outside
+    is blank.
+
+    The cursor's position in the part is included, or nothing if it is hidden or outside.
+    """
     rows, cols = size
     blank = (" ", Style())
     found = {}
@@ -300,14 +305,14 @@ def part_at(cells, row, col, size):
 
 
 def shown_above(outer):
-    """What a terminal shows above its last row, cell by cell, and its cursor, where it is shown."""
+    """Return the cells above a terminal's last row, and its cursor if visible."""
     seen = outer.emulation()
     cells = {(row, col): cell for row, line in enumerate(seen.screen[:-1], 1) for col, cell in enumerate(line, 1)}
     return cells, (seen.row + 1, seen.col + 1) if seen.has_cursor else None
 
 
 def is_part_of(outer, cells):
-    """Whether a terminal shows above its last row a part of a session's area, or all of it and blanks, cell by cell."""
+    """Return True if a terminal shows above its last row a part of a session's area, or all of it and blanks, cell by cell."""
     rows, cols = outer.size
     shown = shown_above(outer)
     starts = [(row, col) for row in range(1, max(1, cells.rows - rows + 1) + 1) for col in range(1, max(1, cells.cols - cols + 1) + 1)]
@@ -318,7 +323,7 @@ def is_part_of(outer, cells):
 
 
 def is_part(small, large):
-    """Whether a terminal shows a part of what another one shows, row by row."""
+    """Return True if a terminal shows a part of another one's contents, row by row."""
     rows = [row.rstrip() for row in small.rows()[:-1]]
     others = large.rows()[:-1]
     return any(rows == [other[col : col + small.size[1]].rstrip() for other in others[row : row + len(rows)]]
@@ -326,20 +331,20 @@ def is_part(small, large):
 
 
 def own_terminal():
-    """Makes standard input the terminal that hangs up and interrupts this process, which may ignore it where it runs in the background."""
+    """Make standard input the controlling terminal, whose hangup and interrupt this process may ignore in the background."""
     for number in (signal.SIGINT, signal.SIGQUIT, signal.SIGHUP):
         signal.signal(number, signal.SIG_DFL)
     fcntl.ioctl(0, termios.TIOCSCTTY, 0)
 
 
-# What has a session keep no rows, so that the view that all share scrolls in place of copy mode.
+# With this a session stores no rows, so that the shared view scrolls in place of copy mode.
 KEEPS_NONE = {"ROAM_HISTORY": "0"}
 
 
 def three_panes(name=SESSION, environment=None):
-    """A terminal on a session of three panes, the first beside two others and in focus."""
+    """Return a terminal on a session of three panes, the first beside two others and focused."""
     outer = Outer(tool("mux", name), environment=environment)
-    # The pty host follows the panes from here on, and knows where the focus was.
+    # The pty host is subscribed to the panes from here on, and knows the earlier focus.
     outer.shows("$ ")
     for keys, label in ((b"", "[1]"), (b"\x02%", " 1 [2]"), (b'\x02"', " 1  2 [3]"), (b"\x02q1", "[1] 2  3")):
         outer.type(keys)

@@ -1,10 +1,12 @@
-"""What the capabilities of the entry tmux-256color mean, by terminfo(5) and VT100's and xterm's functions that they name: each with what is
-done, and what has to be seen then. Nothing of it comes from what roam does, but of those that NAMED has."""
+"""The meanings of the capabilities of the entry tmux-256color, by terminfo(5) and the functions of VT100 and xterm that they name.
+
+Each has an action and its visible effect. Only those in NAMED depend on roam's behaviour.
+"""
 from collections import namedtuple
 
 from roam_live.protocol.screen_cells import Style
 
-# What stands on the screen of 4 by 8 before a capability is written; of 2 by 20 it is blank.
+# The screen of 4 by 8 before a capability is written; that of 2 by 20 is blank.
 TEXT = ("abcdefgh", "ijklmnop", "qrstuvwx", "yz012345")
 FULL = "/".join(TEXT)
 WIDE = 20
@@ -15,22 +17,23 @@ Told = namedtuple("Told", "line parameters before behind")
 
 
 def shown(rows, cursor, *parameters, at="2;3", before="", behind="", said="", cols=8):
-    """What a screen shows, its rows without blanks at their ends, where the cursor is, and what the terminal answers, after the cursor was
-    put at a place, and a capability with parameters was written between what stands before and behind it."""
+    """Return the expected screen: its rows without trailing blanks, the cursor, and the terminal's answers. Before, the cursor is put at a
+    position, and a capability with parameters is written between two texts.
+    """
     return Shown(rows, cursor, parameters, at, before, behind, said, cols)
 
 
 def styled(flags="", foreground=None, background=None, parameters=(), before=""):
-    """The style of a letter that is written behind a capability, in the default style and what stands before it."""
+    """Return the style of a letter written after a capability, in the default style and after an earlier text."""
     return Styled(frozenset(flags.split()), foreground, background, parameters, before)
 
 
 def told(line, *parameters, before="", behind=""):
-    """What a front end is told beside the screen, where P is the pane and its making."""
+    """Return the expected report beside the screen, with P for the pane and its generation."""
     return Told(line, parameters, before, behind)
 
 
-# Those that do something to a screen; those without text, and numbers, are tried by what they promise.
+# Capabilities with an effect on a screen; flags and numbers are tested by their promise.
 SCREENS = {
     "OTbs": shown(FULL, "2 2 shown", behind="\b"),
     "OTpt": shown("/", "1 9 shown", at="1;3", behind="\t", cols=WIDE),
@@ -91,17 +94,18 @@ SCREENS = {
     "vpa": shown(FULL, "3 3 shown", 2),
     "E0": shown(f"{TEXT[0]}/ij\u2500qmnop/{TEXT[2]}/{TEXT[3]}", "2 5 shown", before="\x1b(0q", behind="q"),
     "S0": shown(f"{TEXT[0]}/ijq\u2500mnop/{TEXT[2]}/{TEXT[3]}", "2 5 shown", ord("0"), before="q", behind="q"),
-    # These do nothing in a screen, and roam nothing at all.
+    # These have no effect on a screen, and roam ignores them.
     "cvvis": shown(FULL, "2 3 shown"),
     "flash": shown(FULL, "2 3 shown"),
     "E3": shown(FULL, "2 3 shown"),
     "Cr": shown(FULL, "2 3 shown"),
     "Cs": shown(FULL, "2 3 shown", "red"),
-    # It asks; what is answered to it is told as `u8`.
+    # It is a query; `u8` describes the answer.
     "u9": shown(FULL, "2 3 shown", said="\x1b[?62;6c"),
 }
 
-# What the second set shows for the letters of acsc, by the table of the VT100; those of NAMED show themselves there, or another sign.
+# The characters of the second set for the letters of acsc, by the table of the VT100; those in NAMED show themselves there, or another
+# character.
 GRAPHICS = {"`": "\u25c6", "a": "\u2592", "f": "\u00b0", "g": "\u00b1", "j": "\u2518", "k": "\u2510", "l": "\u250c", "m": "\u2514",
             "n": "\u253c", "o": "\u23ba", "p": "\u23bb", "q": "\u2500", "r": "\u23bc", "s": "\u23bd", "t": "\u251c", "u": "\u2524",
             "v": "\u2534", "w": "\u252c", "x": "\u2502", "y": "\u2264", "z": "\u2265", "{": "\u03c0", "|": "\u2260", "}": "\u00a3",
@@ -139,7 +143,7 @@ STYLES = {
 }
 DEFAULT = Style()
 
-# What is told beside the screen.
+# The reports beside the screen.
 ASIDES = {
     "bel": told("bell P"),
     "tsl": told("title P 61c3a9", behind="a\u00e9\x07"),
@@ -154,10 +158,10 @@ ASIDES = {
     "Ms": told("clip P YWJj", "c", "YWJj"),
 }
 
-# These are tried with the keys.
+# These are tested with the keys.
 OF_KEYS = ("smkx", "rmkx", "PS", "PE")
 
-# What roam hasn't, with the reason. Those that stand in a table above too do what that says, and no harm.
+# Capabilities that roam lacks, with the reason. Those that are in a table above too behave as in that table, and do no harm.
 NAMED = {
     "km": "no eighth bit is set: a key with Alt comes as ESC and the key, as the person's terminal sends it, and characters are UTF-8",
     "cols": "the size is what the pseudo-terminal tells; a session has 24 by 80 at first, and a pane as much of it as is its own",

@@ -1,4 +1,4 @@
-"""What unit tests share: tools as modules, a clock that is set by hand, folders and sockets that go with the test."""
+"""Common parts of unit tests: tools as modules, a manual clock, and folders and sockets that are removed with the test."""
 import contextlib
 import functools
 import importlib.machinery
@@ -25,7 +25,7 @@ from roam_live.protocol.host_link import HostLink
 
 @functools.lru_cache()
 def loaded(name: str) -> types.ModuleType:
-    """A tool of live/ as a module."""
+    """Return a tool of live/ as a module."""
     loader = importlib.machinery.SourceFileLoader(name, str(TOOLS / name))
     spec = importlib.util.spec_from_loader(name, loader)
     assert spec
@@ -35,58 +35,58 @@ def loaded(name: str) -> types.ModuleType:
 
 
 class StillLoop(Loop):
-    """A loop that doesn't wait: how long it would have is told, and how many ends had something."""
+    """A loop that does not wait. It records the time that it would wait, and the number of ready ends."""
 
     waited: "float | None" = None
     found = 0
 
     def ready(self, seconds: "float | None") -> "dict[int, int]":
-        """What can be done now."""
+        """Return the ready ends."""
         self.waited = seconds
         ready = super().ready(0)
         self.found += len(ready)
         return ready
 
     def turns(self, count: int = 1) -> None:
-        """Takes so many turns."""
+        """Take so many turns."""
         for _ in range(count):
             self.turn()
 
 
 class Case(unittest.TestCase):
-    """A test with what it makes gone behind it."""
+    """A test that removes everything it creates."""
 
     now = 100.0
 
     def made_folder(self) -> pathlib.Path:
-        """A folder of its own."""
+        """Return a folder of its own."""
         made = tempfile.TemporaryDirectory()
         self.addCleanup(made.cleanup)
         return pathlib.Path(os.path.realpath(made.name))
 
     def patch(self, *words: object, **more: object) -> mock.Mock:
-        """What stands in for something while the test runs."""
+        """Patch an object while the test runs, and return the mock."""
         patched = mock.patch(*words, **more)
         self.addCleanup(patched.stop)
         return patched.start()
 
     def patch_of(self, target: object, name: str, *words: object, **more: object) -> mock.Mock:
-        """What stands in for something's part while the test runs."""
+        """Patch an attribute while the test runs, and return the mock."""
         patched = mock.patch.object(target, name, *words, **more)
         self.addCleanup(patched.stop)
         return patched.start()
 
     def stop_clock(self) -> None:
-        """Has the moment be `now`, which a sleep puts on, and nobody else."""
+        """Stop the clock at `now`, which only sleeps advance."""
         self.patch("time.monotonic", lambda: self.now)
         self.patch("time.sleep", self.pass_time)
 
     def pass_time(self, seconds: float) -> None:
-        """Lets so many seconds pass."""
+        """Let so many seconds pass."""
         self.now += seconds
 
     def pair(self) -> "tuple[socket.socket, socket.socket]":
-        """Two ends of a stream, neither of which waits."""
+        """Return both ends of a non-blocking stream."""
         ends = socket.socketpair()
         for end in ends:
             end.setblocking(False)
@@ -94,14 +94,14 @@ class Case(unittest.TestCase):
         return ends
 
     def pipe(self) -> "tuple[int, int]":
-        """A pipe whose ends don't wait."""
+        """Return a non-blocking pipe."""
         ends = os.pipe2(os.O_NONBLOCK | os.O_CLOEXEC)
         for end in ends:
             self.addCleanup(closed, end)
         return ends
 
     def listening(self, path: "str | os.PathLike[str]") -> socket.socket:
-        """A socket at which connections are waited for."""
+        """Return a listening socket."""
         one = socket.socket(socket.AF_UNIX, socket.SOCK_STREAM)
         self.addCleanup(one.close)
         one.bind(str(path))
@@ -110,21 +110,21 @@ class Case(unittest.TestCase):
         return one
 
     def taken(self, listener: socket.socket) -> socket.socket:
-        """Who came there."""
+        """Return the accepted connection."""
         one = listener.accept()[0]
         self.addCleanup(one.close)
         one.setblocking(False)
         return one
 
     def process(self, *words: str, **more: object) -> subprocess.Popen:
-        """A process, which sleeps where no words are named."""
+        """Return a new process, which sleeps by default."""
         process = subprocess.Popen(words or ("sleep", "60"), **more)
         self.addCleanup(process.wait)
         self.addCleanup(process.kill)
         return process
 
     def heard(self) -> io.StringIO:
-        """What is said on standard error from now on."""
+        """Capture standard error from now on."""
         said = io.StringIO()
         held = contextlib.redirect_stderr(said)
         held.__enter__()
@@ -132,7 +132,7 @@ class Case(unittest.TestCase):
         return said
 
     def printed(self) -> io.StringIO:
-        """What is printed from now on."""
+        """Capture standard output from now on."""
         text = io.StringIO()
         held = contextlib.redirect_stdout(text)
         held.__enter__()
@@ -140,7 +140,7 @@ class Case(unittest.TestCase):
         return text
 
     def environment(self, **words: "str | None") -> None:
-        """Has variables of the environment, without those that are None."""
+        """Set variables of the environment, and remove those that are None."""
         held = mock.patch.dict(os.environ, {name: word for name, word in words.items() if word is not None})
         held.start()
         self.addCleanup(held.stop)
@@ -148,28 +148,28 @@ class Case(unittest.TestCase):
             os.environ.pop(name, None)
 
     def words(self, *words: str) -> None:
-        """Has a tool be called with these words."""
+        """Set the arguments of a tool."""
         self.patch_of(sys, "argv", [*words])
 
 
 def led_text(text: bytes, number: int) -> bytes:
-    """Lines as they are said at the socket `host` of a window, or of the session."""
+    """Return lines in the form for the socket `host`, about a window or the session."""
     return b"".join(b"%d %s" % (number, line) for line in text.splitlines(True))
 
 
 def parted_text(data: bytes, number: int) -> bytes:
-    """What was told of a window, or of the session, in lines: without their numbers."""
+    """Return the lines sent about a window, or the session, without their numbers."""
     lead = b"%d " % number
     return b"".join(line[len(lead) :] for line in data.splitlines(True) if line.startswith(lead))
 
 
 def unled(data: bytes) -> bytes:
-    """What was told at the socket `host`, in lines: without the numbers that they begin with."""
+    """Return the lines sent at the socket `host`, without the numbers at their start."""
     return re.sub(rb"(?m)^\d{1,2} ", b"", data)
 
 
 class Asker:
-    """One who is connected to a socket `host`, and says lines about a window."""
+    """A peer at a socket `host` that sends lines about a window."""
 
     def __init__(self, case: "Case", folder: "str | os.PathLike[str]", number: int = 0) -> None:
         self.end, self.number = socket.socket(socket.AF_UNIX, socket.SOCK_STREAM), number
@@ -179,12 +179,12 @@ class Asker:
         self.fileno, self.close, self.recv = self.end.fileno, self.end.close, self.end.recv
 
     def send(self, text: bytes) -> None:
-        """Says lines."""
+        """Send lines."""
         self.end.send(led_text(text, self.number))
 
 
 def without_numbers(case: "Case") -> None:
-    """Has lines at the socket `host` go without the numbers of windows, for tests of one window that say and read them by hand."""
+    """Omit the window numbers of lines at the socket `host`, for tests of one window that write and read them by hand."""
     for module in ("host.socket_server", "host.uploads", "host.scrollback_queries", "protocol.host_link"):
         case.patch(f"roam_live.{module}.led", lambda number, line: line)
     for module in ("host.socket_server", "protocol.scrollback_client"):
@@ -192,7 +192,7 @@ def without_numbers(case: "Case") -> None:
 
 
 class LinkedClient(HostClient):
-    """What is known of the only window of a session by a connection of its own, and that connection."""
+    """The view of a session's only window on a connection of its own, and that connection."""
 
     def __init__(self, folder, loop, size=lambda: (24, 80), is_read_only=False, knows=lambda: None) -> None:
         link = HostLink(folder, loop, size, is_read_only)
@@ -204,7 +204,7 @@ class LinkedClient(HostClient):
 
 
 class PlayedSurvey:
-    """What the sockets of sessions answered: where the panes of a folder are, by a call, and how many terminals there are."""
+    """The answers of session sockets: a folder's pane positions, from a call, and the number of terminals."""
 
     def __init__(self, places: "object" = None, terminals: "int | None" = 0) -> None:
         self.places = places if callable(places) else lambda folder: places
@@ -212,19 +212,19 @@ class PlayedSurvey:
 
 
 def line_of(session: "object", places: "object" = None, terminals: "int | None" = 0) -> str:
-    """The line of `mux ls` for a session."""
+    """Return the line of `mux ls` for a session."""
     return session.line(PlayedSurvey(places, terminals), session.windows())
 
 
 def record(word: str, *numbers: int, data: "bytes | None" = None, words: str = "") -> bytes:
-    """A record as a client process writes it: with bytes behind it their number is told."""
+    """Return a record in a client process's form. With data, the record contains the length."""
     counts = [*numbers, *([len(data)] if data is not None else [])]
     line = " ".join([word, *map(str, counts), *([words] if words else [])])
     return f"{line}\n".encode() + (data or b"")
 
 
 def comes(test: "typing.Callable[[], object]", seconds: float = 10.0) -> bool:
-    """Return True if something comes to hold in time. Other processes have the processor between two looks."""
+    """Return True if a condition becomes true in time. Other processes run between two checks."""
     end = time.monotonic() + seconds
     while not test() and time.monotonic() < end:
         os.sched_yield()
@@ -232,20 +232,20 @@ def comes(test: "typing.Callable[[], object]", seconds: float = 10.0) -> bool:
 
 
 def closed(end: int) -> None:
-    """Closes a descriptor, which may be closed already."""
+    """Close a descriptor, which may be closed already."""
     with contextlib.suppress(OSError):
         os.close(end)
 
 
 def ended(end: int) -> None:
-    """Ends what a descriptor stands for; its number stays taken, so that nothing else is closed under it later."""
+    """Shut down a descriptor, but keep its number in use, so that nothing else is closed by it later."""
     nothing = os.open(os.devnull, os.O_RDWR | os.O_CLOEXEC)
     os.dup2(nothing, end)
     os.close(nothing)
 
 
 def read_now(end: "socket.socket | int") -> bytes:
-    """All that can be read at an end now."""
+    """Return all available data at an end."""
     text = b""
     with contextlib.suppress(BlockingIOError):
         while True:

@@ -1,11 +1,11 @@
-"""What copy mode is tried with beside tmux's: a text, keys by name with emacs' and vi's table, and what is copied by them here."""
+"""The input for comparisons of copy mode with tmux: a text, keys by name for the emacs and vi tables, and roam's copies."""
 from modes_played import copy_keys
 from roam_live.common.cell_widths import width_of
 from roam_live.frontend.copymode.actions import COPY, LEAVE
 from roam_live.frontend.copymode.mode import CopyMode
 from roam_live.frontend.copymode.rows import Rows
 
-# Paragraphs, rows that go on, separators, brackets, blanks at the beginning and the end, wide and joined characters.
+# Paragraphs, soft-wrapped rows, separators, brackets, blanks at the beginning and the end, wide and combining characters.
 TEXT = "".join(f"{line}\n" for line in (
     *(f"row {number} of the older ones, number-{number}" for number in range(1, 31)), "",
     "    indented: call(first, [second, {third}]) here",
@@ -15,7 +15,7 @@ TEXT = "".join(f"{line}\n" for line in (
 
 
 def rows_of(text, cols):
-    """The rows that a text has on a terminal of so many columns, as the filter prints them."""
+    """Return the rows of a text on a terminal of so many columns, in the scrollback process's form."""
     found = []
     for line in text.split("\n"):
         row, width = "", 0
@@ -41,7 +41,7 @@ def mode_of(text, is_vi, size, first=0):
 
 
 def answer_all(mode, does):
-    """Does something, and answers each search that it asks for."""
+    """Do something, and answer each of its searches."""
     while True:
         try:
             return mode.attempt(does)
@@ -52,7 +52,7 @@ def answer_all(mode, does):
 
 
 def found_row(rows, first, is_back, text):
-    """The row behind one, or before it, at which a text begins, as the host finds it."""
+    """Return the row after one, or before it, in which a match begins, like the host."""
     from roam_live.frontend.copymode.search import matches
 
     numbers = range(first - 1, rows.first - 1, -1) if is_back else range(first + 1, rows.end)
@@ -60,7 +60,7 @@ def found_row(rows, first, is_back, text):
 
 
 def typed(mode, keys):
-    """Types groups of bytes, and tells what is asked for then."""
+    """Type groups of bytes, and return the requests."""
     found = []
     for group in keys:
         for key in copy_keys(group):
@@ -73,14 +73,14 @@ def typed(mode, keys):
 
 
 def copied_by_roam(keys, is_vi, size):
-    """What is copied where keys are typed; None where nothing is."""
+    """Return the text copied by these keys; None if there is none."""
     found = [asked.text.gather().decode() for asked in typed(mode_of(TEXT, is_vi, size), keys) if asked.word == COPY]
     return (found[-1] or None) if found else None
 
 
 TOP_EMACS, TOP_VI = b"\x1b<", b"g"
 
-# By what each is called: keys that are typed in groups, each of which comes at once.
+# The cases by name: keys that are typed in groups, each at once.
 CASES = {
     "emacs": {
         "C-Space, C-e, M-w: the rest of a line": [TOP_EMACS, b"\x00", b"\x05", b"\x1bw"],
@@ -189,11 +189,11 @@ CASES = {
     },
 }
 
-# What is known to differ, and why.
+# The known differences, and their reasons.
 BEHIND = "since what tmux selects stays at the beginning of what is found, and the cursor goes behind it"
 KNOWN = {("emacs", "C-s and n"): BEHIND, ("emacs", "C-r and N"): BEHIND}
 
-# Keys that are typed by chance behind a beginning, with one that selects among them; and what copies then.
+# Random keys after a beginning, with one that selects among them; and the final copy.
 CHANCE = {
     "vi": ((b"g", b"ll", b"X", b"/row\r"), b" ", b"\r",
            (b"h", b"j", b"k", b"l", b"w", b"b", b"e", b"W", b"B", b"E", b"0", b"$", b"^", b"g", b"G", b"H", b"M", b"L", b"\x06",
@@ -207,7 +207,7 @@ CHANCE = {
 
 
 def by_chance(chance, table):
-    """Keys by chance."""
+    """Return random keys."""
     begins, selects, copies, keys = CHANCE[table]
     before, behind = ([chance.choice(keys) for _ in range(chance.randrange(1, 6))] for _ in range(2))
     return [*begins, *before, selects, *behind, copies]

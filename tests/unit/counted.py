@@ -1,6 +1,6 @@
-"""Counts what a tool costs as a process: bytecodes, modules and system calls. No clock and no load changes these counts.
+"""Counts the cost of a tool as a process: bytecodes, modules and system calls. Clock and load do not affect these counts.
 
-A count may end at the first write that contains a text, as the painting of a terminal.
+A count may end at the first write that contains a text, such as the painting of a terminal.
 """
 import contextlib
 import ctypes
@@ -16,7 +16,7 @@ from roam_live.common.named_fields import NamedFields
 
 CHILD = pathlib.Path(__file__).resolve().parent / "counted_child.py"
 
-# ptrace(2) requests and options of x86-64 Linux, and where the registers of a system call's number and first three arguments are.
+# Requests and options of ptrace(2) on x86-64 Linux. Then the registers of a system call's number and first three arguments.
 TRACEME, SYSCALL, GETREGS, SETOPTIONS, GOOD_STOPS = 0, 24, 12, 0x4200, 1
 NUMBER, FIRST, SECOND, THIRD = 15, 14, 13, 12
 WRITE = 1
@@ -30,12 +30,12 @@ LIBC.ptrace.restype = ctypes.c_long
 
 
 def plain_environment(**more):
-    """The environment of a counted run: that of this process without what changes how Python runs."""
+    """Return the environment of a counted run: this process's, without the variables that affect Python."""
     return {**{name: value for name, value in os.environ.items() if not name.startswith(("PYTHON", "ROAM"))}, **more}
 
 
 def tool_words(tools, name, *words):
-    """The words that run a tool of a folder as `roam` does."""
+    """Return the words that run a tool of a folder, like `roam`."""
     return [sys.executable, "-S", str(tools / name), *words]
 
 
@@ -48,7 +48,7 @@ def ptrace(request, process, data=None):
 
 
 def has_written(process, text):
-    """Return True if a process that is stopped at a system call is about to write a text."""
+    """Return True if a process stopped at a system call is about to write a text."""
     registers = (ctypes.c_ulonglong * 27)()
     ptrace(GETREGS, process, ctypes.addressof(registers))
     if registers[NUMBER] != WRITE:
@@ -59,7 +59,7 @@ def has_written(process, text):
 
 
 def begin_traced(words, environment, terminal):
-    """Fork a process that runs words on a terminal, None for none, and is traced; return its number."""
+    """Fork a traced process that runs words on a terminal, None for none; return its pid."""
     process = os.fork()
     if process:
         return process
@@ -76,7 +76,7 @@ def begin_traced(words, environment, terminal):
 
 
 def system_calls(words, environment, terminal=None, until=b""):
-    """Run words, and return how many system calls that took, until a text is written if one is named; the run ends then."""
+    """Run words, and return the number of system calls; if a text is named, until it is written, which ends the run."""
     process = begin_traced(words, environment, terminal)
     os.waitpid(process, 0)
     count = passed = 0
@@ -111,7 +111,7 @@ def can_trace():
 # ---- bytecodes
 
 class Counts(NamedFields):
-    """What a run took: bytecodes, modules, those of roam, and the names of all."""
+    """The cost of a run: bytecodes, modules, those of roam, and all names."""
 
     bytecodes: int
     modules: int
@@ -120,7 +120,8 @@ class Counts(NamedFields):
 
 
 def bytecodes_of(out, tools, words, environment, until=b"", terminal=None, end=math.inf):
-    """Run `mux` of a folder with these words on a terminal, None for none, until a text is written or a moment, and return the counts."""
+    """Return the counts of a run of `mux` with these words, until a text is written or until a moment. `terminal` None means no terminal.
+    """
     asked = [sys.executable, "-S", str(CHILD), str(out), os.fsdecode(until), str(tools / "mux"), *words]
     given = subprocess.DEVNULL if terminal is None else terminal
     with subprocess.Popen(asked, env=environment, stdin=given, stdout=given, stderr=given, start_new_session=True) as process:

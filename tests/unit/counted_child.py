@@ -1,7 +1,7 @@
-"""counted_child.py OUT UNTIL TOOL WORD ..: runs a tool, and writes to the file OUT how many bytecodes and modules that took.
+"""counted_child.py OUT UNTIL TOOL WORD ..: runs a tool, and writes its counts of bytecodes and modules to the file OUT.
 
-It counts until a write has the text UNTIL, and to the end if that is "" or does not come. It imports nothing that Python has not loaded
-before any tool.
+It counts until a write contains the text UNTIL, and to the end if that is "" or does not come. It imports nothing that Python has not
+loaded before any tool.
 """
 import os
 import sys
@@ -15,7 +15,7 @@ class BytecodeCounter:
         self.write = os.write
 
     def begin(self):
-        """Begin to count."""
+        """Start counting."""
         os.write = self.written
         sys.settrace(self.trace)
 
@@ -26,7 +26,7 @@ class BytecodeCounter:
         return self.trace
 
     def written(self, end, data):
-        """Write, and end the count if that has the text."""
+        """Write, and end the count if the data contains the text."""
         if self.until and self.until in data:
             self.end()
         return self.write(end, data)

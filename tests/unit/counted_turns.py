@@ -1,10 +1,10 @@
-"""Counts what turns of a loop cost in this process: calls and bytecodes of the modules of roam, and the system calls that they make."""
+"""Counts the cost of a loop's turns in this process: calls and bytecodes of roam's modules, and their system calls."""
 import collections
 import sys
 
 LIVE = "roam_live/"
 
-# What those modules call that is a system call each time: functions of `posix` and of other modules in C, and methods of objects there.
+# The callables in those modules that are one system call each: functions of `posix` and other C modules, and methods of objects.
 POSIX = {"read", "write", "open", "close", "stat", "lstat", "fstat", "listdir", "readlink", "kill", "unlink", "tcgetpgrp", "getppid", "uname"}
 OTHERS = {("fcntl", "ioctl"), ("fcntl", "flock"), ("select", "select"), ("select", "poll"), ("termios", "tcgetattr"), ("termios", "tcsetattr")}
 METHODS = {"epoll": {"poll", "modify", "register", "unregister"}, "poll": {"poll"},
@@ -53,9 +53,9 @@ class TurnCounter:
         sys.setprofile(self.before[1])
 
     def counts(self, events):
-        """The calls, bytecodes and system calls of each of so many events."""
+        """Return the calls, bytecodes and system calls of each of so many events."""
         return tuple(sum(found.values()) / events for found in (self.calls, self.bytecodes, self.system_calls))
 
     def told(self):
-        """What takes most, in words."""
+        """Return the largest costs in words."""
         return f"{self.bytecodes.most_common(12)}, {self.system_calls.most_common(12)}"

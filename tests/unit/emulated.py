@@ -1,7 +1,7 @@
-"""A terminal in this process, for the scripts that try roam: what a front end writes, and a shell beside it, is read once, as it comes.
+"""A terminal in this process, for tests of roam: it reads the output of a front end, or of a shell for comparison, as it arrives.
 
-It knows what roam's painter, its front ends, shells and line editors use. Whether it is right is tried at the end of each scene, where
-`roam show` reads all of it once more.
+It supports the sequences of roam's painter, its front ends, shells and line editors. At the end of each scene, a comparison with `roam
+show` on the whole output checks it.
 """
 import codecs
 import re
@@ -28,7 +28,7 @@ class Emulated:
         self.reset()
 
     def reset(self):
-        """Is as it was at first (RIS)."""
+        """Restore the initial state (RIS)."""
         self.screens = {False: self.blank(), True: self.blank()}
         self.is_other = False
         self.row = self.col = 0
@@ -40,16 +40,16 @@ class Emulated:
         self.saved = {}
 
     def blank(self):
-        """A screen on which nothing stands."""
+        """Return a blank screen."""
         return [[BLANK] * self.cols for _ in range(self.rows)]
 
     @property
     def screen(self):
-        """The screen that is shown."""
+        """Return the visible screen."""
         return self.screens[self.is_other]
 
     def fed(self, chunk):
-        """Goes on with what is written."""
+        """Take output."""
         text = self.rest + self.decoder.decode(chunk)
         at = 0
         while at < len(text):
@@ -61,7 +61,7 @@ class Emulated:
         self.rest = text[at:]
 
     def act(self, part):
-        """Does what a part asks for."""
+        """Apply one part of the output."""
         mark, numbers, between, final, designates, escape, control, letters = part.groups()
         if letters:
             for letter in letters:
@@ -76,7 +76,7 @@ class Emulated:
     # ---- characters
 
     def write(self, letter):
-        """Writes a character."""
+        """Write a character."""
         if self.sets[self.used] == "0":
             letter = BOXES.get(letter, letter)
         width = width_of(letter)
@@ -97,7 +97,7 @@ class Emulated:
         self.col = min(self.col + width, self.cols - 1)
 
     def join(self, letter):
-        """Has a character without a width stand with the one before."""
+        """Add a zero-width character to the previous cell."""
         at = self.col if self.is_pending else self.col - 1
         line = self.screen[self.row]
         at -= at > 0 and line[at][0] == ""
@@ -106,7 +106,7 @@ class Emulated:
 
     @staticmethod
     def part_wide(line, begin, width):
-        """Blanks what is left of wide characters of which a part is overwritten."""
+        """Blank the rest of a partly overwritten wide character."""
         if line[begin][0] == "" and begin:
             line[begin - 1] = (" ", line[begin - 1][1])
         if begin + width < len(line) and line[begin + width][0] == "":
@@ -115,7 +115,7 @@ class Emulated:
     # ---- control characters and escapes
 
     def controlled(self, control):
-        """Does what a control character asks for."""
+        """Apply a control character."""
         if control == "\b":
             self.move(self.row, self.col - 1)
         elif control == "\t":
@@ -130,7 +130,7 @@ class Emulated:
             self.used = int(control == "\x0e")
 
     def escaped(self, designates, escape):
-        """Does what an escape sequence asks for."""
+        """Apply an escape sequence."""
         if designates in ("(", ")"):
             self.sets["()".index(designates)] = escape
         elif designates:
@@ -148,7 +148,7 @@ class Emulated:
             self.reset()
 
     def index(self):
-        """Goes down a row, or scrolls."""
+        """Go down a row, or scroll."""
         self.is_pending = False
         if self.row == self.bottom:
             self.scroll(self.top, self.bottom, 1)
@@ -156,18 +156,18 @@ class Emulated:
             self.row = min(self.row + 1, self.rows - 1)
 
     def reverse_index(self):
-        """Goes up a row, or scrolls."""
+        """Go up a row, or scroll."""
         if self.row == self.top:
             self.scroll(self.top, self.bottom, -1)
         else:
             self.row = max(self.row - 1, 0)
 
     def erased(self):
-        """What stands where something was erased."""
+        """Return the contents of an erased cell."""
         return (" ", Style(background=self.style.background))
 
     def scroll(self, top, bottom, count):
-        """Moves rows up, or down where the count is below 0."""
+        """Scroll rows up, or down if the count is negative."""
         blank = [[self.erased()] * self.cols for _ in range(min(abs(count), bottom - top + 1))]
         lines = self.screen[top : bottom + 1]
         moved = lines[len(blank) :] + blank if count > 0 else blank + lines[: len(lines) - len(blank)]
@@ -176,12 +176,12 @@ class Emulated:
     # ---- control sequences
 
     def move(self, row, col):
-        """Goes to a place on the screen."""
+        """Go to a position on the screen."""
         self.row, self.col = max(0, min(row, self.rows - 1)), max(0, min(col, self.cols - 1))
         self.is_pending = False
 
     def sequence(self, mark, numbers, final):
-        """Does what a control sequence asks for."""
+        """Apply a control sequence."""
         count = max(numbers[0], 1)
         if mark == "?" and final in "hl":
             for number in numbers:
@@ -204,7 +204,7 @@ class Emulated:
             setattr(self, "inserts" if numbers[0] == 4 else "has_new_line", final == "h")
 
     def moved(self, final, count, other):
-        """Moves the cursor."""
+        """Move the cursor."""
         low, high = (self.top, self.bottom) if self.top <= self.row <= self.bottom else (0, self.rows - 1)
         first = self.top if self.is_origin else 0
         above, below = max(self.row - count, low), min(self.row + count, high)
@@ -214,7 +214,7 @@ class Emulated:
         self.move(*places["H" if final == "f" else final])
 
     def erase(self, final, what):
-        """Erases characters, a part of a row, or of the screen."""
+        """Erase characters, a part of a row, or of the screen."""
         self.is_pending = False
         line, blank = self.screen[self.row], self.erased()
         if final == "X":
@@ -231,7 +231,7 @@ class Emulated:
                 self.screen[row] = [blank] * self.cols
 
     def scrolled(self, final, count):
-        """Inserts or deletes rows, or scrolls."""
+        """Insert or delete rows, or scroll."""
         if final in "ST":
             self.scroll(self.top, self.bottom, count if final == "S" else -count)
         elif self.top <= self.row <= self.bottom:
@@ -239,7 +239,7 @@ class Emulated:
             self.move(self.row, 0)
 
     def shift(self, final, count):
-        """Inserts or deletes characters."""
+        """Insert or delete characters."""
         self.is_pending = False
         line, blank = self.screen[self.row], self.erased()
         count = min(count, self.cols - self.col)
@@ -252,14 +252,14 @@ class Emulated:
             del line[self.cols :]
 
     def set_margins(self, top, bottom):
-        """Has the rows between scroll."""
+        """Set the scroll region."""
         bottom = min(bottom, self.rows)
         if top < bottom:
             self.top, self.bottom = top - 1, bottom - 1
             self.move(self.top if self.is_origin else 0, 0)
 
     def set_private(self, number, is_set):
-        """Sets a mode of DEC's, or resets it."""
+        """Set or reset a DEC private mode."""
         if number == 25:
             self.has_cursor = is_set
         elif number == 7:
@@ -272,7 +272,7 @@ class Emulated:
             self.change_screen(number, is_set)
 
     def change_screen(self, number, is_other):
-        """Shows the other screen, or the main one."""
+        """Show the alternate screen, or the main one."""
         if number == 1049 and is_other:
             self.escaped("", "7")
         self.is_other = is_other
@@ -281,21 +281,21 @@ class Emulated:
         elif number == 1049:
             self.escaped("", "8")
 
-    # ---- what is shown
+    # ---- the display
 
     def resize(self, rows, cols):
-        """Has another size; what stood at the top left stays."""
+        """Change the size, and keep the contents from the top left."""
         for screen in self.screens.values():
             screen[:] = [(line + [BLANK] * cols)[:cols] for line in (screen + [[BLANK] * cols for _ in range(rows)])[:rows]]
         self.rows, self.cols, self.top, self.bottom = rows, cols, 0, rows - 1
         self.move(self.row, self.col)
 
     def lines(self):
-        """The rows that are shown, in all their columns."""
+        """Return the visible rows, in all their columns."""
         return ["".join(letter for letter, _ in line) for line in self.screen]
 
     def painted(self):
-        """The cells that are shown, with their styles, and the cursor."""
+        """Return the visible cells, with their styles, and the cursor."""
         shown = PaintedCells()
         shown.cells = {(row, col): cell for row, line in enumerate(self.screen, 1) for col, cell in enumerate(line, 1) if cell[0]}
         shown.row, shown.col, shown.has_cursor = self.row + 1, self.col + 1, self.has_cursor

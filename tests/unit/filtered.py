@@ -1,4 +1,4 @@
-"""A scrollback process that is played by hand, and one that is a small script: it knows LF and CSI 3 J alone."""
+"""A scrollback process that is played by hand, and one that is a small script: it supports only LF and CSI 3 J."""
 import contextlib
 import os
 import sys
@@ -6,7 +6,7 @@ from unittest import mock
 
 from roam_live.host import scrollback_process
 
-# No process has this number.
+# No process has this pid.
 NOBODY = (1 << 31) - 1
 
 SCRIPT = r'''
@@ -44,7 +44,7 @@ while True:
     out.flush()
 '''
 
-# What runs that script, as a scrollback process.
+# The command that runs that script as a scrollback process.
 FAKE = [sys.executable, "-S", "-E", "-c", SCRIPT]
 
 
@@ -62,7 +62,7 @@ class PlayedProcess:
         case.addCleanup(self.end)
 
     def taken(self):
-        """What was written to it."""
+        """Return the bytes written to it."""
         found = b""
         with contextlib.suppress(BlockingIOError):
             while True:
@@ -73,18 +73,18 @@ class PlayedProcess:
         return found
 
     def prints(self, data):
-        """Prints."""
+        """Print."""
         os.write(self.output, data)
 
     def end(self):
-        """Ends."""
+        """End."""
         for end in self.open:
             os.close(end)
         self.open = set()
 
 
 def played(case, count=1, said=b""):
-    """Filters that are spawned one after the other from now on, and played by hand; each further one can't be spawned."""
+    """Play the scrollback processes spawned from now on, in sequence. After `count` of them, spawning fails."""
     processes = [PlayedProcess(case, said) for _ in range(count)]
     spawns = [(NOBODY, list(one.ends)) for one in processes]
     patch = mock.patch.object(scrollback_process, "spawned", side_effect=[*spawns, *[OSError(11, "no process is left")] * 50])

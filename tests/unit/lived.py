@@ -1,4 +1,4 @@
-"""A session that is played with its layout: it does what a person's front end types, and tells where its panes are."""
+"""A simulated session with its layout: it carries out a front end's acts, and reports its pane positions."""
 import random
 
 from aids import Case
@@ -7,22 +7,22 @@ from roam_live.protocol.panes import Places, Rect
 from test_borders import Played
 from test_display import Person, PlayedHost
 
-# What a front end says of what is shown, and not to the session.
+# Lines of a front end about its view, which do not reach the session.
 SHOWN = ("part", "whole", "repaint", "mask", "unmask")
 
 
 class Lived(Played):
-    """A session that does acts."""
+    """A session that carries out acts."""
 
     def __init__(self, rows=24, cols=80):
         super().__init__(Rect(1, 1, rows - 1, cols))
 
     def places(self):
-        """Where the panes are."""
+        """Return the pane positions."""
         return Places(self.rects(), self.focus, 1)
 
     def do(self, act):
-        """Does an act, where the layout doesn't refuse it."""
+        """Carry out an act, unless the layout refuses it."""
         word, *words = act.split()
         panes = list(self.rects())
         if word == "focus" and int(words[0]) in panes:
@@ -47,7 +47,7 @@ class Lived(Played):
 
 
 def by_chance(seed, rows=24, cols=80, most=6, closes=0):
-    """A session of 2 panes at least, by chance; of those that were split off so many are closed and split off again."""
+    """Return a random session of at least 2 panes; so many of those that were split off are closed and split off again."""
     chance, session = random.Random(seed), Lived(rows, cols)
     count = chance.randint(2, most)
     for _ in range(40):
@@ -64,13 +64,13 @@ def by_chance(seed, rows=24, cols=80, most=6, closes=0):
 
 
 class Attached(Case):
-    """A person at a session that is played."""
+    """A user at a simulated session."""
 
     def setUp(self):
         self.stop_clock()
 
     def attach(self, session, size=(24, 80), host=None, **more):
-        """A person there, to whom it is told where the panes are; the session is taken to be of this machine."""
+        """Attach a user, and report the pane positions. The session counts as local."""
         self.session, self.shown, self.heard = session, [], []
         self.person = Person(*size, told=session.places(), host=host or PlayedHost(False), **more)
         link = self.person.link
@@ -81,7 +81,7 @@ class Attached(Case):
         return self.person
 
     def take(self, times=3):
-        """Has the session take what was typed, and tell of it, so many times at most; acts are kept, and what was asked for to be shown."""
+        """Let the session take input and report, at most so many times. Keep the acts and the view requests."""
         for _ in range(times):
             lines = self.person.said()
             for line in lines:
@@ -96,12 +96,12 @@ class Attached(Case):
                 return
 
     def types(self, text):
-        """Types, and has the session take it."""
+        """Type, and let the session take it."""
         self.person.keyboard.fed(text)
         self.take()
 
     def by_another(self, *acts):
-        """Has another person do something."""
+        """Let another user act."""
         for act in acts:
             self.session.do(act)
         self.person.tell(self.session.places())

@@ -1,4 +1,4 @@
-"""A stack of modes without a front end: what each key of a text asks for, as effects, or told in words."""
+"""A stack of modes without a front end: the effects of each key in a text, as values or in words."""
 from roam_live.frontend.bindings import Keymap
 from roam_live.frontend.effects import BeginPaste, ClearStatus, Perform, ShowStatus, TellUnbound, TypeActs, TypeKey
 from roam_live.frontend.modes import CopyKeysMode, ModeStack, PickingMode
@@ -6,14 +6,14 @@ from roam_live.input.keys import Keys, acts_of
 
 
 class PlayedModes:
-    """The modes of a person, at a session where no rows are kept: the view that all share scrolls in place of copy mode."""
+    """The modes of a user at a session without scrollback, so that the shared view scrolls in place of copy mode."""
 
     def __init__(self, prefix="C-b", own=None):
         self.stack = ModeStack(Keymap(prefix))
         self.stack.keymap.own = own or {}
 
     def asked(self, text, now=1.0, rows=24):
-        """What each key of a text asks for."""
+        """Return the effects of each key in a text."""
         keys, found, place = Keys(), [], 0
         self.stack.keymap.rows = rows
         typed = self.stack.keymap.joined(keys.fed(text) + keys.ended())
@@ -24,7 +24,7 @@ class PlayedModes:
         return found
 
     def follow(self, effect, now):
-        """What comes of an effect: those that begin another mode do so."""
+        """Apply an effect that begins another mode."""
         wish = effect.wish if isinstance(effect, Perform) else ""
         if wish == "panes":
             self.stack.push(PickingMode(now))
@@ -36,12 +36,12 @@ class PlayedModes:
         return [*scrolled, mode.status()]
 
     def told(self, text, now=1.0, rows=24):
-        """What each key of a text asks for, as the acts that are typed, and a word for the rest."""
+        """Return the effects of each key in a text, as typed acts, and a word for others."""
         return [in_words(effects) for effects in self.asked(text, now, rows)]
 
 
 def in_words(effects):
-    """The acts of effects, and a word for the rest."""
+    """Return the acts of effects, and a word for others."""
     acts = [act for effect in effects if isinstance(effect, (TypeKey, TypeActs)) for act in effect.acts]
     words = {TellUnbound: "unknown", ShowStatus: "scroll", ClearStatus: "over", BeginPaste: "paste"}
     rest = [effect.wish if isinstance(effect, Perform) else words.get(type(effect), "") for effect in effects]
@@ -49,15 +49,15 @@ def in_words(effects):
 
 
 class NoWindows:
-    """The windows of a session that can have no others, as what asks for them."""
+    """The windows of a session limited to one, with the interface of others."""
 
     @property
     def waiting(self):
-        """Nothing waits for a window."""
+        """Return itself: no window is awaited."""
         return self
 
     def why_one(self):
-        """Return why there is no other window."""
+        """Return the reason that there is no other window."""
         return "there is only one window"
 
     def is_full(self):
@@ -65,19 +65,19 @@ class NoWindows:
         return False
 
     def told_panes(self, *_):
-        """Do nothing, whatever is asked for."""
+        """Do nothing, whatever the request is."""
 
     grant = say = hold = told_panes
 
 
 def acts_of_bytes(text):
-    """Return the acts of bytes that come at once and nothing after them."""
+    """Return the acts of bytes that arrive at once without any later ones."""
     keys = Keys()
     return [act for key in keys.fed(text) + keys.ended() for act in acts_of(key)]
 
 
 def copy_keys(text):
-    """Return the keys of bytes that come at once, as copy mode takes them."""
+    """Return the keys of bytes that arrive at once, in copy mode's form."""
     mode, keys = CopyKeysMode(Keymap()), Keys()
     whole = [effect for key in keys.fed(text) + keys.ended() for effect in mode.fed(key)] + mode.ended()
     return [effect.key for effect in whole]

@@ -1,6 +1,8 @@
-"""The cells that a text shows: a painter's, which has CUP, SGR, ED 2, EL, DECTCEM, a reset and characters, and LF and RI at margins, with
-DECSC and DECRC round a front end's own line, or the rows that tmux captures. It knows widths by a table of its own, so it is for what is
-tried and no part of the tools."""
+"""The cells of a painted text, from a painter or from the rows that tmux captures.
+
+It supports CUP, SGR, ED 2, EL, DECTCEM, a reset and characters, LF and RI at margins, and DECSC and DECRC around a front end's own line.
+Its table of widths is independent, so it serves tests and is no part of the tools.
+"""
 from __future__ import annotations
 
 import re
@@ -11,30 +13,30 @@ from roam_live.protocol.screen_cells import Style, styled
 
 MARKS = re.compile(r"\x1b\[(\d+)(?:;(\d+))?H|\x1b\[([\d;]*)m|(\x1b\[2J|\x1bc)|\x1b\[\?25([hl])|\x1b\[(?:(\d+);(\d+))?r|(\x1b\[K|\x1bM|\n)"
                    r"|\x1b([78])|\x1b\[[0-?]*[@-~]|\x1b[=>]|([^\x1b])")
-# What erases the rest of a row; what scrolls up at the lower margin, and down at the upper one.
+# The sequences that erase the rest of a row, and that scroll up at the bottom margin and down at the top one.
 EL, LF, RI = "\x1b[K", "\n", "\x1bM"
 
-# The signs for boxes, as a row of tmux has them between these.
+# The line-drawing characters of a tmux row are between these.
 SHIFT_OUT, SHIFT_IN = "\x0e", "\x0f"
 BOXES = dict(zip("jklmnqtuvwxa", "\u2518\u2510\u250c\u2514\u253c\u2500\u251c\u2524\u2534\u252c\u2502\u2592"))
 
 
 class PaintedCells:
-    """What a painter's text shows: cells by row and column from 1, each a character and a style, and the cursor."""
+    """The result of a painter's text: cells by row and column from 1, each a character and a style, and the cursor."""
 
     def __init__(self) -> None:
         self.cells: dict[tuple[int, int], tuple[str, Style]] = {}
         self.style = Style()
         self.row = self.col = 1
-        # The rows between the margins, where there are some.
+        # The rows between the margins, if set.
         self.band: tuple[int, int] | None = None
         self.has_cursor = True
         self.has_boxes = False
-        # What DECSC kept: a place and a style.
+        # The position and style saved by DECSC.
         self.saved = 1, 1, self.style
 
     def fed(self, text: str) -> None:
-        """Goes on with a painter's text."""
+        """Take a painter's text."""
         for mark in MARKS.finditer(text):
             row, col, style, erased, cursor, top, bottom, other, saves, letter = mark.groups()
             if row:
@@ -59,7 +61,7 @@ class PaintedCells:
                 self.write(BOXES.get(letter, letter) if self.has_boxes else letter)
 
     def acts(self, other: str) -> None:
-        """Erases the rest of the row, or goes a row up or down, where the rows between the margins scroll at their edge."""
+        """Erase the rest of the row, or move a row up or down. At the margins, the rows between them scroll."""
         if other == EL:
             self.cells = {(row, col): cell for (row, col), cell in self.cells.items() if row != self.row or col < self.col}
             return
@@ -72,7 +74,7 @@ class PaintedCells:
         self.cells = {(row - by if top <= row <= bottom else row, col): cell for (row, col), cell in self.cells.items() if row != gone}
 
     def write(self, letter: str) -> None:
-        """Writes a character; one without a width joins the one before."""
+        """Write a character; a zero-width one joins the one before."""
         width = width_of(letter)
         if width == 0:
             place = (self.row, self.col - 1 if (self.row, self.col - 1) in self.cells else self.col - 2)
@@ -86,7 +88,7 @@ class PaintedCells:
 
 
 def cells_of_rows(rows: Iterable[str]) -> PaintedCells:
-    """The cells of rows as tmux captures them, a style of which goes on into the next."""
+    """Return the cells of rows that tmux captured, in which a style continues into the next row."""
     shown = PaintedCells()
     for row, text in enumerate(rows, 1):
         shown.row, shown.col = row, 1
@@ -95,7 +97,7 @@ def cells_of_rows(rows: Iterable[str]) -> PaintedCells:
 
 
 def width_of(letter: str) -> int:
-    """How many columns a character takes."""
+    """Return the columns of a character."""
     if unicodedata.category(letter) in ("Mn", "Me", "Cf"):
         return 0
     return 2 if unicodedata.east_asian_width(letter) in "WF" else 1

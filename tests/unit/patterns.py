@@ -1,6 +1,7 @@
-"""Each use of `re` and each text with an escape in live/, with what it reads or writes. One that isn't in the table below is a fault, and
-so is one of the table that isn't there any more: nothing in live/ matches or searches what a client process paints, since what is painted
-is whatever a pane's program wrote.
+"""The uses of `re` and of texts with an escape in live/, with their purposes.
+
+A use that is missing from the table below is an error, and so is an obsolete entry. Nothing in live/ matches or searches a client process's
+paintings, since these contain arbitrary output of a pane's program.
 """
 import ast
 import pathlib
@@ -10,7 +11,7 @@ from roam_live.common.process import TOOLS
 
 LIVE = pathlib.Path(TOOLS)
 
-# What is read, or written, in words.
+# The purposes in words.
 TYPED = "reads what a person types"
 WRITES = "writes to the person's terminal, and reads nothing"
 PROGRAM = "reads what a pane's program writes, at the pty host"
@@ -29,7 +30,7 @@ ANSWERS = "is typed into a pane as an answer, and reads nothing"
 COLOURS = "reads what a person's terminal answers, among what is typed"
 BEGIN = "the reset with which the start itself begins a record `anew`; another clearing is written for it"
 
-# Each use: the file, the name that it is assigned to or the function that it stands in, and whether it is of `re` or of an escape.
+# Each use: the file, the assigned name or the enclosing function, and its kind, `re` or an escape.
 KNOWN = {
     ("roam_live/common/patterns.py", "LazyPattern.__getattr__", "re"): "compiles the pattern of another module, which is listed there",
     ("roam_live/frontend/outer_terminal.py", "", "ESC"): WRITES,
@@ -130,23 +131,23 @@ KNOWN = {
     ("show_client", "", "ESC"): WRITES,
 }
 
-# How a shell script spells an escape; and what a module has in which there may be a use at all.
+# The spellings of an escape in a shell script; and a quick test for modules that may have a use at all.
 SPELLED = re.compile(r"\\033|\\x1b|\\e\[|\$'\\E", re.IGNORECASE)
 MAY_USE = re.compile(r"\b(import|from) re\b|LazyPattern|, re\b|RESET|\\(0?33|x1b|u001b|U0000001b|N\{)|\x1b", re.IGNORECASE)
 
 
 class Uses(ast.NodeVisitor):
-    """The uses in a module, each with what it is assigned to, or the function in which it stands."""
+    """The uses in a module, each with its assigned name or enclosing function."""
 
     def __init__(self, file):
         self.file, self.where, self.found = file, [], set()
 
     def use(self, kind):
-        """Takes note of a use."""
+        """Record a use."""
         self.found.add((self.file, ".".join(self.where), kind))
 
     def within(self, name, node):
-        """Goes on below a node that has a name."""
+        """Walk a node with a name."""
         self.where.append(name)
         self.generic_visit(node)
         self.where.pop()
@@ -165,12 +166,12 @@ class Uses(ast.NodeVisitor):
             self.within(target.id, node)
 
     def visit_AnnAssign(self, node):
-        # What stands in a type alone reads nothing.
+        # Strings in type annotations read nothing.
         if node.value:
             self.visit(node.value)
 
     def visit_arg(self, node):
-        """Passes over a parameter's type."""
+        """Skip a parameter's type."""
 
     def visit_Attribute(self, node):
         if isinstance(node.value, ast.Name) and node.value.id == "re" and node.attr[0].islower():
@@ -185,7 +186,7 @@ class Uses(ast.NodeVisitor):
         self.generic_visit(node)
 
     def visit_ImportFrom(self, node):
-        # By other names a use wouldn't be seen.
+        # A use under another name would go unnoticed.
         if node.module == "re" or any(alias.name == "RESET" for alias in node.names):
             self.use("re" if node.module == "re" else "RESET")
 
@@ -202,7 +203,7 @@ class Uses(ast.NodeVisitor):
 
 
 def uses_in(path):
-    """The uses in a file of live/."""
+    """Return the uses in a file of live/."""
     file, text = str(path.relative_to(LIVE)), path.read_text(encoding="utf-8")
     if path.suffix == ".py" or text.startswith("#!/usr/bin/env python3"):
         uses = Uses(file)
@@ -213,13 +214,13 @@ def uses_in(path):
 
 
 def found_uses():
-    """All uses in live/."""
+    """Return all uses in live/."""
     files = sorted(path for path in LIVE.rglob("*") if path.is_file() and "__pycache__" not in path.parts)
     return set().union(*map(uses_in, files))
 
 
 def main():
-    """Prints all of them, and tells the status: 1 where there is a fault."""
+    """Print all uses, and return the status: 1 if there is an error."""
     found = found_uses()
     for file, where, kind in sorted(found):
         print(f"{file:24} {where:24} {kind:6} {KNOWN.get((file, where, kind), 'NOT LISTED')}")

@@ -1,4 +1,4 @@
-"""A session that is played: its folder, and the sockets of its processes, at which this process answers from a thread."""
+"""A simulated session: its folder, and the sockets of its processes, which this process answers from a thread."""
 import json
 import os
 import select
@@ -8,7 +8,7 @@ import threading
 from roam_live.common.process import begun
 from roam_live.session.names import WINDOWS_VERSION
 
-# What a client process paints, and what stands in the last row once all is reported.
+# The painting of a client process, and the last row once all reports have arrived.
 PAINTED = b"all of this was painted"
 LABELLED = b"1:sh*"
 
@@ -23,7 +23,7 @@ class Terminals:
         self.lines, self.has_asked = 0, False
 
     def answer(self, text):
-        """What is said behind lines: the events, a painting for the first part that is asked for, and how many lines were taken."""
+        """Return the answers to lines: the events, a painting for the first requested part, and the number of taken lines."""
         self.lines += text.count(b"\n")
         said = b"" if self.has_asked else b"\nevents\n"
         if not self.has_asked and (b"part " in text or b"whole" in text):
@@ -37,7 +37,7 @@ class Panes:
     """A subscriber of the server."""
 
     def answer(self, text):
-        """What is said behind lines: metadata."""
+        """Return the answers to lines: metadata."""
         return METADATA if b"metadata\n" in text else b""
 
 
@@ -45,7 +45,7 @@ class Host:
     """A connection to the pty host."""
 
     def answer(self, text):
-        """What is said behind lines: which windows and terminals there are."""
+        """Return the answers to lines: the windows and terminals."""
         said = b"0 host 0123456789abcdef\n" if b" here " in text else b""
         said += b"".join(line.split(b" ")[0] + b" others 0\n" for line in text.splitlines() if line.endswith(b" who"))
         said += b"0 window 1 -\n0 windows 1\n0 runs 1 sh\n" if b"0 windows\n" in text else b""
@@ -53,7 +53,7 @@ class Host:
 
 
 class PlayedSession:
-    """The session, with windows that are served by this process. `close` ends it."""
+    """The session, with windows served by this process. `close` ends it."""
 
     def __init__(self, base, windows=1):
         self.folder = base / "roam/main"
@@ -79,7 +79,7 @@ class PlayedSession:
 
     @staticmethod
     def listening(path):
-        """A socket at a path."""
+        """Return a socket at a path."""
         one = socket.socket(socket.AF_UNIX, socket.SOCK_STREAM)
         one.bind(str(path))
         one.listen()

@@ -1,4 +1,4 @@
-"""A pty host that is played: it lends rows, finds texts in them, and keeps buffers; at once, or once it is told to answer."""
+"""A simulated pty host: it returns rows, finds texts in them, and stores buffers, at once or on request."""
 from collections import deque
 
 from copied import rows_of
@@ -8,7 +8,7 @@ from roam_live.protocol.scrollback_client import BufferNote, Snapshot
 
 
 class PlayedScrollback:
-    """What it keeps of panes, of each the rows scrolled off and those of its screen."""
+    """The contents of panes: the scrollback of each, and the rows of its screen."""
 
     def __init__(self, text, size, first=0):
         lines = rows_of(text, size[1])
@@ -18,44 +18,44 @@ class PlayedScrollback:
         self.asked: list = []
         self.released: list = []
         self.on_more = lambda pane, generation, count: None
-        # Whether it answers at once, and what it hasn't answered; whether it lends snapshots, and keeps buffers.
+        # Flags: answer at once, return snapshots, and store buffers; and the unanswered requests.
         self.is_quick, self.waiting = True, deque()
         self.lends = self.keeps = True
-        # No answer has more rows.
+        # The most rows of an answer.
         self.most = 2000
 
     def end(self):
-        """The number behind that of the last scrolled-off row."""
+        """Return the number after that of the last scrolled-off row."""
         return self.first + len(self.lines) - self.size[0]
 
     def answer(self, does):
-        """Answers now, or later."""
+        """Answer now, or later."""
         if self.is_quick:
             does()
         else:
             self.waiting.append(does)
 
     def answers(self, count=99):
-        """Answers what waits."""
+        """Answer the waiting requests."""
         for _ in range(min(count, len(self.waiting))):
             self.waiting.popleft()()
 
     def snapshot(self, pane, generation, told):
-        """Lends a snapshot."""
+        """Return a snapshot."""
         self.asked.append(("snapshot", pane, generation))
         screen = self.lines[-self.size[0] :]
         found = Snapshot(pane, generation, self.first, self.end(), screen) if self.lends else None
         self.answer(lambda: told(found))
 
     def rows(self, pane, generation, first, count, told):
-        """Lends rows."""
+        """Return rows."""
         self.asked.append(("rows", first, count))
         begin = max(first, self.first)
         lines = self.lines[begin - self.first : begin - self.first + min(count, self.most)] if self.lends else []
         self.answer(lambda: told(begin, lines))
 
     def find(self, pane, generation, first, back, text, told):
-        """Finds a text."""
+        """Find a text."""
         self.asked.append(("find", first, back, text))
         rows = Rows(self.first, self.first + len(self.lines), self.size[1])
         rows.put(self.first, self.lines)
@@ -64,20 +64,20 @@ class PlayedScrollback:
         self.answer(lambda: told(found))
 
     def release(self, pane, generation):
-        """Lets a snapshot go."""
+        """Release a snapshot."""
         self.released.append((pane, generation))
 
     def add_buffer(self, text, told):
-        """Keeps a buffer."""
+        """Store a buffer."""
         if self.keeps:
             self.texts.append(text)
         self.answer(lambda: told(len(self.texts) - 1 if self.keeps else None))
 
     def buffers(self, told):
-        """Tells which there are."""
+        """Return the list of buffers."""
         notes = [BufferNote(number, len(text), text[:40].decode("utf-8", "replace")) for number, text in enumerate(self.texts)][::-1]
         self.answer(lambda: told(notes if self.keeps else None))
 
     def buffer(self, number, told):
-        """Tells one."""
+        """Return a buffer."""
         self.answer(lambda: told(self.texts[number] if number < len(self.texts) else None))

@@ -1,4 +1,4 @@
-"""Encrypted packets: what is opened, which counters are new, and sockets that the system refuses."""
+"""Encrypted packets: decryption, new counters, and refused sockets."""
 import errno
 import random
 import socket
@@ -14,28 +14,28 @@ from roam_live.relay.aead_packets import (LONGEST_PACKET, LONGEST_TEXT, MOST_PAC
 
 
 class Foolish:
-    """A cipher in place of the library's, which adds a tag and hides nothing: who checks it sees what nonce it is given."""
+    """A cipher in place of the library's that adds a tag and hides nothing, so that tests see the nonce."""
 
     def __init__(self, key):
         self.key = key
 
     def encrypt(self, nonce, data, more):
-        """The text, and a tag of nonce and length."""
+        """Return the text, and a tag of nonce and length."""
         return data + self.tag(nonce, data)
 
     def tag(self, nonce, data):
-        """What nobody forges here."""
+        """Return a tag that nobody forges here."""
         return (nonce + len(data).to_bytes(4, "big"))[-16:]
 
     def decrypt(self, nonce, data, more):
-        """The text."""
+        """Return the text."""
         if self.tag(nonce, data[:-16]) != data[-16:]:
             raise ValueError("no such tag")
         return data[:-16]
 
 
 class Encrypts(Case):
-    """What one end seals the other opens, and nothing else."""
+    """Each end decrypts only the other one's packets."""
 
     def setUp(self):
         kind = cipher()
@@ -45,7 +45,7 @@ class Encrypts(Case):
         self.other = AeadPackets(kind(b"j" * 32), True)
 
     def test_both_ways(self):
-        """Counters go from 1 up, the highest bit tells the way, and a packet is 24 bytes more than its text."""
+        """Counters go from 1 up, the highest bit is the direction, and a packet is 24 bytes longer than its contents."""
         packets = [self.near.encrypted(b"one"), self.near.encrypted(b""), self.near.encrypted(bytes(LONGEST_TEXT))]
         self.assertEqual([packet[:8] for packet in packets], [number.to_bytes(8, "big") for number in (1, 2, 3)])
         self.assertEqual([len(packet) for packet in packets], [27, 24, LONGEST_PACKET])
@@ -60,7 +60,7 @@ class Encrypts(Case):
         self.assertEqual(self.near.encrypted(b"text"), bytes(7) + b"\1" + cipher()(b"k" * 32).encrypt(bytes(11) + b"\1", b"text", None))
 
     def test_not_its_own(self):
-        """An end takes nothing that goes its own way, too short or too long, or has no counter."""
+        """An end accepts no packet that goes its own way, is too short or too long, or has no counter."""
         packet = self.near.encrypted(b"text")
         self.assertEqual(self.near.counter_of(packet), 0)
         counters = (0).to_bytes(8, "big"), MOST_PACKETS.to_bytes(8, "big")
@@ -68,7 +68,7 @@ class Encrypts(Case):
             self.assertEqual(self.far.counter_of(wrong), 0, wrong)
 
     def test_forged(self):
-        """Whatever bit is turned, wherever it is cut, under another key, or with another counter: it isn't opened."""
+        """A packet with any changed bit, cut anywhere, under another key, or with another counter is not decrypted."""
         packet = self.near.encrypted(b"some text of 25 bytes ...")
         for place in range(len(packet) * 8):
             forged = bytearray(packet)
@@ -82,10 +82,10 @@ class Encrypts(Case):
 
 
 class Counters(unittest.TestCase):
-    """The counters' end, and what is told of those that came."""
+    """The last counter, and the acknowledgement of received ones."""
 
     def test_end(self):
-        """The last counter is used once, and there is none behind it."""
+        """The last counter is used once, and there is none after it."""
         aead = AeadPackets(Foolish(b""), True)
         aead.counter = MOST_PACKETS - 2
         self.assertFalse(aead.is_spent())
@@ -95,7 +95,7 @@ class Counters(unittest.TestCase):
             aead.encrypted(b"")
 
     def test_window(self):
-        """Each counter is new once, in whatever order they come; what is too old is never new."""
+        """Each counter is new once, in any order; one that is too old is never new."""
         window, chance, seen = Window(), random.Random(4), set()
         self.assertFalse(window.is_new(0))
         for _ in range(20_000):
@@ -108,7 +108,7 @@ class Counters(unittest.TestCase):
             self.assertLess(window.bits, 1 << WINDOW)
 
     def test_mask(self):
-        """Bit k of byte j tells of the counter that is 1 + 8 j + k below the newest."""
+        """Bit k of byte j represents the counter 1 + 8 j + k below the newest."""
         window = Window()
         for counter in (1, 2, 4, 12):
             window.note(counter)
@@ -117,10 +117,10 @@ class Counters(unittest.TestCase):
 
 
 class Sockets(Case):
-    """UDP sockets, what a system refuses, and the addresses of packets."""
+    """UDP sockets, refusals of the system, and the addresses of packets."""
 
     def test_ports(self):
-        """The first port that is free is had; where all are taken none is."""
+        """The first free port is used; if all are taken there is no socket."""
         first = udp_end()
         self.addCleanup(first.close)
         taken = first.getsockname()[1]
@@ -132,7 +132,7 @@ class Sockets(Case):
         self.assertEqual((PORTS[0], PORTS[-1]), (60000, 61000))
 
     def test_refused(self):
-        """Without IPv6 it is IPv4 alone; without a descriptor, or where binding is refused, there is none."""
+        """Without IPv6 it uses only IPv4; without a descriptor, or if bind fails, there is no socket."""
         real = socket.socket
 
         def only_four(family, *more):
@@ -156,7 +156,7 @@ class Sockets(Case):
         self.assertEqual(odd.close.call_count, 2)
 
     def test_source(self):
-        """An answer goes from the address to which was sent, in both families."""
+        """An answer is sent from the address that the packet came to, in both families."""
         for family, own, address in ((socket.AF_INET6, "::ffff:127.0.0.9", None), (socket.AF_INET, "127.0.0.9", None)):
             with self.subTest(family=family):
                 end = aead_packets.socket_of(family)
@@ -177,13 +177,13 @@ class Sockets(Case):
         self.assertEqual(came_to([(socket.IPPROTO_IPV6, socket.IPV6_PKTINFO, b"short"), (0, 8, b"short"), (1, 1, b"")]), ())
 
     def test_send(self):
-        """Where an address is gone it goes from another; what the system refuses is lost."""
+        """If its source address is gone a packet uses another; a packet that the system refuses is lost."""
         end = mock.Mock(sendmsg=mock.Mock(side_effect=OSError(errno.EADDRNOTAVAIL, "no")))
         aead_packets.send(end, b"x", ("::1", 1, 0, 0), [(41, 50, bytes(20))])
         self.assertEqual([call.args[1] for call in end.sendmsg.call_args_list], [[(41, 50, bytes(20))], ()])
 
     def test_places(self):
-        """Addresses are found of both families; what is no name has none."""
+        """It finds addresses of both families; an invalid name has none."""
         self.assertEqual(places_of("127.0.0.1", 60000, socket.AF_INET), [("127.0.0.1", 60000)])
         self.assertEqual(places_of("127.0.0.1", 60000, socket.AF_INET6)[0][0], "::ffff:127.0.0.1")
         for host in ("." * 300, "a" * 70 + ".example", "x\udc80y"):
@@ -193,16 +193,16 @@ class Sockets(Case):
 
 
 class Libraries(Case):
-    """A library that lacks, or is broken."""
+    """A missing or broken library."""
 
     def test_lacking(self):
-        """Then nothing seals, and nothing fails."""
+        """Then nothing is encrypted, and nothing fails."""
 
         class Panic(BaseException):
-            """What a fault of Rust is."""
+            """An exception of Rust."""
 
         class Refusing:
-            """A cipher that may not be used here."""
+            """A cipher that is forbidden here."""
 
             def __init__(self, key):
                 raise ValueError("not allowed")

@@ -1,4 +1,4 @@
-"""A person's front end: its loop on a pseudo-terminal, with a client that is played, and what keys ask of it."""
+"""A user's front end: its loop on a pseudo-terminal, with a simulated client, and the requests of its keys."""
 import os
 import pty
 import select
@@ -30,7 +30,7 @@ PANES = Places({1: Rect(1, 1, 23, 39), 2: Rect(1, 41, 11, 40), 3: Rect(13, 41, 1
 
 
 class AnySession:
-    """A session that is played."""
+    """A simulated session."""
 
     served, name, number = "server", "main", 0
 
@@ -45,36 +45,36 @@ class AnySession:
         return f"in {self.folder}"
 
     def read(self):
-        """Reads what is noted."""
+        """Reload the state."""
 
     def process(self, role):
-        """The process of a role."""
+        """Return the process of a role."""
         return self.processes.get(role)
 
     def runs(self, role=None):
-        """Whether it runs."""
+        """Return True if it runs."""
         return self.process(role or self.served) is not None
 
     def busy(self):
-        """What runs in the panes."""
+        """Return the programs in the panes."""
         return self.runs_busy
 
     def is_served(self):
-        """Whether a server is there."""
+        """Return True if a server is there."""
         self.looks += 1
         return False
 
     def ending(self):
-        """What is said at its end."""
+        """Return the message about its end."""
         return "[the session has ended]", 0
 
     def close(self):
-        """Lets it go."""
+        """Release it."""
         self.is_closed = True
 
 
 def made_front(place, is_read_only=False, prediction="adaptive", loop=None, is_whole=False, **more):
-    """A front end of a session, which has neither taken the terminal nor connected."""
+    """Return a front end of a session, before it takes the terminal and connects."""
     first = FirstPainting(place, is_read_only, "C-b", prediction, is_whole, loop or StillLoop())
     return FrontEnd(place, is_read_only, "C-b", prediction, lambda places: False, first, **more)
 
@@ -105,7 +105,7 @@ class Fronts(Case):
         self.addCleanup(lambda: self.front.host_link.end())
 
     def give_back(self, kept, slave):
-        """Gives this process its own input and output."""
+        """Restore this process's own input and output."""
         for end, number in zip(kept, (0, 1)):
             os.dup2(end, number)
             os.close(end)
@@ -113,12 +113,12 @@ class Fronts(Case):
         os.close(self.master)
 
     def turn(self, count=2):
-        """So many turns that wait for nothing."""
+        """Take so many turns without waits."""
         for _ in range(count):
             self.front.turn()
 
     def connect(self):
-        """Takes the terminal and connects; the client's end, which has begun to tell records."""
+        """Take the terminal, connect, and return the client's end, which has begun to send records."""
         self.front.display.outer.enter()
         self.front.connection.connect()
         self.client = self.taken(self.listener)
@@ -127,19 +127,19 @@ class Fronts(Case):
         return self.client
 
     def paints(self, rows=23, cols=80, text="x"):
-        """Has the client paint so many rows and columns anew."""
+        """Let the client repaint so many rows and columns."""
         self.client.send(record("size", rows, cols) + record("anew", data=painting(rows, cols, text)))
         self.turn()
 
     def type(self, text):
-        """Types."""
+        """Type."""
         os.write(self.master, text)
-        # The system hands it to the other end a moment later.
+        # The system passes it to the other end a moment later.
         comes(0, 1)
         self.turn()
 
     def shown(self):
-        """What came to the terminal."""
+        """Return the output to the terminal."""
         return read_now(self.master)
 
 
@@ -147,8 +147,9 @@ class Loop(Fronts):
     """Its turns."""
 
     def test_connected(self):
-        """It asks for records, says how predictions are shown, asks for all but the last row, goes to the newest rows, and shows a painting
-        without its reset."""
+        """It subscribes to records, sends the prediction setting, requests all but the last row, goes to the newest rows, and shows a
+        painting without its reset.
+        """
         client = self.connect()
         self.assertEqual(read_now(client), b"events\npredict adaptive\npart 23 80\nview -500\n")
         self.paints(text="hello")
@@ -158,7 +159,7 @@ class Loop(Fronts):
         self.assertNotIn(b"\x1bc", shown)
 
     def test_cut(self):
-        """Wherever the stream is cut the terminal is written the same."""
+        """The output to the terminal is the same, wherever the stream is cut."""
         text = b"".join((record("size", 23, 80), record("anew", data=painting(23, 80, "\u00e9")), record("part", 0, 0), record("taken", 4),
                          record("silent", 10), record("paint", data=b"\x1b[2;2Hz"), record("heard"), record("screen", data=b"1")))
         shown = []
@@ -178,7 +179,7 @@ class Loop(Fronts):
         self.assertTrue(b"roam: no answer for 10 s; C-b d leaves" in shown[0] and b"\x1b[2;2Hz" in shown[0])
 
     def test_typed(self):
-        """What is typed goes, and an escape that nothing follows in 25 ms."""
+        """Input is sent, and so is an escape without a successor in 25 ms."""
         client = self.connect()
         read_now(client)
         self.type(b"ls\r")
@@ -198,7 +199,7 @@ class Loop(Fronts):
         self.assertEqual(read_now(client), b"key up\n")
 
     def test_silence(self):
-        """A silent server is told of in the last row, with the key that leaves, until it is heard."""
+        """The last row reports a silent server, with the key that leaves, until the server is heard."""
         client = self.connect()
         self.paints()
         client.send(record("silent", 10))
@@ -209,7 +210,7 @@ class Loop(Fronts):
         self.assertIn(b"\x1b[24;1H\x1b[0;7m[1]   ", self.shown())
 
     def test_refused(self):
-        """What a client refuses is told once the pause before another connection is one; a full one is told as such."""
+        """A refusal by the client is shown once the next connection is delayed; a full client is shown as such."""
         self.place.processes["client"] = 5
         self.front.views.view.reconnector.retry.faults = 1
         for text, told in ((record("refused", 3, words="bad act"), b"the client process refused a line: bad act"),
@@ -221,7 +222,7 @@ class Loop(Fronts):
             self.assertIn(told + b"; next try in ", self.shown())
 
     def test_no_record(self):
-        """What is no record ends the connection, as its end does."""
+        """An invalid record ends the connection, like its end."""
         client = self.connect()
         client.send(b"\x1b]0;title\x07\n")
         self.turn()
@@ -229,8 +230,7 @@ class Loop(Fronts):
         self.assertNotIn(b"title", self.shown())
 
     def test_untold(self):
-        """Where it isn't told where the panes are, which a line says, all of the session is shown; so it is ten seconds later where nothing
-        says so."""
+        """If a line says that panes are unreported, the whole session is shown; without such a line that happens ten seconds later."""
         client = self.connect()
         read_now(client)
         self.place.told = None
@@ -240,13 +240,13 @@ class Loop(Fronts):
         self.assertEqual(self.front.loop.due["untold"][0], 110.0)
 
     def test_nobody_there(self):
-        """What is shown is asked of a client that is there, and of each anew."""
+        """The view is requested only from a connected client, and from each one anew."""
         self.front.views.commands.show_known()
         self.assertEqual(self.front.views.link.waiting, b"")
         self.assertEqual(read_now(self.connect()), b"events\npredict adaptive\npart 23 80\nview -500\n")
 
     def test_left(self):
-        """Who detaches is told so, and the terminal is as before."""
+        """A user who detaches sees a message, and the terminal is as before."""
         self.connect()
         self.type(b"\x02d")
         self.assertEqual((self.front.left, self.front.status), ("[detached]", 0))
@@ -260,7 +260,7 @@ class Loop(Fronts):
         self.assertEqual((self.front.left, self.front.status), ("[detached]", 0))
 
     def test_left_behind_a_paste(self):
-        """Who leaves while a paste is handed over is waited for, for a second and a half at most."""
+        """A detach waits while a paste is being stored, for a second and a half at most."""
         self.connect()
         self.front.views.commands.acts.pastes.waiting.append(paste.Paste("text", False))
         self.type(b"\x02d")
@@ -275,7 +275,7 @@ class Loop(Fronts):
         self.assertFalse(self.front.hands_over())
 
     def test_much_behind_a_paste(self):
-        """C-c and the prefix are read however much waits behind a paste."""
+        """C-c and the prefix are read however much waits after a paste."""
         client = self.connect()
         read_now(client)
         waits = self.front.views.commands.acts.pastes
@@ -285,7 +285,7 @@ class Loop(Fronts):
             self.assertEqual((read_now(client), self.front.left, bool(waits.waiting)), (lines, left, not lines))
 
     def test_much_in_the_link(self):
-        """So they are where the client hasn't taken as much that was pasted; of keys alone no more is read then."""
+        """The same applies if the client hasn't taken that much of a paste; with keys alone reading stops."""
         link = self.front.views.link
         self.connect()
         for chunk, text, reads in ((b"char 61\n", b"x", False), (b"paste ; char 61\n", b"x\x03", True)):
@@ -297,7 +297,7 @@ class Loop(Fronts):
             self.assertEqual(bytes(link.waiting), b"char 3\n" if reads else chunk * 200)
 
     def test_outage(self):
-        """There is an outage while the server is silent, or no connection to the pty host is there."""
+        """There is an outage while the server is silent, or the pty host is not connected."""
         client = self.connect()
         commands = self.front.views.commands
         self.assertTrue(commands.acts.is_cut())
@@ -312,7 +312,7 @@ class Loop(Fronts):
         self.front.host_link.peer = None
 
     def test_fault(self):
-        """What nobody foresaw brings the terminal back too, from the moment on at which it is taken: that is none before it runs."""
+        """An unexpected exception restores the terminal too, from the moment it was taken, but not before the run."""
         self.assertEqual((termios.tcgetattr(self.slave), self.shown()), (self.before, b""))
         for part, name in ((self.front.connection, "connect"), (self.front, "turn")):
             with self.subTest(name), mock.patch.object(part, name, side_effect=RuntimeError), \
@@ -326,14 +326,15 @@ class Loop(Fronts):
                 self.assertIsNone(self.front.views.link.peer)
 
     def test_not_taken(self):
-        """A terminal that can't be taken is left alone."""
+        """A terminal that can't be taken is unchanged."""
         with mock.patch.object(tty, "make_raw", return_value=None), self.assertRaisesRegex(Fault, "^cannot switch the terminal to raw mode$"):
             self.front.first.begin()
         self.assertEqual((termios.tcgetattr(self.slave), self.shown()), (self.before, b""))
 
     def test_colours(self):
-        """A terminal is asked for its colours where it is taken; one that watches isn't, nor a console of Linux. What it answers is the
-        host's to know, and isn't typed."""
+        """A new terminal gets the colour queries, but not a read-only one, and no Linux console. The answer goes to the host and isn't
+        typed.
+        """
         outer = self.front.display.outer
         for is_read_only, is_able, wanted in ((False, True, ASKED), (True, True, b""), (False, False, b"")):
             self.front.views.link.is_read_only, outer.outer_modes.is_able = is_read_only, is_able
@@ -342,7 +343,7 @@ class Loop(Fronts):
             outer.waiting.clear()
 
     def test_colours_told(self):
-        """An answer comes among what is typed, in chunks too, and nothing of it is."""
+        """An answer arrives among the input, also in chunks, and no part of it is typed."""
         client = self.connect()
         client.setblocking(False)
         read_now(client)
@@ -353,7 +354,7 @@ class Loop(Fronts):
         self.assertEqual([line for line in read_now(client).split(b"\n") if line.startswith(b"char")], [b"char 61 ; char 62", b"char 63"])
 
     def test_signals(self):
-        """SIGTERM, SIGHUP and SIGINT leave, with 128 and their number; a new size is gone by."""
+        """SIGTERM, SIGHUP and SIGINT leave, with 128 and their number; a new size is handled."""
         for number, status in ((signal.SIGTERM, 143), (signal.SIGHUP, 129), (signal.SIGINT, 130)):
             self.front.left = None
             os.write(self.wakes, bytes([number]))
@@ -370,7 +371,7 @@ class Loop(Fronts):
         enters.assert_called_once_with()
 
     def test_suspended(self):
-        """C-b C-z gives the terminal back, stops, and takes it again; the signals that belong to that mean nothing more."""
+        """C-b C-z restores the terminal, stops, and takes it again; the related signals have no further effect."""
         self.connect()
         with mock.patch("os.kill") as kills:
             self.type(b"\x02\x1a")
@@ -379,7 +380,7 @@ class Loop(Fronts):
         with mock.patch.object(self.front.display.outer, "suspend", lambda: os.write(self.wakes, bytes([18, 20, 28, 15]))):
             with mock.patch.object(self.front, "resized") as resizes:
                 self.turn(1)
-        # One that is to leave doesn't take the terminal again.
+        # One that has to leave doesn't take the terminal again.
         self.assertEqual((resizes.call_count, self.front.left), (1, "[terminated]"))
         self.front.left = None
         os.write(self.wakes, bytes([signal.SIGTSTP]))
@@ -394,7 +395,7 @@ class Loop(Fronts):
         suspends.assert_not_called()
 
     def test_stops(self):
-        """It stops its group by the signal's own action, and handles it again then."""
+        """It stops its group by the signal's default action, and handles it again afterwards."""
         outer = self.front.display.outer
         outer.enter()
         handled = []
@@ -414,7 +415,7 @@ class Loop(Fronts):
         self.assertFalse(termios.tcgetattr(self.slave)[3] & termios.ICANON)
 
     def test_lost(self):
-        """A client that ends is connected to again after 0.1 s; in a longer pause that is told, and q leaves."""
+        """After a client's end it reconnects in 0.1 s; during a longer pause a message appears, and q leaves."""
         client = self.connect()
         self.paints()
         self.front.session.processes["client"] = None
@@ -431,7 +432,7 @@ class Loop(Fronts):
         self.assertEqual(self.front.left, "[left]")
 
     def test_back(self):
-        """Once it is there again what was lost is told, and all is painted anew."""
+        """After the reconnection the loss is reported, and everything is repainted."""
         self.place.processes["client"] = 5
         client = self.connect()
         self.paints()
@@ -474,7 +475,7 @@ class Loop(Fronts):
         self.assertEqual(self.front.left, "")
 
     def test_probes(self):
-        """Where no process of the server is known it is looked for each two seconds."""
+        """If the server's process is unknown, a check follows every two seconds."""
         def leave():
             self.now += 2.0
             self.front.loop.do_due()
@@ -485,7 +486,7 @@ class Loop(Fronts):
         self.assertEqual((self.place.looks, self.front.loop.due["probe"][0]), (1, self.now + 2.0))
 
     def test_host(self):
-        """What is told of the shells stands three seconds, and so does a notice of the host; bells of the panes ring."""
+        """Messages about the shells and notices of the host stay for three seconds; bells of the panes ring."""
         self.connect()
         with mock.patch.object(self.place, "revive_host", return_value=True, create=True):
             self.front.watchdog.revive()
@@ -498,7 +499,7 @@ class Loop(Fronts):
         self.assertEqual((self.front.display.row.told, self.shown().count(b"\x07")), ("pane 3 isn't shown", 1))
 
     def test_keypad(self):
-        """The keypad goes by the pane in focus, as soon as that is told."""
+        """The keypad follows the focused pane, as soon as that is reported."""
         client = self.connect()
         self.paints()
         self.panes.modes_of[2] = "keypad"
@@ -514,7 +515,7 @@ class Loop(Fronts):
         self.assertEqual(self.shown(), b"")
 
     def test_limits(self):
-        """While 65,536 bytes wait for the terminal nothing more is read of the client."""
+        """While 65,536 bytes wait for the terminal the client's output stays unread."""
         client = self.connect()
         client.send(b"x")
         self.front.display.outer.waiting[:] = bytes(65536)
@@ -538,7 +539,7 @@ class Loop(Fronts):
         self.front.views.link.waiting.clear()
 
     def test_sizes(self):
-        """What is shown goes by a new size soon, and the session by one that has stood for 0.3 s; a new session by each."""
+        """The view follows a new size soon, and the session one that lasts for 0.3 s; a new session follows each."""
         self.front.host_link.faults, self.front.host_link.begun = FEW + 1, self.now - LAUNCHES
         client = self.connect()
         self.paints()
@@ -560,7 +561,7 @@ class Loop(Fronts):
         self.assertEqual(read_now(client), b"size 20 70\npart 19 70\n")
 
     def test_unknown_size(self):
-        """A session of which nothing is known is fitted once something was painted, 0.3 s later, and no host may tell who is there."""
+        """An unknown session is fitted 0.3 s after its first painting if no host may report the terminals."""
         self.place.told = None
         client = self.connect()
         self.paints(20, 70)
@@ -574,7 +575,7 @@ class Loop(Fronts):
         self.assertEqual(read_now(client), b"size 24 80\n")
 
     def test_gone_terminal(self):
-        """Of a terminal that has hung up the size that it had is known."""
+        """The last size of a terminal after its hangup is still known."""
         outer = self.front.display.outer
         with mock.patch.object(tty, "size_of", side_effect=OSError(5, "gone")):
             self.assertEqual(outer.size(), (24, 80))
@@ -585,7 +586,7 @@ class Loop(Fronts):
                 outer_terminal.OuterTerminal()
 
     def test_outer(self):
-        """What is typed comes from standard input, whose modes and size are gone by, and standard output is written."""
+        """Input comes from standard input, whose modes and size count, and output goes to standard output."""
         asks = self.patch("os.isatty", return_value=True)
         with mock.patch.object(tty, "make_raw", return_value=[1]) as raws, mock.patch.object(tty, "size_of") as sizes, \
                 mock.patch.object(tty, "opened_for_writing", return_value=9) as opens:
@@ -605,7 +606,7 @@ class Loop(Fronts):
         restores.assert_called_once_with(0, [1])
 
     def fill(self):
-        """Has the terminal take nothing more."""
+        """Fill the terminal's input."""
         outer = self.front.display.outer
         for size in (256, 1):
             is_full = False
@@ -613,12 +614,13 @@ class Loop(Fronts):
                 try:
                     os.write(outer.end, bytes(size))
                 except BlockingIOError:
-                    # The system moves what was written on a moment later, and there is room again.
+                    # The system moves written data a moment later, and then there is room again.
                     is_full = not select.select([], [outer.end], [], 0.05)[1]
 
     def test_frozen(self):
-        """A terminal that takes nothing is left after a second: what was typed is handed over before, and its modes are as before. One that
-        takes it meanwhile has its screen back."""
+        """A terminal that accepts nothing is released after a second. Input is sent before, and the modes are restored. One that accepts
+        output meanwhile gets its screen back.
+        """
         self.patch_of(outer_terminal, "LEAVES", 0.05)
         for takes in (False, True):
             outer, steps = self.front.display.outer, []
@@ -637,7 +639,7 @@ class Loop(Fronts):
             self.assertEqual(self.quiet.call_args_list.pop(), mock.call(*first_painting.LEAVING))
 
     def test_waits(self):
-        """What waits for a write that could wait is written a byte each time, while the terminal takes one."""
+        """Pending output on a blocking terminal goes byte by byte, while the terminal is writable."""
         outer = self.front.display.outer
         outer.enter()
         with mock.patch("os.get_blocking", return_value=True), mock.patch.object(outer_terminal, "write",
@@ -648,7 +650,7 @@ class Loop(Fronts):
         self.assertGreater(len(writes.call_args_list), len(tty.LEFT))
 
     def test_steps(self):
-        """Whatever of the end fails, the rest of it is done, and the first fault is the one that is told."""
+        """If one step of the end fails, the other steps still run, and the first exception is reported."""
         steps = []
         for fails in (KeyError, None):
             with mock.patch.object(self.front.views.commands, "left", side_effect=KeyError("left")), \
@@ -663,7 +665,7 @@ class Loop(Fronts):
         self.assertEqual(steps, [1, 2])
 
     def test_follow(self):
-        """Who follows keeps the session's folder while it does, and lets the session go."""
+        """A front end keeps the session's folder while it runs, and releases the session."""
         seen = []
 
         def runs():
@@ -681,7 +683,7 @@ class Loop(Fronts):
             self.addCleanup(lambda: closed(first.display.outer.end))
             self.assertEqual(self.taken(self.listener).recv(999), b"events\nwatch\npart 23 80\n")
             first.leave()
-            # What can't be is refused before the terminal is taken, and else it is given back.
+            # Invalid settings are refused before the terminal is taken; otherwise it is restored.
             self.shown()
             self.environment(ROAM_MOUSE="no")
             self.assertRaises(Fault, follow.follow, self.place, True, "C-a", "never")
@@ -701,14 +703,14 @@ class Mouse(Fronts):
         super().setUp()
 
     def ask(self, modes):
-        """Has the program in focus have these modes, and tells what came to the terminal."""
+        """Set modes of the focused program, and return the output to the terminal."""
         self.panes.modes_of = {1: modes}
         self.front.views.commands.panes_changed()
         self.turn()
         return self.shown()
 
     def test_asked(self):
-        """The terminal is asked for what the program asks for, and what it reports is typed, wherever it is cut."""
+        """The terminal gets the program's mouse modes, and its reports are typed, wherever they are cut."""
         client = self.connect()
         self.paints()
         self.assertFalse([mode for mode in (b"?1000", b"?1002", b"?1003", b"?1006") if mode in self.shown()])
@@ -723,7 +725,7 @@ class Mouse(Fronts):
         self.assertEqual(read_now(client), f"char 78\nfocus 1 ; {text} ; char 4d\nfocus 1 ; {text} ; char 6d\n".encode())
 
     def test_left(self):
-        """However it is left the terminal is asked for no reports any more, before what stood there is back."""
+        """However it ends, mouse reports are turned off before the old screen is back."""
         ways = [lambda: self.type(b"\x02d"), lambda: self.front.leave("[the session has ended]"),
                 *[lambda number=number: os.write(self.wakes, bytes([number])) for number in (signal.SIGTERM, signal.SIGHUP, signal.SIGINT)]]
         self.patch_of(self.front.views.link, "part")
@@ -741,7 +743,7 @@ class Mouse(Fronts):
             self.assertIn(mouse_reports.OFF + given_back(0) + tty.LEFT, self.shown())
 
     def test_own(self):
-        """Where roam has the mouse itself the terminal is asked as soon as the panes are known."""
+        """If roam itself uses the mouse the terminal gets the request as soon as the panes are known."""
         self.front = made_front(self.place, has_mouse=True)
         self.addCleanup(lambda: closed(self.front.display.outer.end))
         self.addCleanup(lambda: self.front.views.link.close())
@@ -749,7 +751,7 @@ class Mouse(Fronts):
         self.assertTrue(self.ask("").endswith(mouse_reports.ASKED["drags"]))
 
     def test_stopped(self):
-        """While it is stopped there are none either; continued it asks for them again, also where nothing could be said before."""
+        """They are off while it is stopped, and on again afterwards, even if nothing could be written before."""
         self.connect()
         self.ask("drags sgr")
         with mock.patch("os.kill"):
@@ -771,7 +773,7 @@ class Clipboard(Fronts):
         super().setUp()
 
     def front_of(self, is_read_only=False, has_clips=True):
-        """A front end that sets it, or doesn't, connected and with a painting."""
+        """Return a front end with or without clipboard texts, connected and with a painting."""
         self.front = made_front(self.place, is_read_only, has_clips=has_clips)
         self.addCleanup(lambda: closed(self.front.display.outer.end))
         self.addCleanup(lambda: self.front.views.link.close())
@@ -781,13 +783,13 @@ class Clipboard(Fronts):
         return self.front
 
     def set(self, text, making="1 1"):
-        """Has the program in focus set a text, and tells what came to the terminal."""
+        """Set a text by the focused program, and return the output to the terminal."""
         self.panes.clipped(text, making)
         self.turn()
         return self.shown()
 
     def test_last_key(self):
-        """It is set where the last key went to the pane in focus, in whichever way it was typed, and not before."""
+        """The clipboard is set if the last key, however typed, went to the focused pane, and not before."""
         self.place.told = PANES
         self.front_of()
         clip = b"\x1b]52;c;YQ==\x07"
@@ -799,7 +801,7 @@ class Clipboard(Fronts):
         self.assertEqual((self.set("YQ==", "1 2"), self.set("YQ==", "2 1"), self.set("YQ==", "")), (b"", b"", b""))
 
     def test_pointed(self):
-        """A report of the mouse that was typed there is a key too."""
+        """A mouse report typed there counts as a key too."""
         self.place.told = PANES
         self.panes.modes_of = {1: "drags sgr"}
         self.front_of()
@@ -807,14 +809,14 @@ class Clipboard(Fronts):
         self.assertEqual(self.set("YQ=="), b"\x1b]52;c;YQ==\x07")
 
     def test_chosen(self):
-        """Where nobody chose it, and at a terminal that watches, texts aren't asked for."""
+        """By default, and at a read-only terminal, texts aren't requested."""
         for more in ({"has_clips": False}, {"is_read_only": True}):
             self.panes.clipped = None
             self.front_of(**more)
             self.assertIsNone(self.panes.clipped)
 
     def test_between(self):
-        """One stands behind all that was painted before it, and is whole where it is left in the middle of one."""
+        """A text follows all earlier painting, and is completed if the front end ends in the middle."""
         outer = self.front_of().display.outer
         self.type(b"y")
         self.shown()
@@ -833,13 +835,13 @@ class Clipboard(Fronts):
 
 
 class Wishes(Case):
-    """What keys ask of a front end."""
+    """The requests of keys to a front end."""
 
     def setUp(self):
         self.stop_clock()
 
     def person(self, told=PANES, **more):
-        """A person at a terminal of 24 by 80, with panes that are known."""
+        """Return a user at a terminal of 24 by 80, with known panes."""
         person = Person(24, 80, told=told, **more)
         person.answers()
         person.busy = {}
@@ -847,28 +849,28 @@ class Wishes(Case):
         return person
 
     def test_sides(self):
-        """An arrow goes to the pane there; nowhere where none is, and to the next where nothing is known."""
+        """An arrow focuses the pane on that side; nothing if there is none, and the next pane if nothing is known."""
         for key, acts in ((b"C", ["focus 2"]), (b"D", []), (b"A", [])):
             self.assertEqual(self.person().types(b"\x02\x1b[" + key), acts)
         self.assertEqual(self.person(None).types(b"\x02\x1b[C"), ["next"])
 
     def tell(self, person, places):
-        """Has a person's front end be told where panes are."""
+        """Report pane positions to a user's front end."""
         person.place.told = places
         person.commands.panes_changed()
 
     def test_scroll_paint(self):
-        """What is asked goes by where this person put the focus until that is told, however long it takes."""
+        """Requests use the focus that this user set until its report comes, however late."""
         person = self.person()
         self.assertEqual(person.types(b"\x02\x1b[C\x02\x1b[B"), ["focus 2", "focus 3"])
         self.now += 9
         self.assertEqual(person.commands.acts.places().focus, 3)
-        # That a client came tells nothing of it.
+        # The report of a new client says nothing about it.
         self.tell(person, PANES._replace(clients=2))
         self.assertEqual(person.commands.acts.places().focus, 3)
         self.tell(person, PANES._replace(focus=3))
         self.assertEqual((person.commands.acts.moved_to, person.types(b"\x02\x1b[D")), (None, ["focus 1"]))
-        # Another took it elsewhere.
+        # Another user moved the focus.
         self.tell(person, PANES._replace(focus=2))
         self.assertEqual((person.commands.acts.moved_to, person.commands.acts.places().focus), (None, 2))
         self.assertEqual(person.types(b"\x02o"), ["next"])
@@ -876,7 +878,7 @@ class Wishes(Case):
         self.assertEqual((person.commands.acts.moved_to, person.commands.acts.places()), (None, None))
 
     def test_still(self):
-        """What moves nothing is waited for by nobody: the pane that is in focus, one that isn't there, the next of one."""
+        """An act without effect causes no wait: the focused pane, a missing one, or the next of one."""
         person = self.person()
         self.assertEqual(person.types(b"\x02q1\x02q9"), ["focus 1", "focus 9"])
         self.assertIsNone(person.commands.acts.moved_to)
@@ -885,7 +887,7 @@ class Wishes(Case):
         self.assertEqual((alone.types(b"\x02%"), alone.commands.acts.moved_to), (["split right"], 0))
 
     def test_unknown_focus(self):
-        """Where it isn't known yet an arrow goes by what is told, and a close asks."""
+        """While the focus is unknown an arrow uses the reports, and a close asks."""
         person = self.person()
         self.assertEqual(person.types(b"\x02o\x02\x1b[C"), ["next", "focus 2"])
         person = self.person()
@@ -903,7 +905,7 @@ class Wishes(Case):
         self.assertEqual((small.types(b"\x02%"), small.display.row.told), ([], "pane 1 is too small to split: 4 by 8"))
 
     def test_close(self):
-        """A pane with a shell is closed at once; one where another program runs once that is confirmed."""
+        """A pane with a shell closes at once; one with another program only after a confirmation."""
         self.assertEqual(self.person().types(b"\x02x"), ["close"])
         person = self.person()
         person.busy = {1: "vi", 2: "less"}
@@ -918,7 +920,7 @@ class Wishes(Case):
         self.assertEqual(person.types(b"\x02x"), ["close"])
 
     def test_close_unknown(self):
-        """Where it isn't known what runs it asks."""
+        """If the programs are unknown it asks."""
         person = self.person()
         person.busy = None
         self.assertEqual((person.types(b"\x02x"), person.display.row.prompt), ([], "close the program in pane 1? y closes it"))
@@ -932,7 +934,7 @@ class Wishes(Case):
                          ([], "the last pane ends with its shell, and the session with it"))
 
     def test_scroll(self):
-        """The scroll mode is told until it ends."""
+        """The scroll mode is shown until it ends."""
         person = self.person()
         self.assertEqual(person.types(b"\x02[kk"), ["view 1", "view 1"])
         self.assertEqual(person.display.row.told, "2 rows back: PgUp PgDn up down g G scroll, q ends it")
@@ -943,7 +945,7 @@ class Wishes(Case):
         self.assertEqual(person.link.acts[-1], "view -500")
 
     def test_scroll_page(self):
-        """A page is half of the terminal's rows, also once it has others, and where the wheel began to scroll."""
+        """A page is half of the terminal's rows, also after a resize, and after the wheel began to scroll."""
         person = self.person()
         self.assertEqual(person.types(b"\x02[\x1b[5~"), ["view 12"])
         person.resize(40, 80)
@@ -952,7 +954,7 @@ class Wishes(Case):
         self.assertEqual(person.types(b"\x1b[6~")[-1], "view -20")
 
     def test_others(self):
-        """All others leave, as the host reports; where it doesn't answer in time, or isn't connected, that is told."""
+        """All others detach, as the host reports; a late or missing host is reported."""
         person = self.person()
         stays = "cannot detach the others: the pty host does not answer"
         self.assertEqual((person.types(b"\x02D"), person.display.row.told), ([], stays))
@@ -970,7 +972,7 @@ class Wishes(Case):
             self.assertEqual((person.display.row.told, "others leave" in person.loop.due), (told, False))
 
     def test_told_for(self):
-        """Each line stands for its time: what a person has to read for longer than what he knows."""
+        """Each message has its own duration: longer for new information than for known facts."""
         one = Places({1: Rect(1, 1, 23, 80)}, 1)
         for places, text, told, seconds in (
                 (PANES, b"\x02Z", "C-b Z is not bound; C-b ? lists the keys", 1.0), (PANES, b"\x02;", "no other pane was active before", 1.0),
@@ -992,7 +994,7 @@ class Wishes(Case):
         self.assertEqual((person.display.row.told, person.loop.due["told"][0]), ("C-b Z is not bound; C-b ? lists the keys", 101.0))
 
     def test_interrupts(self):
-        """C-c drops what waits of pastes, also where the program has it in another form; not where it isn't typed."""
+        """C-c drops waiting pastes, also if the program gets it in another form; not if it isn't typed."""
         for text, modes, count in ((b"\x03", "", 1), (b"\x1b[27;5;99~", "keys2", 1), (b"\x1b[27;5;99~", "", 1), (b"\x02[\x03", "", 0)):
             person = self.person()
             person.panes.modes_of = {1: modes}
@@ -1001,8 +1003,9 @@ class Wishes(Case):
             self.assertEqual((interrupts.call_count > 0, "char 3" in acts), (bool(count), bool(count) and not modes), text)
 
     def test_unknown_meta(self):
-        """Behind the prefix an escape and the key right behind it are one with Meta: nothing of a key that isn't bound is typed, whether it
-        comes at once or in chunks, within the time that an escape waits. A paste is none."""
+        """After the prefix an escape and the key right after it are one with Meta. Nothing of an unbound key is typed, whether it arrives
+        at once or in chunks within the escape time. A paste is no such key.
+        """
         person = self.person()
         for chunks, name in (((b"\x02\x1b1",), "M-1"), ((b"\x02", b"\x1bn"), "M-n"), ((b"\x02\x1b", b"o"), "M-o"),
                              ((b"\x02", b"\x1b", b"5"), "M-5"), ((b"\x02\x1b[1;3A",), "M-Up"), ((b"\x02\x1b\x1b[A",), "M-Up"),
@@ -1021,7 +1024,7 @@ class Wishes(Case):
         self.assertEqual(person.link.acts[-1], "char 79")
 
     def test_read_only(self):
-        """Who only watches types nothing, and may leave, repaint and have the help; where no rows are kept the shared view stays."""
+        """A read-only user types nothing, but may leave, repaint and see the help; without scrollback the shared view stays."""
         person = self.person(is_read_only=True)
         self.assertEqual(person.types(b"ls\r\x02%\x02x\x02o\x02q1\x02\x1b[C\x02r"), [])
         self.assertEqual(person.display.row.told, "")
@@ -1033,7 +1036,7 @@ class Wishes(Case):
         self.assertEqual(person.left, "[detached]")
 
     def test_bell(self):
-        """A bell rings, and a pane that isn't in focus is told of, where nothing else is told."""
+        """A bell rings, and one in an unfocused pane is reported unless there is another message."""
         person = self.person()
         before = person.display.outer.waiting.count(b"\x07")
         person.commands.panes.ring(1)
@@ -1051,7 +1054,7 @@ class Wishes(Case):
         self.assertEqual(person.said(), ["repaint"])
 
     def test_new(self):
-        """A new session goes by its terminal's size for two seconds."""
+        """A new session takes its terminal's size for two seconds."""
         person = Person(24, 80, is_new=True)
         self.assertEqual(person.commands.follower.new_until, 102.0)
         self.assertTrue(person.commands.follower.is_fresh())
@@ -1060,20 +1063,20 @@ class Wishes(Case):
 
 
 class Painted(Case):
-    """Paintings, and the lines beside them."""
+    """Paintings, and the lines between them."""
 
     def setUp(self):
         self.stop_clock()
 
     def person(self):
-        """A person at a terminal of 5 by 20, to whom nothing was painted yet."""
+        """Return a user at a terminal of 5 by 20, before any painting."""
         person = Person(5, 20, told=places(5, 20))
         person.said()
         person.display.outer.waiting.clear()
         return person
 
     def test_written(self):
-        """What a terminal is written of a painting is all of it, but for its reset."""
+        """The terminal gets the whole painting, except for its reset."""
         person = self.person()
         text = painting(4, 20, "\u00e9")
         person.display.take(DisplayRecord("size", (4, 20)))
@@ -1089,7 +1092,7 @@ class Painted(Case):
             person.display.outer.waiting.clear()
 
     def test_told_beside(self):
-        """A line in the last row, a bell and the keypad's codes stand between whole paintings."""
+        """A line in the last row, a bell and the keypad's codes come between whole paintings."""
         person = self.person()
         person.paints(4, 20)
         person.display.outer.waiting.clear()
@@ -1104,7 +1107,7 @@ class Painted(Case):
         self.assertTrue(person.display.outer.waiting.endswith(b"\x07"))
 
     def test_told(self):
-        """A line stands a second, then the panes' labels; one without a time stands until it is ended."""
+        """A message stays for a second, then the panes' labels return; one without a duration stays until it is removed."""
         person = self.person()
         person.paints(4, 20)
         person.display.row.tell("one")
@@ -1117,8 +1120,9 @@ class Painted(Case):
         self.assertEqual((person.display.row.told, person.said(), person.shown()[4]), ("", [], "[1]"))
 
     def test_told_whole(self):
-        """Over a session that is shown whole it is as wide as that, and stands in the terminal's last row where nothing is known; behind
-        it all is painted anew."""
+        """Over a session shown whole a message has the session's width; if nothing is known it is in the terminal's last row. Afterwards
+        everything is repainted.
+        """
         person = Person(10, 30)
         person.display.outer.waiting.clear()
         person.display.row.tell("x" * 40)
@@ -1131,13 +1135,13 @@ class Painted(Case):
         self.assertEqual(person.said(), ["repaint"])
 
     def test_shown(self):
-        """Lines in place of the session are cut to the terminal, a column free at the right."""
+        """Lines in place of the session are cut to the terminal, with a free column at the right."""
         person = self.person()
         person.display.show("one two three four five six\n" * 4)
         self.assertEqual(person.shown(), ["one two three four", "five six"] * 2 + ["one two three four"])
 
     def test_resized(self):
-        """A cover is shown again at a new size, and soon later all is painted anew where none is there."""
+        """A notice is shown again at a new size. Without one, everything is repainted soon after."""
         person = self.person()
         person.paints(4, 20)
         person.display.show("help")
@@ -1151,7 +1155,7 @@ class Painted(Case):
         self.assertEqual((person.said(), person.display.part.is_stale), (["repaint"], True))
 
     def test_repainted(self):
-        """A session of which another part is asked for at a new size isn't asked to paint again."""
+        """A session with a request for another part at a new size gets no extra repaint request."""
         person = self.person()
         person.paints(4, 20)
         person.display.outer.rows = 4
@@ -1161,7 +1165,7 @@ class Painted(Case):
         self.assertEqual(person.said(), ["part 3 20"])
 
     def test_entered_again(self):
-        """After another had the terminal all is painted anew, and nothing before that is written."""
+        """After another process used the terminal everything is repainted, and nothing before that is written."""
         person = self.person()
         person.display.outer.enter_again = mock.Mock()
         person.paints(4, 20)
@@ -1175,7 +1179,7 @@ class Painted(Case):
         self.assertEqual((person.said(), len(person.display.outer.waiting)), (["repaint"], before))
 
     def test_given(self):
-        """A session has two and a half seconds for a size; then it is told that its panes have no room."""
+        """A session has two and a half seconds to take a size; then a message says that its panes do not fit."""
         person = self.person()
         person.place.told = places(6, 20)
         person.commands.panes_changed()
@@ -1188,10 +1192,10 @@ class Painted(Case):
 
 
 class Gone(Case):
-    """A window whose folder is gone before that was told."""
+    """A window whose folder is gone before the report."""
 
     def test_left(self):
-        """It gives way to another, and isn't connected to again; where there is none it is tried anew."""
+        """Another window replaces it, without a reconnection; without another one it is retried."""
         views, leaves = mock.Mock(number=2), mock.Mock()
         views.view.reconnector.connect.return_value, views.view.number = (8.0, "no server"), 2
         views.view.session.folder = str(self.made_folder() / "2")

@@ -1,4 +1,4 @@
-"""A person's front end of a session with windows, whose starts and host are played: where what is typed goes, and what is asked for."""
+"""A front end of a session with windows, with simulated clients and host: the targets of input, and the requests."""
 import os
 import pathlib
 import pty
@@ -24,7 +24,7 @@ LONG = "a text that is long enough to be handed to the pty host"
 
 
 class PlayedWindow(AnySession):
-    """A window of a session that is played, at sockets of its own."""
+    """A window of a simulated session, at sockets of its own."""
 
     def __init__(self, case, all_windows, number):
         folder = case.folder / "w" / str(number)
@@ -35,17 +35,17 @@ class PlayedWindow(AnySession):
         self.clients = case.listening(self.terminals)
 
     def windows(self):
-        """Those that run."""
+        """Return the running ones."""
         return [one for _, one in sorted(self.all.items())]
 
     def window(self, number):
-        """One of them."""
+        """Return one of them."""
         if number not in self.all:
             raise Fault(f"session main has no window {number}")
         return self.all[number]
 
     def ending(self):
-        """What is told at its end: status 0 where it is about to be ended."""
+        """Return the message about its end: status 0 for an intended end."""
         return "[the session has ended]", self.status
 
 
@@ -72,7 +72,7 @@ class Windows(Case):
         self.front = self.front_of()
 
     def front_of(self, **more):
-        """A front end that has connected, and was painted something."""
+        """Return a connected front end with a painting."""
         self.emulated = Emulated(24, 80)
         front = made_front(self.place, more.pop("is_read_only", False), "never", self.loop, **more)
         self.addCleanup(self.close, front)
@@ -83,35 +83,35 @@ class Windows(Case):
         return front
 
     def close(self, front):
-        """Closes what a front end has open."""
+        """Close a front end's connections."""
         closed(front.display.outer.end)
         front.host_link.end()
         for view in (front.views.view, *front.views.draining.views.values()):
             view.close(self.loop)
 
     def add(self, number):
-        """One more window."""
+        """Add a window."""
         self.typed[number] = ""
         return PlayedWindow(self, self.windows, number)
 
     def played(self, folder):
-        """What tells where the panes of a window are."""
+        """Return the simulated pane socket of a window."""
         panes = PlayedPanes(self.windows[int(folder.name)])
         panes.close = lambda: None
         return panes
 
     def give_back(self, kept, slave):
-        """Gives this process its own input and output."""
+        """Restore this process's own input and output."""
         for end, number in zip(kept, (0, 1)):
             os.dup2(end, number)
             os.close(end)
         os.close(slave)
         os.close(self.master)
 
-    # ---- what is played
+    # ---- simulated peers
 
     def accepted(self, listener):
-        """Who came to a socket since that was looked at."""
+        """Return the new connections at a socket."""
         found = []
         while True:
             try:
@@ -120,7 +120,7 @@ class Windows(Case):
                 return found
 
     def turn(self, count=4, paints=True):
-        """So many turns that wait for nothing, with a client for each window that takes all and paints what is asked for."""
+        """Take so many turns without waits. A client for each window takes everything and paints requested parts."""
         for _ in range(count):
             self.front.turn()
             for number, window in self.windows.items():
@@ -133,7 +133,7 @@ class Windows(Case):
         self.emulated.fed(read_now(self.master))
 
     def answer(self, client):
-        """Has a client take lines: what of them is typed is kept by window, and a part is painted."""
+        """Let a client take lines: record the input by window, and paint a part."""
         number, taken = self.clients[client]
         try:
             lines = read_now(client).decode().split("\n")[:-1]
@@ -151,7 +151,7 @@ class Windows(Case):
         self.send(client, record("taken", taken + len(lines)))
 
     def send(self, peer, data):
-        """Sends to who may have gone."""
+        """Send to a peer that may be gone."""
         try:
             peer.send(data)
         except OSError:
@@ -159,38 +159,39 @@ class Windows(Case):
             self.clients.pop(peer, None)
 
     def said(self):
-        """The lines that were said to the host since they were looked at, but for those that say who is where."""
+        """Return the new lines to the host, except for those about presence."""
         found = [line for peer in self.hosts for line in unled(read_now(peer)).decode().split("\n")[:-1]]
         return [line for line in found if line.split()[0] not in ("here", "who")]
 
     def tell(self, *lines):
-        """Has the host tell lines about windows."""
+        """Send lines of the host about windows."""
         self.hosts[-1].send("".join(f"0 {line}\n" for line in lines).encode())
         self.turn()
 
     def tell_list(self):
-        """Has the host tell which windows there are."""
+        """Send the host's list of windows."""
         self.tell(*(f"window {number} -" for number in sorted(self.windows)), f"windows {len(self.windows)}")
 
     def type(self, text, **more):
-        """Types, in one piece."""
+        """Type in one piece."""
         os.write(self.master, text)
-        # The system hands it to the other end a moment later.
+        # The system passes it to the other end a moment later.
         comes(0, 1)
         self.turn(**more)
 
     def rows(self):
-        """The first row and the last that are shown."""
+        """Return the first and the last visible row."""
         lines = self.emulated.lines()
         return lines[0].rstrip(), lines[23].rstrip()
 
 
 class Switches(Windows):
-    """From one window to another."""
+    """Switches between windows."""
 
     def test_round(self):
-        """Keys behind a switch in one read go to the window where the person went, and those before it to the other, in order. Nothing is
-        left of a window that was left."""
+        """Keys after a switch in one read go to the new window, and those before it to the old one, in order. Nothing remains of the old
+        window.
+        """
         self.type(b"\x022\x021")
         self.turn()
         has = len(self.loop.sources), len(self.loop.before), sorted(self.loop.due)
@@ -201,7 +202,7 @@ class Switches(Windows):
         self.assertEqual((self.front.views.number, self.rows()), (2, ("window 2", "[1] 1- 2*")))
 
     def test_cut(self):
-        """So do they wherever what is typed is cut, in characters and keys too."""
+        """The same holds wherever the input is cut, even inside characters and keys."""
         text = "ä\x022é\x1b[A\x021中\x02nü".encode()
         for cut in range(len(text) + 1):
             self.typed = {1: "", 2: ""}
@@ -212,7 +213,7 @@ class Switches(Windows):
         self.assertEqual(acts_of_bytes(b"\x1b[A"), ["key up"])
 
     def test_not_taken(self):
-        """What was typed in a window whose client takes nothing waits for it, while the other is typed in; nothing of it is lost."""
+        """Input for a window whose client takes nothing waits, while the other window gets input; nothing is lost."""
         self.type(b"\x022\x021")
         self.type(b"ab\x022cd", paints=False)
         self.type(b"\x021ef\x022gh", paints=False)
@@ -221,14 +222,14 @@ class Switches(Windows):
         self.assertEqual((self.typed, list(self.front.views.draining.views)), ({1: "abef", 2: "cdgh"}, []))
 
     def test_old_closed(self):
-        """The connections to a window that was left are closed once what was typed there is taken, and the other is painted."""
+        """The connections to the old window close once its input is taken and the new one is painted."""
         self.type(b"a\x022")
         self.turn()
         there = [number for number, _ in self.clients.values()]
         self.assertEqual((there, list(self.front.host_link.clients), self.front.views.draining.views), ([2], [2], {}))
 
     def test_lost(self):
-        """Where the client of a window that was left ends, another has what was typed there and hasn't gone; else nothing is waited for."""
+        """If the old window's client ends, a new one gets the unsent input; without such input nothing waits."""
         self.type(b"\x022\x021")
         self.type(b"ab\x022", paints=False)
         view = self.front.views.draining.views[1]
@@ -253,7 +254,7 @@ class Switches(Windows):
         self.assertEqual((self.typed[1], list(self.front.views.draining.views), self.loop.due.get("connect 1")), ("abdc", [], None))
 
     def test_there_is_none(self):
-        """A window that isn't there is told of, and what stands behind that is typed where the person is."""
+        """A missing window is reported, and later input goes to the current one."""
         self.type(b"\x025ab")
         self.assertEqual((self.typed[1], self.rows()[1]), ("ab", "there is no window 5"))
         self.type(b"\x02lcd")
@@ -267,7 +268,7 @@ class Switches(Windows):
         self.assertEqual(self.typed[1], "abcdef")
 
     def test_order(self):
-        """C-b n and C-b p go round the windows in the order of their numbers."""
+        """C-b n and C-b p cycle through the windows in the order of their numbers."""
         for number in (3, 5):
             self.add(number)
         for keys in (b"\x02na", b"\x02nb", b"\x02nc", b"\x02nd", b"\x02pe", b"\x02pf", b"\x02pg", b"\x02ph"):
@@ -275,7 +276,7 @@ class Switches(Windows):
         self.assertEqual(self.typed, {1: "dh", 2: "ag", 3: "bf", 5: "ce"})
 
     def test_not_had(self):
-        """A window of which the system refuses what is needed isn't gone to: all stays as it is, and says why."""
+        """If the system refuses a resource for a window, the user stays, and a message gives the reason."""
         self.windows[2].processes["server"] = 1
         with mock.patch.object(window_views, "opened_process", side_effect=Fault("no descriptor is left")):
             self.type(b"a\x022b")
@@ -283,7 +284,7 @@ class Switches(Windows):
         self.assertEqual(self.front.views.draining.views, {})
 
     def test_not_painted(self):
-        """Until a window is painted nothing of it is shown, and a moment later nothing of the one before."""
+        """Until a window is painted nothing of it is visible, and a moment later nothing of the previous one."""
         self.type(b"\x022", paints=False)
         self.assertEqual(self.rows(), ("window 1", "[1] 1* 2"))
         self.now += 0.15
@@ -293,7 +294,7 @@ class Switches(Windows):
         self.assertEqual(self.rows(), ("window 2", "[1] 1- 2*"))
 
     def test_paste(self):
-        """A paste that is handed over goes where it was pasted, and what is typed behind a switch doesn't wait for it."""
+        """A stored paste goes to its own window, and input after a switch doesn't wait for it."""
         self.hosts[0].send(b"0 host 00112233445566aa\n1 others 0\n")
         self.turn()
         self.type(b"a\x1b[200~" + LONG.encode() + b"\x1b[201~b\x022c")
@@ -304,8 +305,7 @@ class Switches(Windows):
         self.assertEqual((self.typed[1], self.typed[2]), (f"a\x9f{name}\x9cb", "c"))
 
     def test_sizes(self):
-        """A window that was left while all of it was shown follows the terminal once the person is there again and alone; one whose size
-        another changed stays."""
+        """A window last shown whole follows the terminal once the user is back and alone; one whose size somebody changed stays."""
         for window in self.windows.values():
             window.told = places(24, 80)
         self.add(3).told = places(24, 80)
@@ -325,10 +325,10 @@ class Switches(Windows):
 
 
 class Opened(Windows):
-    """One window more."""
+    """A new window."""
 
     def test_opened(self):
-        """What is typed behind the key that opens a window is for that."""
+        """Input after the key that opens a window goes to that window."""
         self.tell_list()
         self.said()
         self.type(b"a\x02cbc\x021d\x02le")
@@ -339,7 +339,7 @@ class Opened(Windows):
         self.assertEqual((self.typed, self.rows()), ({1: "ad", 2: "", 3: "bce"}, ("window 3", "[1] 1- 2 3*")))
 
     def test_refused(self):
-        """Where none is opened what was typed for it is dropped, which is told with the reason, harmless."""
+        """If opening fails, input for the window is dropped, and a printable message gives the reason."""
         self.tell_list()
         self.type(b"a\x02crm x\r")
         self.tell("opened none a session has \x1b[2J99 windows at most")
@@ -348,8 +348,7 @@ class Opened(Windows):
         self.assertEqual(self.typed, {1: "ab", 2: ""})
 
     def test_late(self):
-        """A host that is stopped doesn't stop who types for longer than a moment, and not from going elsewhere; a window that comes later
-        is told of."""
+        """A stopped host delays input only for a moment, and does not block other windows; a late window is reported."""
         self.tell_list()
         self.type(b"\x02cab")
         self.now += OPENS
@@ -362,7 +361,7 @@ class Opened(Windows):
         self.assertEqual((self.front.views.number, self.front.display.row.told), (2, "window 3 is open now"))
 
     def test_given_up(self):
-        """Once it was told that it takes long C-c waits for it no longer, and what follows that is typed; before that C-c is for it too."""
+        """After the report of a delay C-c ends the wait, and later input is typed; before that C-c is for the window too."""
         self.tell_list()
         self.type(b"\x02cab\x03c")
         self.now += TAKES_LONG
@@ -377,7 +376,7 @@ class Opened(Windows):
         self.assertEqual(self.typed, {1: "d", 2: "", 3: "\x03e"})
 
     def test_half_pasted(self):
-        """Of a paste that was begun for it nothing is typed elsewhere, however late the rest of it comes."""
+        """Nothing of a paste begun for it is typed elsewhere, however late its rest is."""
         self.tell_list()
         self.type(b"\x02ca\x1b[200~rm")
         self.now += OPENS
@@ -392,7 +391,7 @@ class Opened(Windows):
         self.assertEqual(self.typed, {1: "b", 2: "", 3: "aoneb"})
 
     def test_host_comes(self):
-        """A host that isn't connected yet is asked once it is, and nothing that was typed for the window goes elsewhere."""
+        """A host that isn't connected yet gets the request once it is, and no input for the window goes elsewhere."""
         self.front.windows.link.lost("not there")
         self.turn()
         self.type(b"\x02cab")
@@ -410,7 +409,7 @@ class Opened(Windows):
         self.assertEqual(self.typed, {1: "", 2: "", 3: "ab"})
 
     def test_no_room(self):
-        """Where one can't be asked for either what stands behind in the same read is dropped, and what is typed later isn't."""
+        """If the request fails, the rest of the same read is dropped, and later input isn't."""
         tty.set_size(0, 3, 80)
         self.front.resized()
         self.type(b"\x02cab")
@@ -428,8 +427,9 @@ class Opened(Windows):
         self.assertEqual((self.front.windows.waiting.is_opening, self.front.display.row.told.endswith(DROPPED)), (False, True))
 
     def test_relay_turns(self):
-        """Of another machine's session the connection is cut where its relay goes another way: the window is asked for again, until it is
-        known that it is there, and has what was typed for it."""
+        """The connection of a remote session is cut if its relay changes its transport. The request is repeated until the window is known,
+        and the window gets its input.
+        """
         self.place.served = "relay"
         self.tell_list()
         self.said()
@@ -451,7 +451,7 @@ class Opened(Windows):
         self.assertEqual((self.typed, self.front.views.number, self.front.windows.waiting.unsaid), ({1: "", 2: "", 3: "ab"}, 3, ""))
 
     def test_bounded(self):
-        """No more is read than is kept for a window that is being opened."""
+        """Input beyond the limit for an opening window stays unread."""
         self.tell_list()
         self.type(b"\x02c" + b"x" * 3000)
         self.assertFalse(self.front.views.commands.is_full())
@@ -459,14 +459,14 @@ class Opened(Windows):
         self.assertTrue(self.front.views.commands.is_full())
 
     def test_by_hand(self):
-        """A session without a window's number can have one alone, which is said."""
+        """A session without a window's number is limited to one, with a message."""
         self.place.number = 0
         self.front_of()
         self.type(b"\x02ca")
         self.assertEqual((self.front.display.row.told, self.typed[1]), (BY_HAND, "a"))
 
     def test_far(self):
-        """A session that is no window of several has one alone, and which of another machine is said so; nothing is asked of its host."""
+        """A session that is no window of several is limited to one, with a message for a remote one; its host gets no request."""
         for served, words in (("server", BY_HAND), ("relay", FAR)):
             self.clients.clear()
             self.hosts.clear()
@@ -478,7 +478,7 @@ class Opened(Windows):
             self.typed[1] = ""
 
     def test_read_only(self):
-        """Who only watches goes from one to another, and changes none."""
+        """A read-only user switches windows, but can't change any."""
         self.clients.clear()
         self.hosts.clear()
         self.front_of(is_read_only=True)
@@ -489,21 +489,21 @@ class Opened(Windows):
 
 
 class Told(Windows):
-    """What happens in windows."""
+    """Events in windows."""
 
     def test_flags(self):
-        """What rang, and what was written, is shown until the person is there."""
+        """Bells and output are shown until the user visits the window."""
         self.tell_list()
         rings = self.patch_of(self.front.display.outer, "ring")
         self.tell("bell 2 1", "activity 2", "runs 1 vim", "runs 2 sh", "bell 1 1", "bell 2 1", "bell 0 1")
-        # The one where the person is rings by its own socket.
+        # The current window rings by its own socket.
         self.assertEqual(rings.call_count, 2)
         self.assertEqual(self.rows()[1], "[1] 1:vim* 2:sh#!")
         self.type(b"\x022")
         self.assertEqual(self.rows()[1], "[1] 1:vim- 2:sh*")
 
     def test_gone(self):
-        """A window that is gone gives way to the one before it, and what is typed goes there; the last one's end is the session's."""
+        """The previous window replaces one that is gone, and gets the input; the last one's end is the session's."""
         self.add(5)
         self.tell_list()
         self.type(b"\x025\x022a")
@@ -522,7 +522,7 @@ class Told(Windows):
         self.assertEqual((self.front.left, self.front.status), ("[the session has ended]", 1))
 
     def test_server(self):
-        """So does one whose server ends before that is told, but not to one that is about to end too."""
+        """So does one whose server ends before the report, but not by one that is about to end too."""
         self.front.server_ended(self.front.views.view)
         self.assertEqual((self.front.views.number, self.front.left), (2, None))
         self.windows[1].status = self.windows[2].status = 0
@@ -530,14 +530,14 @@ class Told(Windows):
         self.assertEqual((self.front.left, self.front.status), ("[the session has ended]", 0))
 
     def test_pasting(self):
-        """What is pasted while its window goes isn't typed elsewhere."""
+        """A paste during its window's end isn't typed elsewhere."""
         self.tell_list()
         self.type(b"\x022\x1b[200~rm -rf")
         del self.windows[2]
         self.tell("gone 2")
         self.type(b" x\r\x1b[201~y")
         self.assertEqual((self.typed, self.front.display.row.told), ({1: "y", 2: ""}, "not pasted: its window is gone"))
-        # So is one that was pasted into a line that copy mode asked for.
+        # So is a paste into a line of copy mode.
         self.add(3)
         self.tell("window 3 -")
         self.type(b"\x023")
@@ -549,7 +549,7 @@ class Told(Windows):
         self.assertEqual(self.typed, {1: "yz", 2: "", 3: ""})
 
     def test_question(self):
-        """A question stands until it is answered, also where its window goes, and means nothing for another then."""
+        """A question stays until it is answered, even if its window goes, and then has no effect on another."""
         self.tell_list()
         self.type(b"\x022")
         self.windows[2].runs_busy = {1: "vi"}
@@ -563,7 +563,7 @@ class Told(Windows):
         self.assertEqual((self.typed[1], self.said()), ("z", ["shut 2"]))
 
     def test_question_elsewhere(self):
-        """A question about a pane is answered for its own window, also while another is shown."""
+        """A question about a pane is answered for its own window, even while another is shown."""
         self.tell_list()
         self.type(b"\x022")
         self.windows[2].told = Places({1: Rect(1, 1, 23, 39), 2: Rect(1, 41, 23, 40)}, 1, 1)
@@ -576,7 +576,7 @@ class Told(Windows):
         self.assertEqual(self.typed, {1: "z", 2: "<close>"})
 
     def test_detached(self):
-        """Another has this terminal leave; and it the others."""
+        """Another terminal detaches this one, and this one detaches the others."""
         self.said()
         self.type(b"\x02D")
         self.assertEqual(self.said(), ["leave others"])
@@ -589,10 +589,10 @@ class Told(Windows):
 
 
 class Named(Windows):
-    """Names, ends, and the list."""
+    """Names, closes, and the list."""
 
     def test_name(self):
-        """A line is asked for in the last row, above all that is told; what is typed there goes nowhere else."""
+        """The last row asks for a line, with precedence over messages; the input goes nowhere else."""
         self.tell_list()
         self.said()
         self.type("\x02,hé中\x7f\x1b[A文".encode())
@@ -613,7 +613,7 @@ class Named(Windows):
             self.assertEqual((self.said(), self.front.display.row.prompt), ([], ""))
 
     def test_pasted_name(self):
-        """Of a paste the first line is a name; one with escapes is none, and no name is longer than a line may be."""
+        """The first line of a paste is a name; one with escapes is invalid, and the length is limited."""
         self.tell_list()
         self.said()
         for pasted, name in ((b"two\nlines", "two"), (b"a\x1b]0;x\x07b", ""), ("é".encode() * 99, "é" * 59)):
@@ -621,7 +621,7 @@ class Named(Windows):
             self.assertEqual(self.said(), [f"name 1 {name.encode().hex() or '-'}"])
 
     def test_shut(self):
-        """A window where a shell alone runs is shut at once; the last one never without a question."""
+        """A window with only a shell closes at once; the last one always asks."""
         self.tell_list()
         self.said()
         self.type(b"\x02&")
@@ -639,7 +639,7 @@ class Named(Windows):
         self.assertEqual(self.said(), ["shut 1"])
 
     def test_asked(self):
-        """A number may be asked for, also by one who only watches."""
+        """A number may be entered, also by a read-only user."""
         self.add(12)
         for is_read_only in (False, True):
             self.clients.clear()
@@ -651,7 +651,7 @@ class Named(Windows):
                 self.assertEqual(self.front.views.number, number, typed)
 
     def test_list(self):
-        """The list shows what runs there, and goes where Return or a digit says."""
+        """The list shows the programs, and Return or a digit selects a window."""
         self.tell_list()
         self.tell("window 2 6465", "runs 1 sh", "runs 2 vim")
         self.type(b"\x02w")
@@ -672,8 +672,7 @@ class Named(Windows):
 
 
     def test_list_awaited(self):
-        """Just behind a switch the list waits until it is told where the panes are, and keys for it do; no longer than a moment, and then
-        they are typed."""
+        """Right after a switch the list and its keys wait for the pane positions, but only for a moment; then they are typed."""
         self.tell_list()
         told = self.windows[2].told
         for is_told in (True, False):
@@ -691,10 +690,10 @@ class Named(Windows):
 
 
 class Pointed(Windows):
-    """Where roam has the mouse a label goes to its window."""
+    """If roam uses the mouse a label goes to its window."""
 
     def test_labels(self):
-        """What is told there has no labels, and nothing is pointed at."""
+        """A message there covers the labels, and clicks do nothing."""
         self.tell_list()
         for is_on, wanted in ((False, 1), (True, 2)):
             self.front.views.commands.pointing.is_on = is_on
@@ -709,17 +708,17 @@ class Pointed(Windows):
 
 
 class PaneEnvironment(Windows):
-    """What an attach brings."""
+    """The environment from an attach."""
 
     def test_asked(self):
-        """It goes by the session, and by whether a person watches alone."""
+        """It depends on the session, and on a read-only user."""
         self.sent_environment.assert_called_once_with(self.place, False)
         self.front_of(is_read_only=True)
         self.sent_environment.assert_called_with(self.place, True)
 
 
 class Settings(Windows):
-    """A settings file that is read while a person is there."""
+    """A settings file that is read while a user is attached."""
 
     def setUp(self):
         self.environment(XDG_CONFIG_HOME=str(self.made_folder()), ROAM_PREFIX=None, ROAM_PREDICT=None, ROAM_MOUSE=None)
@@ -730,13 +729,13 @@ class Settings(Windows):
         self.file.parent.mkdir()
 
     def read(self, text):
-        """Has the file say this, and be read."""
+        """Write this into the file, and read it."""
         self.file.write_text(text, encoding="utf-8")
         self.front.settings.read()
         self.turn()
 
     def test_read(self):
-        """What it says holds at once, and it is told that it was read, or what of it isn't done."""
+        """The settings apply at once, with a message that they were read, or about unsupported parts."""
         self.read("set -g prefix C-a\nbind y select-window -t 2\nset -g mouse on\n")
         self.assertEqual((self.front.display.row.told, self.front.views.commands.pointing.is_on), ("roam.conf was read", True))
         self.type(b"\x02a\x01yb")
@@ -750,20 +749,20 @@ class Settings(Windows):
         self.assertEqual((self.front.settings.prefix, self.front.keyboard.modes.keymap.own), ("C-b", {}))
 
     def test_refused(self):
-        """Where a variable can't be gone by that is told, and the prefix stays."""
+        """An invalid variable is reported, and the prefix stays."""
         with mock.patch.dict(os.environ, ROAM_PREFIX="nosuch"):
             self.read("set -g mouse on\n")
         self.assertEqual((self.front.settings.prefix, self.front.views.commands.pointing.is_on), ("C-b", False))
         self.assertIn("nosuch", self.front.display.row.told)
 
     def test_row(self):
-        """The last row goes and comes by it."""
+        """The last row appears and disappears by it."""
         for text, is_hidden in (("set -g status off", True), ("set -g status off", True), ("set -g status on", False)):
             self.read(f"{text}\n")
             self.assertEqual(self.front.display.part.is_row_hidden, is_hidden)
 
     def test_runs(self):
-        """What it has the shell run is run as it is read, and keys that it binds do all that they are bound to."""
+        """Its shell commands run as it is read, and keys run all their bound commands."""
         with mock.patch.object(command_line, "ShellRun") as runs:
             runs.return_value.has_ended.return_value = True
             self.read("run-shell 'echo one'\nbind y { run-shell two ; select-window -t 2 }\n")
@@ -776,7 +775,7 @@ class Hidden(Windows):
     """The last row may be hidden."""
 
     def test_hidden(self):
-        """The session has the row then, and a line that is told stands over it."""
+        """The session has the row then, and a message covers it."""
         self.place.told = places(24, 80)
         self.hosts[0].send(b"0 host 00112233445566aa\n1 others 0\n")
         self.turn()

@@ -1,11 +1,11 @@
-"""Which word of mux is meant by one that is none, and which names are names."""
+"""The word of mux that a wrong one probably means, and the valid names."""
 import unittest
 
 from roam_live.cli.args import TMUX_WORDS, meant, slips, told_of_tmux
 
 WORDS = ["attach", "new", "detach", "ls", "list", "watch", "kill", "send", "capture", "env", "ssh", "far", "help"]
 
-# Slips, and what was meant.
+# Typing errors, and the intended words.
 SLIPS = {
     "lst": "ls", "sl": "ls", "lss": "ls", "lis": "ls", "lits": "list", "lsit": "list", "atach": "attach", "attahc": "attach",
     "attch": "attach", "atttach": "attach", "detahc": "detach", "watc": "watch", "wacth": "watch", "wtch": "watch", "kil": "kill",
@@ -13,7 +13,7 @@ SLIPS = {
     "hel": "help", "nwe": "new", "shs": "ssh", "sssh": "ssh",
 }
 
-# The commands of tmux 3.3a and their other names, as its list-commands has them.
+# The commands of tmux 3.3a and their aliases, from its list-commands.
 OF_TMUX = """
     attach-session attach bind-key bind break-pane breakp capture-pane capturep choose-buffer choose-client choose-tree
     clear-history clearhist clear-prompt-history clearphist clock-mode command-prompt confirm-before confirm copy-mode
@@ -31,7 +31,7 @@ OF_TMUX = """
     swap-window swapw switch-client switchc unbind-key unbind unlink-window unlinkw wait-for wait
 """.split()
 
-# What nobody takes for a slip.
+# Words that are no typing errors.
 NAMES = (
     "main", "w", "l", "s", "log", "logs", "web", "net", "dev", "work", "api", "db", "now", "car", "bar", "build", "mail", "test",
     "notes", "server", "cm", "en", "lo", "atac", "wotsh", "capt", "ps", "top", "x1", "emacs", "irc", "prod", "python",
@@ -39,14 +39,14 @@ NAMES = (
 
 
 class Meant(unittest.TestCase):
-    """`meant`."""
+    """Tests of `meant`."""
 
     def test_slips(self):
         for name, word in SLIPS.items():
             self.assertEqual(meant(name, WORDS), word, name)
 
     def test_words_of_tmux(self):
-        """Each word of tmux is known, and what does the same here is told, or that nothing does."""
+        """Each word of tmux is known, and its equivalent is shown, or that there is none."""
         self.assertEqual([word for word in OF_TMUX if word not in TMUX_WORDS], [])
         for name, told in (("a", "a is a tmux command; in roam, use `roam mux attach NAME`"),
                            ("lsk", "lsk is a tmux command; in roam, use C-b ?"),

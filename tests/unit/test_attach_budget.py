@@ -1,4 +1,4 @@
-"""What an attach and the short words of mux cost as processes, counted in bytecodes and system calls, which no clock and no load changes."""
+"""The cost of an attach and of short commands of mux, in bytecodes and system calls, independent of clock and load."""
 import os
 import pty
 import select
@@ -13,23 +13,23 @@ from played_session import LABELLED, PAINTED, PlayedSession
 from roam_live.common import tty
 from roam_live.common.process import TOOLS
 
-# Most bytecodes and system calls of an attach until the first painting is written, and until the last row has all that is reported. Python
-# 3.11 takes 54,000 and 610, and 101,000 and 770; other versions have other bytecodes.
+# The most bytecodes and system calls of an attach until the first painting is written, and until the last row has all reports. Python 3.11
+# takes 54,000 and 610, and 101,000 and 770; other versions have other bytecodes.
 MOST_PAINTED = 60000, 650
 MOST_LABELLED = 115000, 850
 
-# The same of words that need no terminal: `ls` of one session, and help.
+# The same for words without a terminal: `ls` of one session, and help.
 MOST_WORDS = {("ls",): (75000, 700), ("help",): (40000, 600), ("help", "ls"): (45000, 600), ("send", "--help"): (45000, 600)}
 
-# So many runs are tried: a machine under load may take a turn of the loop more.
+# The most runs: a machine under load may take a turn of the loop more.
 TRIES = 4
 
-# So many seconds a run has.
+# Seconds for a run.
 WAIT = 30.0
 
 
 class Budget(Case):
-    """A copy of the tools, with bundles, and a session that is played."""
+    """A copy of the tools, with bundles, and a simulated session."""
 
     def setUp(self):
         self.folder = self.made_folder()
@@ -40,12 +40,12 @@ class Budget(Case):
         self.session = PlayedSession(run)
         self.addCleanup(self.session.close)
         self.known = plain_environment(XDG_RUNTIME_DIR=str(run), XDG_CONFIG_HOME=str(self.folder), TERM="xterm", LC_ALL="C.UTF-8")
-        # What Python and roam keep of the sources is written before.
+        # The caches of Python and roam for these sources are written first.
         for words in (tool_words(self.tools, "roam_bundle.py"), tool_words(self.tools, "mux", "help", "ls")):
             subprocess.run(words, env=self.known, stdout=subprocess.DEVNULL, stderr=subprocess.DEVNULL, check=True)
 
     def terminal(self):
-        """A terminal of 24 by 80, whose output is read and dropped until the test ends."""
+        """Return a terminal of 24 by 80, whose output is read and dropped until the test ends."""
         master, slave = pty.openpty()
         tty.set_size(slave, 24, 80)
         ended = threading.Event()
@@ -79,10 +79,10 @@ class Budget(Case):
         self.demand(["attach", "main"], MOST_PAINTED, PAINTED, self.terminal())
 
     def test_labelled(self):
-        """And all that is reported of the session a little later."""
+        """All reports of the session are shown a little later."""
         self.demand(["attach", "main"], MOST_LABELLED, LABELLED, self.terminal())
 
     def test_words(self):
-        """Short words do."""
+        """Short commands are within their limits."""
         for words, most in MOST_WORDS.items():
             self.demand([*words], most)

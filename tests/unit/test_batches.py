@@ -1,4 +1,4 @@
-"""Batches of instructions: cut, lost, repeated and turned round, with bases and without, and what no end should have sent."""
+"""Batches of instructions: cut, lost, repeated and reordered, with bases and without, and invalid ones."""
 import itertools
 import random
 import unittest
@@ -11,43 +11,43 @@ from roam_live.relay.batches import (BASE, CHUNK, CHUNK_KIND, CHUNK_LENGTH, KEPT
 
 
 def datagrams(number, text, kind=2):
-    """The datagrams of an instruction."""
+    """Return the datagrams of an instruction."""
     parts = [text[k : k + 1200] for k in range(0, len(text), 1200)]
     return [b"RM\2" + bytes([kind]) + bytes(16) + (number * 99 + k).to_bytes(8, "big") + number.to_bytes(8, "big") + k.to_bytes(2, "big")
             + len(parts).to_bytes(2, "big") + len(part).to_bytes(2, "big") + part for k, part in enumerate(parts)]
 
 
 def typed(number, letter=b"a", count=1):
-    """An instruction of a client with so many acts."""
+    """Return an instruction of a client with so many acts."""
     return datagrams(number, bytes(8) + number.to_bytes(8, "big") + count.to_bytes(2, "big") + (b"\1\0\0\0" + letter) * count)
 
 
 def shown(number, acts=0, change=b"", size=b"\0\x18\0\x50\0\1\0\1\1"):
-    """An instruction of a server: what version 2 tells where nothing is changed, or a change."""
+    """Return an instruction of a server: version 2 without a change, or with one."""
     return datagrams(number, (number - 1).to_bytes(8, "big") + number.to_bytes(8, "big") + bytes(8) + acts.to_bytes(8, "big") + size
                      + (change or bytes(7)), 1)
 
 
 def noise(length, seed=1):
-    """Bytes that don't compress."""
+    """Return incompressible bytes."""
     return random.Random(seed).randbytes(length)
 
 
 def taken(target, frame):
-    """What a chunk's frame brings."""
+    """Return the contents of a chunk's frame."""
     kind, peer, number, index, count, length = CHUNK.unpack_from(frame)
     assert kind in (CHUNK_KIND, ONCE_KIND) and length == len(frame) - CHUNK.size
     return target.take(peer, number, index, count, frame[CHUNK.size :])
 
 
 class Two(unittest.TestCase):
-    """Two ends, of which one sends."""
+    """Two ends, one of which sends."""
 
     def setUp(self):
         self.near, self.far = Batches(), Batches()
 
     def frames(self, peer, texts, is_once=False):
-        """The chunks of an instruction that are to go, as they stand in packets."""
+        """Return the outgoing chunks of an instruction, as frames in packets."""
         chunks, _ = self.near.begin(peer, texts, is_once)
         found = [self.near.frame(chunk) for chunk in chunks]
         for chunk in chunks:
@@ -55,16 +55,16 @@ class Two(unittest.TestCase):
         return found
 
     def tell(self, peer):
-        """Has the sender told what came whole; whether something is lost."""
+        """Acknowledge the complete batches to the sender, and return True if something is lost."""
         return self.near.note_whole(*WHOLE.unpack(self.far.whole(peer))[1:])
 
     def carried(self, peer, texts):
-        """What comes of an instruction, and the bytes that went."""
+        """Return the received contents of an instruction, and the bytes sent."""
         frames = self.frames(peer, texts)
         return [one for frame in frames for one in taken(self.far, frame)], sum(map(len, frames))
 
     def test_carries(self):
-        """Instructions come as they were, whatever their length; those that are alike cost little."""
+        """Instructions arrive unchanged, whatever their length; similar ones cost little."""
         for length in (1, 17, 1200, 1201, LARGE - 50, LARGE, 30_000, 650_013):
             texts = datagrams(5, noise(length))
             self.assertEqual(self.carried(3, texts)[0], texts, length)
@@ -73,7 +73,7 @@ class Two(unittest.TestCase):
         self.assertLess(self.carried(4, typed(2))[1], first - 8)
 
     def test_numbers(self):
-        """One count numbers the batches of all peers, and a peer that was forgotten goes on above what the other end has."""
+        """One counter numbers the batches of all peers, and a forgotten peer continues above the other end's number."""
         for number, peer in enumerate((1, 2, 1, 9), 1):
             chunks, is_new = self.near.begin(peer, typed(number))
             self.assertEqual((chunks, is_new), ([Chunk(peer, number, 0)], True))
@@ -84,7 +84,7 @@ class Two(unittest.TestCase):
         self.assertEqual(self.near.begin(1, typed(9))[0][0].number, 5 + MOST_PEERS)
 
     def test_end(self):
-        """The last number is below 2^31, and no batch begins behind it."""
+        """The last number is below 2^31, and no batch follows it."""
         self.near.last = MOST_BATCHES - 2
         self.assertTrue(self.near.may_begin(1))
         self.assertEqual(self.carried(1, typed(1))[0], typed(1))
@@ -93,7 +93,7 @@ class Two(unittest.TestCase):
         self.assertEqual(self.far.take(1, MOST_BATCHES, 0, 1, packed_batch(joined(typed(2)), 0, b"")), [])
 
     def test_any_order(self):
-        """Chunks come in any order, again and again, and others not: each instruction comes at most once, and in order."""
+        """Chunks arrive in any order, repeatedly or never: each instruction comes at most once, and in order."""
         chance, frames = random.Random(3), []
         for number in range(1, 120):
             frames += self.frames(1, datagrams(number, noise(chance.choice((20, 900, 5000)), number)))
@@ -104,7 +104,7 @@ class Two(unittest.TestCase):
         self.assertEqual(numbers[-1], 119)
 
     def test_lacks_base(self):
-        """Where a base isn't there the other end says so, and the next goes without; that is said once."""
+        """If a base is missing the other end reports that once, and the next batch has none."""
         self.carried(1, typed(1))
         self.tell(1)
         self.far.coming[1].texts.clear()
@@ -121,7 +121,7 @@ class Two(unittest.TestCase):
         self.assertEqual(self.carried(1, typed(4))[0], typed(4))
 
     def test_base(self):
-        """A base is the newest that came whole, at most 48 behind, and never one that wasn't told."""
+        """The base is the newest complete batch, at most 48 before, and always an acknowledged one."""
         self.carried(1, typed(1))
         self.tell(1)
         for number in range(2, 50):
@@ -138,7 +138,7 @@ class Two(unittest.TestCase):
         self.assertFalse(self.near.note_whole(77, 1))
 
     def test_base_behind_many(self):
-        """Where other peers had many batches meanwhile there is a base again with the second that comes."""
+        """After many batches of other peers there is a base again with the second that arrives."""
         self.near.last = 1000
         for number in (1, 2, 3):
             self.near.begin(1, typed(number))
@@ -146,13 +146,13 @@ class Two(unittest.TestCase):
         self.assertEqual(self.near.going[1].base, 1002)
 
     def test_drops(self):
-        """A small batch drops all before it; a large one drops small ones, and two large ones are finished before a third."""
+        """A small batch replaces all earlier ones; a large one replaces small ones, and two large ones are finished before a third."""
         for length in (9000, 9, 9000, 9001):
             self.near.begin(1, datagrams(1, noise(length, length)))
         self.assertEqual(list(self.near.going[1].going), [3, 4])
         self.assertEqual((MOST_LARGE, self.near.may_begin(1, LARGE + 1), self.near.may_begin(1, LARGE), self.near.may_begin(2, LARGE + 1)),
                          (2, False, True, True))
-        # Those of which each chunk has arrived are in nobody's way, also where nothing was told of the whole.
+        # Batches whose chunks have all arrived block nothing, even before the acknowledgement.
         for index in range(len(self.near.going[1].going[3].chunks)):
             self.near.arrived(Chunk(1, 3, index))
         self.assertTrue(self.near.may_begin(1, LARGE + 1))
@@ -160,7 +160,7 @@ class Two(unittest.TestCase):
         self.assertEqual(list(self.near.going[1].going), [5])
 
     def test_repeats(self):
-        """What is on its way isn't begun again; what came, or may have been lost with its base, is."""
+        """Contents in flight are not sent again; contents that arrived, or whose base may be lost, are."""
         chunks, _ = self.near.begin(1, typed(1))
         self.assertEqual(self.near.begin(1, [one[:20] + bytes(16) + one[36:] for one in typed(1)]), (chunks, False))
         self.near.arrived(chunks[0])
@@ -168,7 +168,7 @@ class Two(unittest.TestCase):
         self.assertEqual(self.near.begin(1, typed(1)), ([Chunk(1, 2, 0)], True))
 
     def test_once(self):
-        """What goes once is wanted until it went."""
+        """A chunk of the once kind is current until it is sent."""
         chunk = self.near.begin(1, typed(1), True)[0][0]
         self.assertEqual(self.near.frame(chunk)[:1], ONCE_KIND)
         self.assertEqual(self.near.length(chunk), len(self.near.frame(chunk)))
@@ -179,7 +179,7 @@ class Two(unittest.TestCase):
         self.assertTrue(self.near.batch(other))
 
     def test_hostile_chunks(self):
-        """Chunks that no end sends change nothing, raise nothing, and take no memory without bound."""
+        """Invalid chunks change nothing, raise nothing, and take bounded memory."""
         chance = random.Random(8)
         for _ in range(3000):
             self.far.take(chance.randrange(400), chance.randrange(1 << 32), chance.randrange(1 << 16), chance.randrange(1 << 16),
@@ -192,7 +192,7 @@ class Two(unittest.TestCase):
         self.assertLess(sum(way.size() for way in self.far.coming.values()), KEPT_PARTS * 5 // 4)
 
     def test_empty_chunks(self):
-        """Chunks without bytes count what it takes to know of them."""
+        """Empty chunks count with their overhead."""
         for number in range(1, 5):
             for peer in range(1, 101):
                 for index in range(0, 4000, 4):
@@ -202,7 +202,7 @@ class Two(unittest.TestCase):
         self.assertGreater(kept, 4000)
 
     def test_contradicting_counts(self):
-        """A batch whose chunks tell several counts comes whole for one that fits, or never."""
+        """A batch with contradicting counts becomes complete for a fitting one, or never."""
         packed = packed_batch(joined(typed(1)), 0, b"")
         self.assertEqual(self.far.take(1, 1, 5, 9, b"x"), [])
         self.assertEqual(self.far.take(1, 1, 0, 1, packed), [])
@@ -210,10 +210,10 @@ class Two(unittest.TestCase):
 
 
 class Packing(unittest.TestCase):
-    """What is packed, unpacked and refused."""
+    """Packing, unpacking, and refusals."""
 
     def test_bytes(self):
-        """The base stands first; then deflate without a header, or LZMA2."""
+        """The base comes first; then deflate without a header, or LZMA2."""
         text = joined(typed(1))
         self.assertEqual(packed_batch(text, 7, b"")[:4], bytes(4))
         self.assertEqual(packed_batch(text, 7, text)[:4], b"\0\0\0\7")
@@ -221,7 +221,7 @@ class Packing(unittest.TestCase):
         self.assertEqual(packed_batch(bytes(LARGE + 1), 7, text)[:4], b"\xff" * 4)
 
     def test_unpacked(self):
-        """What can't be read, has no end, or is too long is nothing."""
+        """Invalid, incomplete and too long input gives nothing."""
         small, large = packed_batch(b"text", 0, b""), packed_batch(bytes(9000), 0, b"")
         self.assertEqual(unpacked_batch(small, {}, 4), b"text")
         self.assertEqual(unpacked_batch(large, {}, 9000), bytes(9000))
@@ -232,21 +232,21 @@ class Packing(unittest.TestCase):
         self.assertNotIn(LARGE_BASE, (0, MOST_BATCHES))
 
     def test_parted(self):
-        """Texts stand behind their lengths; none is empty or cut."""
+        """Texts follow their lengths; none is empty or cut."""
         self.assertEqual(parted(joined([b"a", b"bcd"])), [b"a", b"bcd"])
         self.assertEqual(parted(b""), [])
         for text in (b"\0", b"\0\0", b"\0\1", b"\0\1a\0", b"\0\1a\0\0", b"\xff\xffa"):
             self.assertIsNone(parted(text))
 
     def test_state(self):
-        """What an end tells of itself is short; what claims to be a datagram and is none is dropped."""
+        """The state of an end is short; an invalid datagram is dropped."""
         far = Batches()
         self.assertEqual(far.take(0, 1, 0, 1, packed_batch(joined([b"e", b"p1"]), 0, b"")), [b"e", b"p1"])
         self.assertEqual(far.take(0, 2, 0, 1, packed_batch(joined([b"p" * LONGEST_STATE]), 0, b"")), [])
         self.assertEqual(far.take(5, 3, 0, 1, packed_batch(joined([b"e", *typed(1), bytes(50)]), 0, b"")), typed(1))
 
     def test_kept(self):
-        """The newest texts are kept, so many and so much of them, and the newest whatever its length."""
+        """The newest texts are stored, up to limits of number and size, and the newest whatever its length."""
         texts = {number: bytes(100) for number in range(1, 9)}
         self.assertEqual(sorted(batches.kept_texts(texts, 3, 10_000)), [6, 7, 8])
         self.assertEqual(sorted(batches.kept_texts(texts, 8, 250)), [7, 8])
@@ -259,23 +259,23 @@ class Packing(unittest.TestCase):
 
 
 class Hastes(unittest.TestCase):
-    """Which instructions have to come, and which are told again anyway."""
+    """The instructions that have to arrive, and those that are repeated anyway."""
 
     def haste(self, texts, before=None):
-        """How an instruction goes behind another."""
+        """Return the way to send an instruction after another."""
         near = Batches()
         if before:
             near.begin(1, before)
         return near.haste(1, texts)
 
     def test_client(self):
-        """A client's goes until it has arrived where it has acts, and the first always."""
+        """A client's instruction is sent until it has arrived if it has acts, and the first one always."""
         self.assertEqual(self.haste(typed(1, count=0)), NOW)
         self.assertEqual(self.haste(typed(2), typed(1)), NOW)
         self.assertEqual(self.haste(typed(2, count=0), typed(1)), ONCE)
 
     def test_server(self):
-        """A server's repeat goes once; one that changes nothing that is seen waits; all else goes at once."""
+        """A server's repeat is sent once; one without visible news waits; all others are sent at once."""
         for change in (bytes(7), bytes(4)):
             self.assertEqual(self.haste(shown(3, 1, change), shown(2, 0, change)), SOON, "no cell")
         self.assertEqual(self.haste(shown(2), shown(2)), ONCE, "a repeat")
@@ -286,13 +286,13 @@ class Hastes(unittest.TestCase):
         self.assertEqual((self.haste(long, long), self.haste(shown(4), long)), (NOW, SOON), "long ones")
 
     def test_state(self):
-        """What an end tells of itself goes until it has arrived."""
+        """The state of an end is sent until it has arrived."""
         near = Batches()
         near.begin(0, [b"e"])
         self.assertEqual(near.haste(0, [b"e"]), NOW)
 
     def test_saying(self):
-        """What is said doesn't depend on numbers of datagrams; long texts are known by their sum."""
+        """The contents are independent of datagram numbers; long texts are known by their hash."""
         self.assertEqual(batches.saying(typed(1)), typed(1)[0][42:])
         long = [datagrams(number, noise(4000)) for number in (1, 2)]
         self.assertEqual(*map(batches.saying, long))

@@ -1,4 +1,4 @@
-"""Borders: whose own split one is, by the rectangles of panes, and how one is dragged."""
+"""Borders: their owners, by the rectangles of panes, and drags."""
 import random
 import unittest
 
@@ -13,37 +13,37 @@ AREA = Rect(1, 1, 23, 80)
 
 
 class Played:
-    """A session's panes, which are split, grow and are closed as a layout has it."""
+    """A session's panes with splits, growth and closes by the layout's rules."""
 
     def __init__(self, area=AREA):
         self.area, self.parts, self.shifts, self.focus = area, 1, {}, 1
 
     def rects(self):
-        """The rectangles by pane."""
+        """Return the rectangles by pane."""
         return dict(sorted(self.filled(self.parts, self.area)))
 
     def length(self, split, rect):
-        """How long the first part of a split is: its middle and what it grew by, as far as both have room."""
+        """Return the length of a split's first part: its middle plus its growth, as far as both parts have room."""
         whole = rect.cols if split.way == "right" else rect.rows
         most = whole - 1 - least_of(split.second, split.way)
         return min(max((whole - 1) // 2 + self.shifts.get(split, 0), least_of(split.first, split.way)), most)
 
     def halves(self, split, rect):
-        """The rectangles of both parts of a split."""
+        """Return the rectangles of both parts of a split."""
         first = self.length(split, rect)
         if split.way == "right":
             return rect._replace(cols=first), rect._replace(col=rect.col + first + 1, cols=rect.cols - first - 1)
         return rect._replace(rows=first), rect._replace(row=rect.row + first + 1, rows=rect.rows - first - 1)
 
     def filled(self, parts, rect):
-        """The panes of parts that fill a rectangle, and theirs."""
+        """Return the panes of parts that fill a rectangle, and their rectangles."""
         if isinstance(parts, int):
             return [(parts, rect)]
         first, second = self.halves(parts, rect)
         return self.filled(parts.first, first) + self.filled(parts.second, second)
 
     def changed(self, parts, old, new):
-        """Parts with one of them in another's place; what grew keeps what it grew by."""
+        """Replace one part, and keep the growth."""
         if parts == old:
             return new
         if isinstance(parts, int):
@@ -54,34 +54,34 @@ class Played:
         return made
 
     def own(self, pane, parts=None):
-        """The split that is a pane's own."""
+        """Return a pane's own split."""
         parts = self.parts if parts is None else parts
         if isinstance(parts, int):
             return None
         return parts if pane in (parts.first, parts.second) else self.own(pane, parts.first) or self.own(pane, parts.second)
 
     def split(self, pane, way):
-        """Splits a pane, where it has room."""
+        """Split a pane if there is room."""
         rect, numbers = self.rects()[pane], panes_of(self.parts)
         if len(numbers) < 9 and (rect.cols if way == "right" else rect.rows) > 2 * LEAST[way]:
             number = next(number for number in range(1, 10) if number not in numbers)
             self.parts = self.changed(self.parts, pane, PaneSplit(way, pane, number))
 
     def close(self, pane):
-        """Closes a pane, where it isn't the last."""
+        """Close a pane unless it is the last."""
         own = self.own(pane)
         if own:
             self.parts = self.changed(self.parts, own, own.second if own.first == pane else own.first)
 
     def rect_of(self, split, parts, rect):
-        """The rectangle of a split, which stands in parts that fill one."""
+        """Return the rectangle of a split inside parts that fill one."""
         if parts is split or isinstance(parts, int):
             return rect if parts is split else None
         first, second = self.halves(parts, rect)
         return self.rect_of(split, parts.first, first) or self.rect_of(split, parts.second, second)
 
     def grow(self, pane, by):
-        """Grows a pane along its own split, where that has room; whether it has."""
+        """Grow a pane along its own split, and return True if there is room."""
         own = self.own(pane)
         rect = self.rect_of(own, self.parts, self.area) if own else None
         if not rect:
@@ -94,7 +94,7 @@ class Played:
 
 
 def played(seed, closes=0):
-    """A session by chance: some splits and growths, and so many closes among them."""
+    """Return a random session: some splits and growths, and so many closes among them."""
     chance, session = random.Random(seed), Played()
     steps = ["split"] * chance.randint(1, 10) + ["grow"] * 4
     chance.shuffle(steps)
@@ -112,16 +112,16 @@ def played(seed, closes=0):
 
 
 class Splits(unittest.TestCase):
-    """Which splits there are."""
+    """The splits of a session."""
 
     def test_known(self):
-        """Where none was closed the rectangles and numbers tell the splits, whatever grew."""
+        """If no pane was closed, rectangles and numbers determine the splits, whatever grew."""
         for seed in range(60):
             session = played(seed)
             self.assertEqual(splits_of(session.rects()), session.parts, (seed, session.rects()))
 
     def test_some(self):
-        """Where some were closed the splits that are told have the same rectangles."""
+        """If some were closed, the determined splits have the same rectangles."""
         for seed in range(60):
             rects = played(seed, 3).rects()
             again = Played()
@@ -130,7 +130,7 @@ class Splits(unittest.TestCase):
             self.assertEqual(sorted(panes_of(again.parts)), sorted(rects))
 
     def test_none(self):
-        """Rectangles that no splits make have none, and aren't searched for long."""
+        """Rectangles without a layout have no splits, and aren't searched for long."""
         wheel = {1: Rect(1, 1, 5, 20), 2: Rect(1, 22, 11, 9), 3: Rect(7, 1, 11, 9), 4: Rect(13, 11, 5, 20), 5: Rect(7, 11, 5, 10)}
         self.assertIsNone(splits_of(wheel))
         self.assertIsNone(splits_of({pane: Rect(pane, pane, 5, 9) for pane in range(1, 10)}))
@@ -142,7 +142,7 @@ class Splits(unittest.TestCase):
         self.assertEqual(ways, ["right", "down", "", ""])
 
     def test_borders(self):
-        """Each place is a pane's or a border's."""
+        """Each position belongs to a pane or a border."""
         for seed in (7, 8):
             session = played(seed)
             rects = session.rects()
@@ -155,7 +155,7 @@ class Splits(unittest.TestCase):
                         self.assertEqual(border.at(rects), col if border.way == "right" else row)
 
     def test_grown(self):
-        """A pane whose own split a border is moves it by growing, up to where it is told that it goes, and no further."""
+        """A pane that owns a border moves it by growing, up to the expected position and no further."""
         for seed in range(6):
             for pane, sign, border in borders_of(played(seed).rects()):
                 for at in (border.least, border.most, border.least - 1, border.most + 1):
@@ -167,7 +167,7 @@ class Splits(unittest.TestCase):
 
 
 def borders_of(rects):
-    """The borders of panes that have some, each with a pane whose own split it is."""
+    """Return the borders of panes, each with a pane that owns it."""
     places = [place for rect in rects.values() for place in ((rect.row, end_of(rect, "right")), (end_of(rect, "down"), rect.col))]
     found = {str(border): border for border in (border_at(rects, *place) for place in places) if border}
     return [(pane, sign, border) for border in found.values() for pane, sign in border.leaves]
@@ -177,7 +177,7 @@ class Dragged(Pointed):
     """A border that is dragged at a terminal."""
 
     def session(self, played_session, focus=1):
-        """A person who has the mouse at a session that is played."""
+        """Return a user with the mouse at a simulated session."""
         self.played = played_session
         self.played.focus = focus
         self.dragging = self.person({}, Places(self.played.rects(), focus, 1))
@@ -186,7 +186,7 @@ class Dragged(Pointed):
         return self.dragging
 
     def take(self):
-        """Has the session take what was typed, and tell of it."""
+        """Let the session take input, and report."""
         acts = [act for line in self.dragging.said() for act in line.split(" ; ")]
         self.heard += acts
         for act in acts:
@@ -198,7 +198,7 @@ class Dragged(Pointed):
         self.dragging.tell(Places(self.played.rects(), self.played.focus, 1))
 
     def drag(self, *reports):
-        """Has the mouse report, with the session taking all between; what the session was told in all."""
+        """Report mouse events, with the session's turns in between, and return all its acts."""
         for one in reports:
             self.dragging.keyboard.fed(f"\x1b[<{one[0]};{one[2]};{one[1]}{'m' if one[3:] else 'M'}".encode())
             for _ in range(3):
@@ -208,7 +208,7 @@ class Dragged(Pointed):
         return self.heard
 
     def test_moves(self):
-        """It goes with the mouse, by the pane whose own split it is, and the focus is where it was."""
+        """It follows the mouse by the pane that owns it, and the focus is restored."""
         session = Played()
         session.split(1, "right")
         session.split(2, "down")
@@ -221,7 +221,7 @@ class Dragged(Pointed):
         self.assertEqual((session.rects()[2].rows, self.drag((32, 9, 60), (32, 9, 61, True))), (7, self.heard))
 
     def test_limits(self):
-        """It goes as far as the panes have room, also where the mouse goes on, over the last row and out of the session."""
+        """It moves as far as the panes have room, even if the mouse continues over the last row and out of the session."""
         session = Played()
         session.split(1, "right")
         session.split(2, "right")
@@ -232,7 +232,7 @@ class Dragged(Pointed):
         self.assertEqual([rect.cols for rect in session.rects().values()][:1], [4])
 
     def test_each(self):
-        """Wherever it is taken a border of splits that are known goes where it is dragged, and no other of them."""
+        """Wherever it is taken, a border of known splits moves to the mouse, and no other does."""
         for seed in range(6):
             for _, _, border in borders_of(played(seed).rects()):
                 self.session(played(seed))
@@ -246,7 +246,7 @@ class Dragged(Pointed):
                 self.assertEqual((session.focus, self.dragging.commands.pointing.border), (1, None))
 
     def test_waits(self):
-        """One growth follows another once what came of that is told; the mouse goes on meanwhile."""
+        """Each growth follows the report of the previous one's effect; the mouse moves on meanwhile."""
         session = Played()
         session.split(1, "right")
         person = self.session(session)
@@ -258,7 +258,7 @@ class Dragged(Pointed):
         self.assertEqual((session.rects()[1].cols, person.commands.pointing.border), (49, None))
 
     def test_refused(self):
-        """A growth of which nothing comes is given up a quarter of a second after it was taken; the border can be dragged on."""
+        """A step without effect is given up a quarter of a second after it was taken; the drag can continue."""
         session = Played()
         session.split(1, "right")
         person = self.session(session)
@@ -277,7 +277,7 @@ class Dragged(Pointed):
         self.assertEqual((session.rects()[1].cols, person.commands.pointing.border), (45, None))
 
     def test_other_splits(self):
-        """Where a growth moves another border it is undone, and the pane on the other side tried; where none moves it that is told."""
+        """A growth that moves another border is undone, and the pane on the other side tried; if none moves it, that is reported."""
         session = Played(Rect(1, 1, 23, 79))
         session.parts = PaneSplit("right", PaneSplit("right", PaneSplit("right", 1, 2), 3), 4)
         self.session(session)
@@ -296,7 +296,7 @@ class Dragged(Pointed):
         self.assertEqual((session.rects(), person.display.row.told, person.commands.pointing.border), (before, NO_PANE, None))
 
     def test_lost(self):
-        """Where its button was let go unseen, or something stands in the session's place, it is dragged no more."""
+        """The drag ends if the release was missed, or if a notice covers the session."""
         session = Played()
         session.split(1, "right")
         person = self.session(session)
@@ -310,11 +310,12 @@ class Dragged(Pointed):
 
 
 class Anywhere(Pointed):
-    """Whatever is pointed at, in whichever order."""
+    """Mouse events at any position, in any order."""
 
     def test_inside(self):
-        """A program is sent reports that it asked for, in its form, for places inside of its pane, and where roam hasn't the mouse none is
-        sent past the pane in focus."""
+        """A program gets the reports that it requested, in its form, for positions inside its pane. Without roam's own mouse only the
+        focused pane gets some.
+        """
         kinds, count = ("", "buttons", "drags sgr", "motion sgr", "motion", "buttons sgr other", "other"), 0
         for seed in range(12):
             chance, rects = random.Random(seed), played(seed).rects()
@@ -334,7 +335,7 @@ class Anywhere(Pointed):
         self.assertGreater(count, 100)
 
     def read(self, text, modes):
-        """The report that a program with these modes reads."""
+        """Return the report that a program with these modes reads."""
         if "sgr" in modes:
             return report_of(text)
         self.assertTrue(text.startswith("\x1b[M") and len(text) == 6 and max(text) <= "\x7f", text)
@@ -343,7 +344,7 @@ class Anywhere(Pointed):
 
 
 def place_of(border, rects):
-    """A place of a border."""
+    """Return a position on a border."""
     rect = rects[border.before]
     return (rect.row, end_of(rect, "right")) if border.way == "right" else (end_of(rect, "down"), rect.col)
 

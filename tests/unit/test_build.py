@@ -1,4 +1,4 @@
-"""tools/build: which crates have to be proved, in which order, and what a build does with them."""
+"""tools/build: the crates to prove, their order, and their build."""
 import importlib.machinery
 import importlib.util
 import io
@@ -45,7 +45,7 @@ class Proof:
 
 
 class Reading(Case):
-    """crates.txt, and what is derived from it."""
+    """crates.txt, and the data derived from it."""
 
     def test_crates(self):
         """Each line is a crate, with the crates of the repository below it, and its seconds if they were measured."""
@@ -58,7 +58,7 @@ class Reading(Case):
         self.assertEqual(tool.needed(CRATES, "roam"), ["low", "left", "right", "roam"])
 
     def test_ways(self):
-        """The longest way from each crate to the end."""
+        """The longest chain from each crate to the end."""
         self.assertEqual(tool.ways(CRATES, tool.needed(CRATES, "roam")), {"low": 160.0, "left": 150.0, "right": 70.0, "roam": 50.0})
 
     def test_threads(self):
@@ -68,7 +68,7 @@ class Reading(Case):
 
 
 class Stale(Case):
-    """Which crates have to be proved."""
+    """The crates that have to be proved."""
 
     def setUp(self):
         self.top = self.made_folder()
@@ -79,18 +79,18 @@ class Stale(Case):
             self.write(name, "out/built", crate.line, 200)
 
     def write(self, name, file, text, moment):
-        """Writes a file of a crate, as at a moment, and gives its folder the moment of the sources."""
+        """Write a file of a crate with a time, and give its folder the time of the sources."""
         place = self.top / "crates" / name / file
         place.write_text(text, encoding="utf-8")
         os.utime(place, (moment, moment))
         os.utime(place.parent, (100, 100))
 
     def stale(self, goal="roam"):
-        """What has to be proved for a goal."""
+        """Return the crates to prove for a goal."""
         return tool.stale(self.top, CRATES, tool.needed(CRATES, goal))
 
     def test_none(self):
-        """Nothing has to be proved if each stamp is newer than what it stands for."""
+        """Nothing has to be proved if each stamp is newer than its inputs."""
         self.assertEqual(self.stale(), [])
 
     def test_source(self):
@@ -99,7 +99,7 @@ class Stale(Case):
         self.assertEqual((self.stale(), self.stale("show")), (["left", "roam"], []))
 
     def test_folder(self):
-        """So does a file that was removed, which its folder tells."""
+        """So does a removed file, because its folder changes."""
         os.utime(self.top / "crates/right/src", (300, 300))
         self.assertEqual(self.stale(), ["right", "roam"])
 
@@ -117,10 +117,10 @@ class Stale(Case):
 
 
 class Planned(Case):
-    """The order, and the time that is left."""
+    """The order, and the remaining time."""
 
     def test_order(self):
-        """The longest way goes first; what an earlier goal needs goes before what only a later one needs."""
+        """The longest chain goes first; the needs of an earlier goal precede those of only a later one."""
         names = ["low", "left", "right", "roam", "small", "show"]
         self.assertEqual(tool.Plan.of(CRATES, ["roam", "show"], names).left, ["low", "left", "right", "roam", "small", "show"])
         self.assertEqual(tool.Plan.of(CRATES, ["show", "roam"], names).left, ["low", "small", "show", "left", "right", "roam"])
@@ -131,7 +131,7 @@ class Planned(Case):
         self.assertEqual((plan.ready([]), plan.ready(["low"])), (["left", "right"], []))
 
     def test_minutes(self):
-        """The time left is the longest way or the sum by processors, at the pace of this machine."""
+        """The time left is the longest chain or the sum by processors, at the pace of this machine."""
         plan = tool.Plan.of(CRATES, ["roam"], ["right", "roam"])
         self.assertEqual(plan.minutes({}, 4), 70 / 60)
         self.assertEqual(plan.minutes({"left": 40.0}, 4), 110 / 60)
@@ -143,7 +143,7 @@ class Built(Case):
     """A build of proofs that end at once."""
 
     def build(self, goals, left, jobs=2, failing=()):
-        """A build, what it starts, and what it tells."""
+        """Return a build, the proofs that it starts, and its output."""
         self.started, self.told = [], []
 
         def prove(name, threads):
@@ -153,7 +153,7 @@ class Built(Case):
         return tool.Build(tool.Plan.of(CRATES, goals, left), jobs, prove, self.told.append)
 
     def test_whole(self):
-        """Each crate is proved once, and a line says how many are done."""
+        """Each crate is proved once, and a line shows how many are done."""
         build = self.build(["roam"], ["low", "left", "right", "roam"])
         self.assertTrue(build.run())
         self.assertEqual([name for name, _ in self.started], ["low", "left", "right", "roam"])
@@ -162,13 +162,13 @@ class Built(Case):
                          ["1 of 4 crates", "2 of 4 crates", "3 of 4 crates", "4 of 4 crates"])
 
     def test_failed(self):
-        """Nothing is started behind a proof that failed; those that run end."""
+        """After a failed proof nothing new is started; running ones end."""
         build = self.build(["roam"], ["low", "left", "right", "roam"], failing=("left",))
         self.assertFalse(build.run())
         self.assertEqual(([name for name, _ in self.started], build.failed), (["low", "left", "right"], ["left"]))
 
     def test_until(self):
-        """A build stops at the first goal, and goes on from there."""
+        """A build stops at the first goal, and continues from there."""
         build = self.build(["show", "roam"], ["low", "small", "show", "left", "right", "roam"], jobs=1)
         self.assertTrue(build.run(until="show"))
         self.assertEqual([name for name, _ in self.started], ["low", "small", "show"])
@@ -176,7 +176,7 @@ class Built(Case):
         self.assertEqual([name for name, _ in self.started][3:], ["left", "right", "roam"])
 
     def test_stopped(self):
-        """A build that is stopped ends the proofs that run."""
+        """A stopped build ends its running proofs."""
         build = self.build(["roam"], ["low"])
         build.start_ready()
         proof = build.running["low"][0]
@@ -185,10 +185,10 @@ class Built(Case):
 
 
 class Told(Case):
-    """How a build shows its lines."""
+    """The lines of a build."""
 
     def shown(self, is_terminal):
-        """What two lines come to."""
+        """Return the output of two lines."""
         stream = io.StringIO()
         stream.fileno = lambda: 9
         self.patch_of(tool.os, "isatty", lambda descriptor: is_terminal)

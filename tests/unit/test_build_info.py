@@ -1,4 +1,4 @@
-"""Which build of roam this is, by the file of an installed one and in a clone."""
+"""The build of this roam, by the file of an installed one and in a clone."""
 import io
 import subprocess
 import sys
@@ -15,7 +15,7 @@ FILE = "version 1.2.3\ncommit 0123456789ab\nkit kit-7 logic ff\ngate 215 passed,
 
 
 class Build(Case):
-    """`build`, `version` and `identity`, with files that are made here."""
+    """Tests of `build`, `version` and `identity`, with generated files."""
 
     def setUp(self):
         self.folder = self.made_folder()
@@ -23,7 +23,7 @@ class Build(Case):
         self.patch_of(build_info, "CLONE", self.folder)
 
     def test_installed(self):
-        """The file says all; no program is asked."""
+        """The file contains everything; no program is asked."""
         build_info.INSTALLED.write_text(FILE, encoding="ascii")
         with mock.patch.object(subprocess, "run", side_effect=AssertionError):
             self.assertEqual(build(), BuildInfo("1.2.3", "0123456789ab", "kit-7 logic ff", "215 passed, 0 failed"))
@@ -31,7 +31,7 @@ class Build(Case):
             self.assertEqual((version(), identity()), ("1.2.3", "1.2.3 0123456789ab"))
 
     def test_odd_file(self):
-        """Values are printable and bounded, lines of other names are passed over, and what is missing is unknown."""
+        """Values are printable and bounded, unknown names are skipped, and missing values are unknown."""
         build_info.INSTALLED.write_bytes(b"version 1\x1b[c\nother x\n\ncommit\nkit " + b"k" * 300 + b"\xff\n")
         found = build()
         self.assertEqual((found.version, found.commit, found.gate), ("1?[c", "unknown", "unknown"))
@@ -39,7 +39,7 @@ class Build(Case):
         self.assertEqual(identity(), "1?[c")
 
     def test_clone(self):
-        """In a clone the version is in a file, and git and the kit are asked for the rest, which may be missing."""
+        """In a clone the version is in a file; the rest comes from git and the kit, which may be missing."""
         (self.folder / "VERSION").write_text("3.4.5\n", encoding="ascii")
         self.assertEqual((version(), identity()), ("3.4.5", "3.4.5"))
         answers = {"git": b"fedcba987654\n", "rt": b"kit-8 logic ee\n"}
@@ -50,7 +50,7 @@ class Build(Case):
                 self.assertEqual(build().line(), "roam 3.4.5 (commit unknown, unknown)")
 
     def test_nothing(self):
-        """With no file nothing is known."""
+        """Without a file nothing is known."""
         self.assertEqual((version(), identity()), ("unknown", "unknown"))
 
     def test_tools(self):
@@ -66,7 +66,7 @@ class Build(Case):
         self.assertEqual(ended.exception.code, 3)
 
     def test_terminal(self):
-        """A program that asks for the terminal's name is told the version."""
+        """A program that queries the terminal's name gets the version."""
         build_info.INSTALLED.write_text(FILE, encoding="ascii")
         found = query_in("query 1 1 version")
         self.assertEqual(found.answer(Colours(), True), b"\x1bP>|roam 1.2.3\x1b\\")

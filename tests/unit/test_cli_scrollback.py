@@ -1,4 +1,4 @@
-"""`mux capture` of rows, `mux log` and `mux buffer`: what they ask a host that is played by hand, and what they print."""
+"""`mux capture` of rows, `mux log` and `mux buffer`: their requests to a simulated host, and their output."""
 import io
 import sys
 import types
@@ -17,7 +17,7 @@ class Texts(Case):
     """Rows as texts."""
 
     def test_text(self):
-        """Characters alone, or with styles; nothing else reaches a terminal, whoever printed it."""
+        """The text has characters alone, or with styles; nothing else reaches a terminal, whatever its source."""
         row = b" a\x1b[1;38:2::1:2:3mb\xc3\xa9\x1b[0m c"
         self.assertEqual(text_of(row, False), "ab\u00e9 c")
         self.assertEqual(text_of(row, True), "a\x1b[1;38:2::1:2:3mb\u00e9\x1b[0m c")
@@ -27,7 +27,7 @@ class Texts(Case):
                 self.assertTrue(found.isprintable(), found)
 
     def test_joined(self):
-        """Rows that went on are lines of their own, or one line with the next; the last ends."""
+        """Soft-wrapped rows are lines of their own, or one line with the next; the last one ends."""
         for is_joined, told in ((False, "a\nb\nc\nd\n"), (True, "abc\nd\n")):
             found = []
             writer = RowWriter(found.append, False, is_joined)
@@ -39,7 +39,7 @@ class Texts(Case):
 
 
 class Asked(Rows):
-    """What is asked of a host that takes its turns while an answer is waited for."""
+    """Requests to a host that takes its turns while a command waits for the answer."""
 
     def setUp(self):
         super().setUp()
@@ -56,7 +56,7 @@ class Asked(Rows):
         self.patch_of(sys, "stdout", self.out)
 
     def ready(self, end, events, seconds):
-        """What can be done at an end, once the host took turns, and its filter printed what it is to print next."""
+        """Return the ready events of an end, after the host's turns and its scrollback process's next output."""
         self.loop.turns(4)
         if self.filter and self.fake.taken():
             self.fake.prints(self.filter.pop(0))
@@ -64,7 +64,7 @@ class Asked(Rows):
         return ready(end, events, min(seconds, 0.01))
 
     def printed_by(self, does, *words):
-        """What a command prints."""
+        """Return the output of a command."""
         self.out.buffer.seek(0)
         self.out.buffer.truncate()
         self.assertEqual(does(self.session, *words), 0)
@@ -72,7 +72,7 @@ class Asked(Rows):
         return self.out.buffer.getvalue().decode()
 
     def refuses(self, told, does, *words):
-        """Has a command refuse."""
+        """Check that a command refuses."""
         with self.assertRaises(Fault) as fault:
             does(self.session, *words)
         self.assertEqual(str(fault.exception), told)
@@ -82,12 +82,12 @@ class Rowed(Asked):
     """Rows."""
 
     def captured(self, begin, end, has_styles=False, is_joined=False):
-        """The rows that are captured, of three that left, and two of the screen."""
+        """Return the captured rows, of three scrolled-off ones and two of the screen."""
         self.filter = [b"screen 0 2 15\n+s\x1b[1mx\x1b[0m\n t\n"]
         return self.printed_by(scrollback.capture_rows, 0, begin, end, has_styles, is_joined)
 
     def test_captured(self):
-        """From row to row, in either order, as tmux counts them: the nearest for one that isn't there."""
+        """A range of rows, in either order, with tmux's numbers: the nearest row for a missing one."""
         left, shown = "Alpha\nbe\nta\n", "sx\nt\n"
         for begin, end, told in ((None, None, shown), ("-", None, left + shown), ("-1", "-1", "ta\n"), ("-2", "0", "be\nta\nsx\n"),
                                  ("-99", "99", left + shown), ("0", "-1", "ta\nsx\n"), ("1", "-", "t\n"), (None, "-3", left + "sx\n"),
@@ -101,7 +101,7 @@ class Rowed(Asked):
         self.assertEqual(self.captured("-2", "-2", False, True), "be\n")
 
     def test_many(self):
-        """More rows than are told at once."""
+        """Print more rows than one answer has."""
         rows = self.scrollback.panes[1].rows
         rows.room.most_rows = 10_000
         for number in range(50):
@@ -109,7 +109,7 @@ class Rowed(Asked):
         self.assertEqual(self.captured("-5000", "-1"), "".join(f"row {number} of some\n" for number in range(5000)))
 
     def test_refused(self):
-        """Words that name no row; a pane of which no rows are kept, and a host that doesn't answer, or isn't there."""
+        """Words that name no row, a pane without stored rows, and a missing or silent host are refused."""
         self.filter = [b"screen 0 1 3\n s\n"] * 4
         for word in ("x", "--", "-x", "1.5", "", "1" * 10, "+1"):
             self.filter = [b"screen 0 1 3\n s\n"]
@@ -126,7 +126,7 @@ class Rowed(Asked):
         self.refuses(told, scrollback.capture_rows, 0, "0", None, False, False)
 
     def test_log(self):
-        """Rows as they come, and the last screen; rows that were kept no longer are told."""
+        """It prints rows as they come, and the last screen; dropped rows are reported."""
         steps = [lambda: None, lambda: self.prints(b"rows 0 2 6\n+c\n d\n"),
                  lambda: [self.scrollback.panes[1].rows.add(100, b" x\n" * 100) for _ in range(2)] and self.scrollback.came(),
                  lambda: self.scrollback.drop(1), lambda: self.prints(b"screen 0 2 6\n s\n  \n")]
@@ -142,7 +142,7 @@ class Rowed(Asked):
         self.assertEqual(told, "cd\n[100 rows were kept no longer]\n" + "x\n" * 100 + "s\n")
 
     def test_log_ended(self):
-        """A host that ends meanwhile."""
+        """A host that ends meanwhile is handled."""
         def step(end, events, seconds):
             self.loop.turns(4)
             if not events & scrollback.WRITE:
@@ -157,7 +157,7 @@ class Buffered(Asked):
     """Buffers."""
 
     def test_kept(self):
-        """What is set is listed, the newest first, and shown; nothing but characters to a terminal."""
+        """A set buffer is listed, the newest first, and printed; a terminal gets only characters."""
         self.refuses("session main has no buffer", scrollback.show_buffer, None)
         self.assertEqual(self.printed_by(scrollback.set_buffer, "one\x1b[2J"), "")
         with mock.patch.object(sys, "stdin", types.SimpleNamespace(buffer=io.BytesIO(b"two\n\tb\xff\n"))):
@@ -172,12 +172,12 @@ class Buffered(Asked):
         self.refuses("'x' is not a buffer's number; `mux buffer list main` lists them", scrollback.show_buffer, "x")
 
     def test_refused(self):
-        """One that is empty, or too long."""
+        """An empty or too long one is refused."""
         self.refuses(BUFFER_EMPTY, scrollback.set_buffer, "")
         self.refuses(BUFFER_TOO_LONG, scrollback.set_buffer, "x" * (MOST_BUFFER + 1))
 
     def test_pasted(self):
-        """A buffer's mark is typed once the host holds it as a text."""
+        """A buffer's placeholder is typed once the host has stored the buffer as a text."""
         self.socket.uploads.buffers.add(b"one\ntwo")
         typed = []
 
@@ -195,7 +195,7 @@ class Buffered(Asked):
         self.refuses("session main: no buffer has this number. Nothing was typed", scrollback.put_buffer, "7", 0)
 
     def test_no_answer(self):
-        """A host that tells of no buffers, takes none or ends, or that isn't there, is told of."""
+        """A host without support for buffers, one that refuses or ends, and a missing one are reported."""
         with mock.patch.object(self.socket.uploads, "take_buffer_line", lambda peer, line: False):
             self.refuses("session main: the pty host did not list its buffers", scrollback.list_buffers)
             self.refuses("session main: the buffer was not stored", scrollback.set_buffer, "a")
@@ -208,6 +208,6 @@ class Buffered(Asked):
         self.refuses("session main: its pty host is not running; `mux main` restarts it", paste.paste_buffer, 1, 0)
 
     def test_nonsense(self):
-        """A host that tells what can't be."""
+        """A host that sends invalid answers."""
         with mock.patch.object(self.socket, "take_line", lambda peer, number, line: self.socket.send(peer, ["buffers [2J"])):
             self.refuses("session main: invalid answer from the pty host: buffers ?[2J", scrollback.list_buffers)

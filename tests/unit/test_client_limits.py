@@ -1,4 +1,4 @@
-"""How new client processes of other machines come to a server: over all far ends together, by a clock that is played."""
+"""New client processes of other machines at a server: over all far ends together, with a simulated clock."""
 import itertools
 import os
 import struct
@@ -10,12 +10,12 @@ SESSION = 0x5E55
 
 
 def datagram(name, kind=READ_WRITE, session=SESSION, version=2):
-    """A datagram of a client."""
+    """Return a datagram of a client."""
     return struct.pack(">2sBBQQ", b"RM", version, kind, session, name) + bytes(23)
 
 
 class Served(Case):
-    """A window whose server is played: it knows each client whose datagram comes."""
+    """A window with a simulated server: it knows each client whose datagram arrives."""
 
     def setUp(self):
         self.folder, self.now = self.made_folder(), 1000.0
@@ -24,16 +24,16 @@ class Served(Case):
         self.tells = True
 
     def counts(self, folder):
-        """How many the server tells that it knows."""
+        """Set the number of clients that the server reports."""
         self.assertEqual(folder, str(self.folder))
         return {kind: len(names) for kind, names in self.known.items()} if self.tells else None
 
     def far_end(self, folder=None):
-        """What a far end, a process of its own, lets through."""
+        """Return the limit of a far end, in a process of its own."""
         return ClientLimit(str(folder or self.folder), lambda: self.now, self.counts)
 
     def says(self, far, name, kind=READ_WRITE):
-        """Whether a client's datagram comes to the server."""
+        """Return True if a client's datagram reaches the server."""
         if far.passes(datagram(name, kind)):
             self.known[kind].add(name)
             return True
@@ -41,10 +41,10 @@ class Served(Case):
 
 
 class Passes(Served):
-    """Which starts pass."""
+    """The starts that pass."""
 
     def test_known(self):
-        """Two new ones pass at once, then one in ten seconds, over all far ends together; one that is known always does, at any of them."""
+        """Two new ones pass at once, then one every ten seconds, over all far ends together; a known one always passes, at any of them."""
         one, other = self.far_end(), self.far_end()
         self.assertEqual([self.says(far, name) for far, name in ((one, 1), (other, 2), (one, 3), (other, 4))], [True, True, False, False])
         self.now += 9.9
@@ -57,7 +57,7 @@ class Passes(Served):
         self.assertEqual([self.says(far, name) for far in (one, other, self.far_end()) for name in (1, 2, 3, 10, 11)], [True] * 15)
 
     def test_spent(self):
-        """One connection that brings starts without end leaves the last 16 of 64, and those that are known go on."""
+        """A connection that brings starts without end leaves the last 16 of 64, and known ones continue."""
         names = itertools.count(1)
         self.known[READ_WRITE].update(range(1000, 1010))
         for _ in range(500):
@@ -70,12 +70,12 @@ class Passes(Served):
         self.assertFalse(self.says(self.far_end(), 9999))
 
     def test_late(self):
-        """A server that hasn't counted yet what was let through just now counts as if it had."""
+        """A server that hasn't counted a recent client yet is treated as if it had."""
         self.known[READ_WRITE].update(range(1000, 1047))
         self.assertEqual([self.far_end().passes(datagram(name)) for name in (1, 2)], [True, False])
 
     def test_untold(self):
-        """Where the server doesn't tell how many it knows those count that were let through."""
+        """If the server reports no count, the passed clients count."""
         self.tells = False
         for name in range(100):
             self.says(self.far_end(), name)
@@ -83,7 +83,7 @@ class Passes(Served):
         self.assertEqual(len(self.known[READ_WRITE]), 48)
 
     def test_watchers(self):
-        """Those that watch are counted by themselves, and 4 of 16 are left."""
+        """Read-only ones count separately, and 4 of 16 are left."""
         self.assertEqual([self.says(self.far_end(), name) for name in (1, 2, 3)], [True, True, False])
         for name in range(1, 50):
             self.says(self.far_end(), name, READ_ONLY)
@@ -91,7 +91,7 @@ class Passes(Served):
         self.assertEqual(len(self.known[READ_ONLY]), 12)
 
     def test_refused(self):
-        """What the server refuses in any case passes, and uses nothing up."""
+        """Datagrams that the server always refuses pass, and use nothing up."""
         far = self.far_end()
         for text in (datagram(1, session=7), datagram(1, kind=1), datagram(1, version=3), datagram(1, kind=9)):
             self.assertTrue(far.passes(text))
@@ -102,7 +102,7 @@ class Noted(Served):
     """The file in the folder."""
 
     def test_server(self):
-        """A server that came in place of another in the folder has had none."""
+        """A server that replaced another in the folder starts at zero."""
         self.assertEqual([self.says(self.far_end(), name) for name in (1, 2, 3)], [True, True, False])
         (self.folder / "session").write_text("abc\n", encoding="ascii")
         far = self.far_end()
@@ -110,7 +110,7 @@ class Noted(Served):
         self.assertEqual((self.folder / "remote_clients").read_text(encoding="ascii").count("5e55"), 0)
 
     def test_cut(self):
-        """A line that was cut, or can't be one, is passed over, and the next is whole."""
+        """A cut or invalid line is skipped, and the next one is complete."""
         note = self.folder / "remote_clients"
         note.write_bytes(b"5e55 2 1 5.0 0\n\xff\n5e55 2 1 nan\n5e55 2 7 9")
         self.assertEqual([self.says(self.far_end(), name) for name in (1, 7, 8, 9)], [True, True, True, False])
@@ -121,7 +121,7 @@ class Noted(Served):
         self.assertEqual(remote_client_in(str(RemoteClient(1, 2, 3, 4.5, 6))), RemoteClient(1, 2, 3, 4.5, 6))
 
     def test_unnoted(self):
-        """Where nothing can be noted an end counts for itself."""
+        """If nothing can be recorded an end counts alone."""
         (self.folder / "remote_clients").mkdir()
         far = self.far_end()
         self.assertEqual([self.says(far, name) for name in (1, 2, 3, 1)], [True, True, False, True])
@@ -135,7 +135,7 @@ class Noted(Served):
         self.assertFalse(far.passes(datagram(3, session=8)))
 
     def test_lost(self):
-        """Where the id of the session is lost for a time nothing that was noted is."""
+        """If the session's id is lost for a time the records stay."""
         self.assertTrue(self.says(self.far_end(), 1))
         (self.folder / "session").unlink()
         self.assertTrue(self.says(self.far_end(), 2))
@@ -143,7 +143,7 @@ class Noted(Served):
         self.assertEqual([self.says(self.far_end(), name) for name in (1, 5, 6)], [True, True, False])
 
     def test_room(self):
-        """A clock that began anew lets no more through than one that goes on."""
+        """A restarted clock lets no more clients pass than a continuous one."""
         for moments, now, room in (([], 5, 2), ([5], 5, 1), ([5, 5], 5, 0), ([5, 5], 10, 0.5), ([5, 5], 100, 2), ([900, 900], 5, 0)):
             self.assertAlmostEqual(room_at(moments, now), room, msg=(moments, now))
 
@@ -152,7 +152,7 @@ class Nights(Case):
     """Two machines at a session of 40 windows, for ten days."""
 
     def test_nights(self):
-        """A client that comes back under its id after each night uses nothing up, and one anew for each window and night is had at once."""
+        """A client that returns with its id after each night uses nothing up. A new one for each window and night passes at once."""
         for is_new in (False, True):
             windows = [Served() for _ in range(40)]
             for window in windows:
@@ -165,6 +165,6 @@ class Nights(Case):
                         window.now = 1000.0 + 43200 * night + machine
                         far = window.far_end()
                         name = 100 * machine + (night if is_new else 0)
-                        # The command breaks, and another far end takes its place.
+                        # The command breaks, and another far end replaces it.
                         self.assertEqual([window.says(one, name) for one in (far, far, window.far_end())], [True] * 3)
             self.assertEqual({len(window.known[READ_WRITE]) for window in windows}, {1 + 2 * (10 if is_new else 1)})

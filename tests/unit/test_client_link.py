@@ -1,4 +1,4 @@
-"""A terminal's connection to the client process, and how it is had again."""
+"""A terminal's connection to the client process, and its reconnection."""
 import errno
 import os
 import socket
@@ -18,7 +18,7 @@ class SocketPeer:
         self.answers, self.taken = list(answers), []
 
     def send(self, chunk):
-        """Takes what is the next answer."""
+        """Return the next answer."""
         answer = self.answers.pop(0)
         self.taken.append(len(chunk))
         if answer < 0:
@@ -27,7 +27,7 @@ class SocketPeer:
 
 
 class Linked(Case):
-    """A link to a socket of its own, and a clock that stands."""
+    """A link to a socket of its own, with a stopped clock."""
 
     def setUp(self):
         self.stop_clock()
@@ -35,7 +35,7 @@ class Linked(Case):
         self.listener = self.listening(self.path)
 
     def link(self, *words):
-        """A link that is connected, and its other end."""
+        """Return a connected link, and its other end."""
         link = ClientLink(self.path, *words)
         link.connect()
         self.addCleanup(link.close)
@@ -43,11 +43,12 @@ class Linked(Case):
 
 
 class Lines(Linked):
-    """What goes to the client."""
+    """The lines to the client."""
 
     def test_greeting(self):
-        """Records are asked for first; then a watcher says so, another how predictions are shown, but where they never are; all anew at
-        each connection."""
+        """The subscription to records comes first; then the read-only mark, or the prediction setting unless it is never; all again on each
+        connection.
+        """
         for words, more in (((True,), b"watch\n"), ((False,), b""), ((False, "adaptive"), b"predict adaptive\n"),
                             ((False, "always"), b"predict always\n"), ((True, "always"), b"watch\n")):
             said = b"events\n" + more
@@ -61,7 +62,7 @@ class Lines(Linked):
             self.assertEqual(read_now(other), said)
 
     def test_kept(self):
-        """What wasn't sent goes to the next connection, behind one greeting; a watcher's doesn't."""
+        """Unsent lines go to the next connection, after one greeting; those of a read-only user don't."""
         link = ClientLink(self.path, False, "always")
         link.type("char 61")
         for _ in range(2):
@@ -77,7 +78,7 @@ class Lines(Linked):
         watcher.close()
 
     def test_joined(self):
-        """Acts that come at once stand in lines of 32, and those that come later in lines of their own."""
+        """Acts that arrive at once share lines of 32, and later ones have lines of their own."""
         link, other = self.link(False)
         link.type(*["char 61"] * 70)
         _, *lines = link.waiting.decode().splitlines()
@@ -95,7 +96,7 @@ class Lines(Linked):
         self.assertEqual(MOST_ACTS, 32)
 
     def test_pasted(self):
-        """What was pasted has lines of its own, which say so."""
+        """A paste has lines of its own, marked as such."""
         link, other = self.link(False)
         link.type("char 61")
         link.type("char 62", "char 63", is_pasted=True)
@@ -109,7 +110,7 @@ class Lines(Linked):
         self.assertTrue(all(line.startswith("paste ; char 66") for line in lines[3:]))
 
     def test_cut(self):
-        """A line that went in part goes whole to the next connection."""
+        """A half-sent line is sent whole on the next connection."""
         link, other = self.link(False)
         link.type("char 61")
         link.say("repaint")
@@ -126,7 +127,7 @@ class Lines(Linked):
             self.assertEqual((link.sent, bytes(link.waiting), link.lines), (0, again, again.count(b"\n")))
 
     def test_full(self):
-        """What isn't taken waits, in chunks of 65,536 bytes; where the other end has gone that is told."""
+        """Unaccepted data waits, in chunks of 65,536 bytes; the end of the peer is reported."""
         link, other = self.link(False)
         link.waiting[:] = b"x" * 100_000 + b"\n"
         peer = SocketPeer(65536, -errno.EAGAIN, 34465, -errno.EPIPE)
@@ -140,7 +141,7 @@ class Lines(Linked):
             self.assertFalse(link.send())
 
     def test_told(self):
-        """Records, what they tell of the connection, and its end; what is no record is the end too."""
+        """It returns records, applies their reports on the connection, and detects its end, as by an invalid record."""
         link, other = self.link(False)
         self.assertEqual((link.read_events(), link.has_come, link.is_done()), ([], False, False))
         link.type("char 61")
@@ -166,7 +167,7 @@ class Lines(Linked):
             link.close()
 
     def test_begins(self):
-        """A client has five seconds for its first record, and what waits is given meanwhile."""
+        """A client has five seconds for its first record, and waiting lines are sent meanwhile."""
         link, other = self.link(True)
         other.send(b"\nevents\n")
         self.assertTrue(link.begins(5.0))
@@ -180,7 +181,7 @@ class Lines(Linked):
         self.assertTrue(link.has_ended)
 
     def test_part(self):
-        """Who leaves gives what was typed, and says that no more comes; that the client has taken it is known by its end."""
+        """A user who leaves sends the remaining input and the end of file; the client's own end confirms it."""
         link, other = self.link(False)
         link.type("char 61")
         answers = iter([WRITE, 0, READ])
@@ -200,7 +201,7 @@ class Lines(Linked):
         self.assertTrue(link.part())
 
     def test_part_late(self):
-        """A client that doesn't take it in time is left, and that is told."""
+        """A client that doesn't take it in time is dropped, and the result says so."""
         link, _ = self.link(False)
         link.type("char 61")
         with mock.patch("roam_live.protocol.client_link.ready", lambda *_: self.pass_time(0.5) or 0):
@@ -211,7 +212,7 @@ class Lines(Linked):
 
 
 class AnySession:
-    """A session with a client, as it is told."""
+    """A session with a client, in a given state."""
 
     name = "main"
 
@@ -224,29 +225,29 @@ class AnySession:
         return "in /folder"
 
     def read(self):
-        """Reads what is noted."""
+        """Reload the state."""
         self.reads += 1
         self.noted = self.client
 
     def process(self, role):
-        """The client's process."""
+        """Return the client process."""
         assert role == "client"
         return self.noted
 
     def runs(self, role):
-        """Whether it runs."""
+        """Return True if the role runs."""
         return self.process(role) is not None
 
     def is_served(self):
-        """Whether a server is there."""
+        """Return True if a server is there."""
         return self.served
 
     def is_full(self):
-        """Whether the server hears no other client."""
+        """Return True if the server accepts no more clients."""
         return self.full
 
     def revive(self):
-        """Starts it."""
+        """Start it."""
         if self.fault:
             raise self.fault
         self.revived += 1
@@ -254,11 +255,12 @@ class AnySession:
 
 
 class Dropped(Linked):
-    """What is dropped by a C-c."""
+    """The input dropped by C-c."""
 
     def test_pastes(self):
-        """Pastes go that wait for the client, and the keys behind them; not those before them, nor what is no key, nor a line that is half
-        sent, and the lines are counted as they are given then."""
+        """Waiting pastes go, with the keys after them. Earlier keys, acts that are no keys, and a half-sent line stay, and the lines are
+        counted as they are sent then.
+        """
         link, other = self.link(False)
         link.send()
         link.type("char 61", "key up")
@@ -277,7 +279,7 @@ class Dropped(Linked):
         self.assertEqual((link.lines, link.drop_pasted()), (sent - 2 + 1, []))
 
     def test_half_sent(self):
-        """Of a paste that is half sent the line goes whole, and the others are dropped."""
+        """The line of a half-sent paste is sent whole, and the others are dropped."""
         link, _ = self.link(False)
         link.waiting[:] = b"paste ; char 61\npaste ; char 62\nchar 63\n"
         link.sent, link.lines = 4, 3
@@ -285,14 +287,14 @@ class Dropped(Linked):
         self.assertEqual((link.waiting, link.lines, link.sent), (b"paste ; char 61\n", 1, 4))
 
     def test_none(self):
-        """Where nothing was pasted nothing is dropped."""
+        """Without pastes nothing is dropped."""
         link, _ = self.link(False)
         link.type("char 61", "char 62")
         self.assertEqual((link.drop_pasted(), link.waiting), ([], b"events\nchar 61 ; char 62\n"))
 
 
 class Kept(Linked):
-    """A link that is had again."""
+    """A link that reconnects."""
 
     def setUp(self):
         super().setUp()
@@ -302,7 +304,7 @@ class Kept(Linked):
         self.addCleanup(self.link.close)
 
     def gone(self):
-        """Has nobody listen there."""
+        """Remove the listener."""
         self.listener.close()
         os.unlink(self.path)
 
@@ -311,7 +313,7 @@ class Kept(Linked):
         self.assertEqual((self.reconnector.connected(), self.reconnector.client), ("", 1))
 
     def test_losses(self):
-        """What was lost is told: with the client, or with this terminal alone, or that no more are taken."""
+        """A loss is reported: of the client, of this terminal's connection alone, or a refusal of more."""
         self.reconnector.connect()
         self.reconnector.connected()
         self.place.client = None
@@ -326,7 +328,7 @@ class Kept(Linked):
         self.assertEqual(self.reconnector.lost(), LET_GO)
 
     def test_pauses(self):
-        """0.1 s, and longer with each end that comes soon; a connection that lasted 5 s had no fault."""
+        """The pause is 0.1 s, and longer with each early end; a connection of 5 s counts as no failure."""
         self.assertEqual(self.reconnector.pause(), 0.0)
         found = []
         for _ in range(8):
@@ -339,7 +341,7 @@ class Kept(Linked):
         self.assertEqual((self.reconnector.pause(), self.reconnector.retry.faults), (0.1, 1))
 
     def test_full(self):
-        """On a full disk it is tried each second."""
+        """On a full disk there is one attempt a second."""
         full = self.patch("roam_live.protocol.client_link.is_disk_full", return_value=True)
         found = []
         for _ in range(8):
@@ -351,7 +353,7 @@ class Kept(Linked):
         full.assert_called_with(self.link.path)
 
     def test_revived(self):
-        """Where nobody listens a client is started, which has ten seconds; then why it can't be had is told."""
+        """If nobody listens a client is started, which has ten seconds; then the reason of the failure is reported."""
         self.gone()
         self.assertEqual(self.reconnector.connect(), (0.02, ""))
         self.assertEqual((self.place.revived, self.reconnector.begun_at), (1, 100.0))
@@ -370,7 +372,7 @@ class Kept(Linked):
         self.assertEqual(self.reconnector.begun_at, 0.0)
 
     def test_refused(self):
-        """Why none is started is told: no server, its 64 clients, a fault, another's socket."""
+        """The reason of a failed start is reported: no server, its 64 clients, an error, another user's socket."""
         self.gone()
         self.place.served = False
         self.assertEqual(self.reconnector.connect()[1], "no server is in /folder")
@@ -386,7 +388,7 @@ class Kept(Linked):
 
 
 class Opened(Linked):
-    """A connection over which records come, for what is asked once."""
+    """A connection with records, for a single request."""
 
     def setUp(self):
         super().setUp()
@@ -394,7 +396,7 @@ class Opened(Linked):
         self.place.terminals = self.path
 
     def opened(self, *texts):
-        """The connection to a client that tells these texts, one each time that it is connected to; their ends follow them."""
+        """Return the connection to a client that sends one of these texts on each connection, and then closes it."""
         texts = list(texts)
 
         def waits(end, events, seconds):
@@ -403,7 +405,7 @@ class Opened(Linked):
             other = self.taken(self.listener)
             other.send(texts.pop(0))
             self.addCleanup(other.close)
-            # What it is given may come once it has said so much.
+            # Its input may arrive after this much output.
             other.shutdown(socket.SHUT_WR)
             return WRITE
 

@@ -1,4 +1,4 @@
-"""`mux cmd`: what is done from outside, and what is a terminal's own."""
+"""`mux cmd`: the commands that work from outside, and those of a terminal."""
 import unittest
 from unittest import mock
 
@@ -6,7 +6,7 @@ from aids import Case
 from roam_live.cli import cmd
 from roam_live.common.errors import Fault
 
-# Words, what does it, and with what behind the window.
+# Words, the function that they call, and its arguments after the window.
 DONE = (("split-window -h", "cli.send.send", (["split right"], 2)), ("kill-pane", "cli.send.send", (["close"], 2)),
         ("select-pane -t 3", "cli.send.send", (["focus 3"], 2)), ("send-keys a Up", "cli.send.send", (["char 61", "key up"], 2)),
         ("new-window", "cli.windows.new_window", ("",)), ("rename-window my own", "cli.windows.rename", ("my own",)),

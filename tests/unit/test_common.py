@@ -1,4 +1,4 @@
-"""What the tools share of the program, sockets and processes: names of servers, notes of who is there, and the ends of tools."""
+"""The common code of the tools for programs, sockets and processes: server addresses, presence notes, and the ends of tools."""
 import os
 import pathlib
 import signal
@@ -21,10 +21,10 @@ from roam_live.session import foreground, front_end_lock, host_watchdog, folder 
 
 
 class Programs(Case):
-    """Where the program is."""
+    """The path of the program."""
 
     def test_places(self):
-        """That of ROAM, else the first that is there and can be run."""
+        """It is that of ROAM, else the first executable one."""
         folder = self.made_folder()
         files = [folder / name for name in ("none", "text", "one", "two")]
         for path in files[1:]:
@@ -46,7 +46,7 @@ class Programs(Case):
             common_process.program()
 
     def test_ids(self):
-        """An id is 1 to 16 hexadecimal digits; a new one has 15, of which the first is none."""
+        """An id is 1 to 16 hexadecimal digits; a new one has 15, and the first is not zero."""
         for word, is_one in (("5e55", True), ("0", True), ("ABCdef0123456789", True), ("ABCdef01234567890", False), ("", False),
                              ("g", False), ("\u0663", False)):
             self.assertEqual(server_address.is_id(word), is_one, word)
@@ -56,7 +56,7 @@ class Programs(Case):
 
 
 class Homes(Case):
-    """Where a server is reached."""
+    """The address of a server."""
 
     def test_words(self):
         """DIR, or PORT SESSION; ports are 1 to 65535."""
@@ -70,7 +70,7 @@ class Homes(Case):
         self.assertEqual((home.port, home.session, home.folder), (9, "5e55", None))
 
     def test_attach_words(self):
-        """No id stands in a process's words where the folder keeps others out."""
+        """A process's arguments omit the id if the folder keeps others out."""
         self.patch_of(server_address, "program", return_value="/roam")
         self.assertEqual(Home(folder="/d").attach_words(["--watch"]), ["/roam", "attach", "--dir", "/d", "--watch"])
         words = Home(port=9, session="5e55").attach_words(["--watch"])
@@ -89,7 +89,7 @@ class Homes(Case):
         self.assertEqual((home.is_served(), home.why_unserved()), (False, ""))
 
     def test_port(self):
-        """A port is served where somebody has it."""
+        """A port is served if a process has bound it."""
         with socket.socket(socket.AF_INET, socket.SOCK_DGRAM) as one:
             one.bind(("127.0.0.1", 0))
             port = one.getsockname()[1]
@@ -100,14 +100,14 @@ class Homes(Case):
 
 
 class Waits(Case):
-    """Connections that are waited for."""
+    """Connections that are awaited."""
 
     def setUp(self):
         self.stop_clock()
         self.said = self.heard()
 
     def test_waited(self):
-        """A socket that isn't there yet is waited for ten seconds, and after half of one that is said, once."""
+        """A missing socket is awaited for ten seconds, which is reported once after half a second."""
         path = self.made_folder() / "clients"
         with self.assertRaisesRegex(Fault, f"^{path}: No such file or directory$"):
             unix_socket.connected(path)
@@ -121,7 +121,7 @@ class Waits(Case):
         self.assertEqual(self.said.getvalue(), "")
 
     def test_refused(self):
-        """What won't come isn't waited for."""
+        """It doesn't wait for impossible events."""
         with mock.patch.object(unix_socket, "connected_now", side_effect=OSError(24, "Too many open files")):
             with self.assertRaisesRegex(Fault, "^x: Too many open files$"):
                 unix_socket.connected("x")
@@ -137,7 +137,7 @@ class Waits(Case):
 
 
 class Begun(Case):
-    """Processes by their begin."""
+    """Processes by their start times."""
 
     def test_own(self):
         own = common_process.begun(os.getpid())
@@ -147,14 +147,14 @@ class Begun(Case):
         self.assertIsNone(common_process.begun(1 << 30))
 
     def test_ended(self):
-        """What is left of one that has ended is none."""
+        """A zombie has no start time."""
         process = self.process("true")
         os.waitid(os.P_PID, process.pid, os.WEXITED | os.WNOWAIT)
         self.assertIsNone(common_process.begun(process.pid))
         self.assertFalse(common_process.is_running(process.pid, None))
 
     def test_opened(self):
-        """A process can be read once it has ended."""
+        """A process is readable once it has ended."""
         process = self.process("cat", stdin=-1)
         end = common_process.opened_process(process.pid)
         self.addCleanup(os.close, end)
@@ -166,7 +166,7 @@ class Begun(Case):
             common_process.opened_process(process.pid)
 
     def test_end(self):
-        """An end is noted by the process and its begin; where that can't be written nothing is."""
+        """A record of an end has the process and its start; on a write error nothing is recorded."""
         folder = self.made_folder()
         common_process.note_end(folder, 17, 99)
         self.assertEqual((folder / "ended").read_text(encoding="utf-8"), "17 99\n")
@@ -174,10 +174,10 @@ class Begun(Case):
 
 
 class Buffers(Case):
-    """Lines and bytes of a stream, and what waits for a connection."""
+    """Lines and bytes of a stream, and the queue of a connection."""
 
     def test_records(self):
-        """A line is had once it is whole, and so are bytes; one that is longer than any is none, wherever it is cut."""
+        """Lines and bytes are returned once complete; one above the limit is invalid, wherever it is cut."""
         buffer = io.LineReader(8)
         for byte in b"ab\n\xff\n12":
             buffer.kept.append(byte)
@@ -194,7 +194,7 @@ class Buffers(Case):
         self.assertRaises(io.LongLine, buffer.line)
 
     def test_read(self):
-        """Lines are read as they come: none where nothing came, and None once nothing more will."""
+        """It returns lines as they arrive: an empty list without data, and None at the end."""
         reader, (source, target) = io.LineReader(), self.pipe()
         os.set_blocking(source, False)
         self.assertEqual(reader.read(source), [])
@@ -207,7 +207,7 @@ class Buffers(Case):
         self.assertEqual((reader.read(end), bytes(reader.kept)), (None, b"x"))
 
     def test_peer(self):
-        """Lines that weren't asked for are bounded beside answers, until it has read all."""
+        """Unrequested lines are bounded beside answers, until the peer has read all."""
         ours, theirs = self.pair()
         peer = io.LinePeer(ours)
         peer.most = 10
@@ -229,7 +229,7 @@ class Notes(Case):
         self.said = self.heard()
 
     def test_kept(self):
-        """A session's folder is kept while one of its front ends is there; what they don't foresee is logged there."""
+        """A session's folder stays while a front end is there; unexpected errors are logged there."""
         self.assertFalse(front_end_lock.has_front_ends(self.folder))
         self.patch_of(errors, "logs", [])
         (self.folder / "log").touch()
@@ -242,7 +242,7 @@ class Notes(Case):
         self.assertEqual((self.folder / "front_ends").stat().st_mode & 0o777, 0o600)
 
     def test_none(self):
-        """Without a folder nothing is kept; a lock that can't be had is said, and one that can't be asked may be held."""
+        """Without a folder nothing stays; a lock that fails is reported, and one with an unknown state may be taken."""
         with front_end_lock.FrontEndLock(None):
             pass
         with self.assertRaisesRegex(Fault, "/none is not a directory$"), front_end_lock.FrontEndLock(self.folder / "none"):
@@ -253,7 +253,7 @@ class Notes(Case):
         self.assertTrue(front_end_lock.has_front_ends(self.folder))
 
     def test_replaced(self):
-        """Who reads a file finds the old or the new text whole; where it can't be written the old one stays, and nothing beside it."""
+        """A reader of a file gets the whole old or new text; after a write error the old one stays, without a temporary file."""
         path = self.folder / "note"
         common_files.replace_text(path, "one")
         common_files.replace_text(path, "two", f"{path}.new")
@@ -266,10 +266,10 @@ class Notes(Case):
 
 
 class Ends(Case):
-    """What reads and writes, and how a tool ends."""
+    """Reads, writes, and the end of a tool."""
 
     def test_read(self):
-        """Nothing now is None, and no more ever is nothing; 65,536 bytes at most come at once."""
+        """No data now is None, and the end of file is empty; at most 65,536 bytes are returned at once."""
         one, other = self.pair()
         self.assertIsNone(io.read(one.fileno()))
         other.send(b"ab")
@@ -294,7 +294,7 @@ class Ends(Case):
         self.assertEqual(waiting, b"")
 
     def test_woken(self):
-        """Signals that come are told over a pipe."""
+        """Signals arrive over a pipe."""
         before = signal.getsignal(signal.SIGUSR2)
         reader = common_process.woken(signal.SIGUSR2)
         try:
@@ -307,14 +307,14 @@ class Ends(Case):
             os.close(reader)
 
     def run_with(self, main):
-        """The status with which a tool ends, or its line."""
+        """Return the status with which a tool ends, or its line."""
         self.words("/x/tool")
         with mock.patch("_signal.signal"), mock.patch.dict(os.environ), self.assertRaises(SystemExit) as way:
             errors.run_tool(main)
         return way.exception.code
 
     def test_ends(self):
-        """A fault is one printable line and status 1."""
+        """A Fault is one printable line and status 1."""
         for fault, code in ((Fault("no\x1b[c\n room"), "tool: no?[c; room"), (OSError(28, "full"), "tool: full"),
                             (KeyboardInterrupt(), 130), (FileNotFoundError(2, "No such file", "/x"), "tool: /x: No such file"),
                             (BrokenPipeError(32, "Broken pipe"), "tool: Broken pipe"),
@@ -323,7 +323,7 @@ class Ends(Case):
         self.assertEqual((self.run_with(lambda: 3), self.run_with(lambda: None)), (3, None))
 
     def test_asks(self):
-        """The programs that it runs are asked why they ended, where nothing else was asked."""
+        """Child programs print why they ended, unless the environment already decides."""
         seen = []
         for before, asked in ((None, "1"), ("0", "0")):
             self.environment(ROAM_WHY=before)
@@ -331,13 +331,13 @@ class Ends(Case):
             self.assertEqual(seen.pop(), asked)
 
     def test_nobody_reads(self):
-        """Where nobody reads what it prints it ends as by SIGPIPE."""
+        """Without a reader of its output it ends as if by SIGPIPE."""
         with mock.patch.object(errors, "nobody_reads", return_value=True):
             self.assertEqual(self.run_with(mock.Mock(side_effect=BrokenPipeError(32, "Broken pipe"))), 141)
             self.assertEqual(self.run_with(mock.Mock(side_effect=OSError(28, "full"))), "tool: full")
 
     def test_dropped(self):
-        """What is left to print goes nowhere then."""
+        """The rest of the output is discarded then."""
         reader, writer = os.pipe()
         kept = os.dup(1)
         try:
@@ -352,7 +352,7 @@ class Ends(Case):
             os.close(writer)
 
     def test_logged(self):
-        """What nobody foresaw is told in full in the log of the session's folder, where there is one, and in a line."""
+        """An unexpected error is logged in full in the session's folder, if it has a log, and printed in one line."""
         folder = self.made_folder()
         log = folder / "log"
         self.addCleanup(errors.logs.clear)
@@ -366,7 +366,7 @@ class Ends(Case):
         self.assertTrue(text.startswith(f"tool, process {os.getpid()}:\nTraceback ") and "IndexError: list index out of range\n" in text)
 
     def test_said(self):
-        """A line that can't be said is no fault."""
+        """A failed message is no error."""
         self.words("/x/tool")
         said = self.heard()
         errors.say("a\x1bb")
@@ -377,7 +377,7 @@ class Ends(Case):
         self.assertEqual(errors.reason(Fault("why")), "why")
 
     def test_lines(self):
-        """Lines come whole, wherever they are cut."""
+        """Lines arrive whole, wherever they are cut."""
         for cut in range(26):
             lines = io.LineReader()
             text = b"1 23 80 1\nfocus 1\n\xc3\xa9\xff\n2 "
@@ -391,13 +391,13 @@ class Ends(Case):
 
 
 class Due(Case):
-    """What is due at a moment."""
+    """Timers that are due."""
 
     def setUp(self):
         self.stop_clock()
 
     def test_due(self):
-        """What is due is done once, in any order; what a later one made needless, or put off, isn't."""
+        """A due timer runs once, in any order; a cancelled or postponed one doesn't."""
         moments, done = Loop(), []
         self.assertIsNone(moments.wait_time())
         moments.later("a", 2.0, lambda: done.append("a"))
@@ -429,10 +429,10 @@ class Due(Case):
 
 
 class Steps(Case):
-    """Steps that are all done."""
+    """Steps that all run."""
 
     def test_all(self):
-        """Each is done, whatever the others raise, and the first fault is raised; but none in place of one that is being raised."""
+        """All steps run, whatever the others raise, and the first error is raised; but it replaces no exception in flight."""
         done = []
 
         def fails(name):
@@ -461,10 +461,10 @@ class Steps(Case):
 
 
 class Running(Case):
-    """Which programs run in panes."""
+    """The programs in panes."""
 
     def proc(self, files):
-        """Has files of /proc with these texts, and no others."""
+        """Replace /proc by these files alone."""
         def read(path, *_, **__):
             text = files.get(str(path).removeprefix("/proc/"))
             if text is None:
@@ -475,7 +475,7 @@ class Running(Case):
         self.patch_of(FilePath, "read_bytes", lambda path: (lambda text: text.encode() if isinstance(text, str) else text)(read(path)))
 
     def test_busy(self):
-        """The panes in which something else than a shell has the terminal, by what the pty host started."""
+        """The panes with a program other than a shell in the foreground, among the pty host's children."""
         stat = "({0}) S 1 {1} {1} 34816 {2} 4194304"
         panes = {f"{one}0/environ": f"A=b\0ROAM_PANE=/x:y/main:{one}\0" for one in range(1, 5)}
         self.proc({"7/task/7/children": "10 20 30 40 50 ", **panes,
@@ -489,8 +489,9 @@ class Running(Case):
         self.assertEqual((foreground.pane_of(30), foreground.pane_of(50)), (("/x:y/main", 3), ("", 0)))
 
     def test_jobs(self):
-        """A shell with a stopped job, one in the background or another program in front is busy, and one alone isn't. The ended don't
-        count, nor do processes that left the session."""
+        """A shell with a stopped job, one in the background or another foreground program is busy, and one alone isn't. Ended processes
+        don't count, nor do those that left the session.
+        """
         self.environment(SHELL="/opt/mine")
         panes = {f"{one}0/environ": f"ROAM_PANE=/w:{one}\0" for one in range(1, 7)}
         numbers = "7 10 11 12 20 21 22 23 30 31 40 41 42 50 51 60 62 self 99"
@@ -512,7 +513,7 @@ class Running(Case):
                                                   6: "htop, cat (background)"})
 
     def test_many_jobs(self):
-        """A question names three jobs of a pane, and how many more there are."""
+        """A question names three jobs of a pane, and the number of further ones."""
         self.proc({"10/stat": "10 (bash) S 7 10 10 34817 10 4194304", "10/comm": "bash\n"})
         for count, told in ((1, "a0"), (3, "a0, a1, a2"), (5, "a0, a1, a2 and 2 more")):
             self.assertEqual(foreground.running("10", [f"a{place}" for place in range(count)]), told)
@@ -527,16 +528,16 @@ class Running(Case):
         self.assertEqual(foreground.told({2: "vi", 1: "less"}), "less in pane 1 and vi in pane 2")
 
     def test_cut_stat(self):
-        """A process of which less is told is none."""
+        """A process with an incomplete stat file counts as none."""
         self.proc({"10/stat": "10 (sh) S 1"})
         self.assertEqual(foreground.foreground(10), "")
 
 
 class Numbers(Case):
-    """What the pages say of numbers: README, roam-mux(1), PROTOCOL and the help texts."""
+    """The numbers in the documents: README, roam-mux(1), PROTOCOL and the help texts."""
 
     def test_holder(self):
-        """Who holds a folder is known by the system's list of locks."""
+        """The process that locked a folder is known from the system's list of locks."""
         folder = self.made_folder()
         self.assertEqual((common_process.holder_of(folder), common_process.holder_of(folder / "none")), (None, None))
         holds = "import fcntl, os, sys, time; fcntl.flock(os.open(sys.argv[1], 0), 2); print(flush=True); time.sleep(60)"
@@ -549,12 +550,12 @@ class Numbers(Case):
         self.assertEqual((common_process.holder_of(folder), common_files.is_locked(folder)), (None, False))
 
     def test_age(self):
-        """How long a process has been there."""
+        """The age of a process."""
         self.assertTrue(0 <= common_process.age_of(self.process().pid) < 30)
         self.assertEqual(common_process.age_of(0), 0.0)
 
     def test_full(self):
-        """A disk is full where it has no blocks or no files left; one that counts neither never is."""
+        """A disk is full if it has no blocks or no inodes left; one that counts neither never is."""
         for blocks, left, files, free, wanted in ((9, 0, 9, 9, True), (9, 9, 9, 0, True), (9, 1, 9, 1, False), (0, 0, 0, 0, False)):
             found = mock.Mock(f_blocks=blocks, f_bavail=left, f_files=files, f_favail=free)
             with mock.patch("os.statvfs", return_value=found) as asked:
@@ -570,18 +571,19 @@ class Numbers(Case):
         self.assertEqual({name: ord(environment.PREFIXES[name]) for name in codes}, codes)
 
     def test_pauses(self):
-        """A client follows another after 0.1 s, a pty host after 0.3 s, and then after pauses that grow; a folder is used each six
-        hours."""
+        """A client is restarted after 0.1 s, a pty host after 0.3 s, and then after growing pauses; a folder is marked as used every six
+        hours.
+        """
         self.assertEqual(retry.PAUSES, (0.1, 1, 2, 4, 8, 15))
         self.assertEqual((host_watchdog.PAUSES, retry.SOUND, panes_client.QUIET), ((0.3, 1, 2, 4, 8, 15), 5.0, 3.0))
         self.assertEqual((tmp_keepalive.USED_EACH, tmp_keepalive.LOOKS), (6 * 60 * 60, 60))
 
     def test_relay(self):
-        """A relay is alone for an hour, its far end half a minute; seven seconds are silence; `ls` tells of more than 32 starts."""
+        """A relay stays alone for an hour, its far end for half a minute; seven seconds are silence; `ls` reports more than 32 starts."""
         self.assertEqual((remote.ALONE, session_folder.MANY_CLIENTS), (3600, 32))
         self.assertEqual((near.SILENT, far.ALONE, common.PEER_LIMIT, frames.HEARTBEAT), (7.0, 30.0, 256, 3.0))
         self.assertEqual((frames.VERSION, frames.NOISE_LIMIT, frames.MOST_TOLD, frames.WAITING_LIMIT), (2, 65536, 4097, 4 << 20))
 
     def test_wide(self):
-        """A datagram has 43 to 1,242 bytes: a header of 42, and 1 to 1,200 behind it."""
+        """A datagram has 43 to 1,242 bytes: a header of 42, and 1 to 1,200 after it."""
         self.assertEqual((datagram_stream.SHORTEST, datagram_stream.LONGEST), (42 + 1, 42 + 1200))

@@ -1,4 +1,4 @@
-"""What bash, zsh and fish complete behind the tools' words. The last two are tried where they are installed."""
+"""The completions of bash, zsh and fish for the tools' words. The last two are tested if they are installed."""
 import fcntl
 import os
 import pathlib
@@ -27,7 +27,7 @@ $call
 
 
 def completed(call, *words, cwd=None):
-    """What a function completes the last of the words to."""
+    """Return a function's completions of the last word."""
     asked = ["bash", "-c", COMPLETES, "bash", str(TOOLS / "completion.bash"), call, *words]
     run = subprocess.run(asked, cwd=cwd, stdout=subprocess.PIPE, check=True)
     return run.stdout.decode().split("\n")[:-1]
@@ -56,7 +56,7 @@ class Completion(unittest.TestCase):
         self.assertEqual(completed("_roam_mux", "mux", "send", "-l", "main", ""), [])
 
     def test_rows(self):
-        """The words for rows and buffers."""
+        """The words for rows and buffers are offered."""
         self.assertEqual(completed("_roam_mux", "mux", "lo"), ["log"])
         self.assertEqual(completed("_roam_mux", "mux", "log", "w"), ["work"])
         self.assertEqual(completed("_roam_mux", "mux", "log", "-e", "w"), ["work"])
@@ -68,7 +68,7 @@ class Completion(unittest.TestCase):
             self.assertEqual(completed("_roam_mux", "mux", "buffer", word, "main", ""), [])
 
     def test_program(self):
-        """Each command of the program that roam(1) names is offered, and behind it each of its options."""
+        """Each command of the program in roam(1) is offered, and after it each of its options."""
         page = pathlib.Path(TOOLS.parent, "docs/man/roam.1").read_text(encoding="utf-8")
         synopsis = page[page.index(".SH SYNOPSIS") : page.index(".SH DESCRIPTION")].replace("\\-", "-")
         commands = synopsis.split(".B roam ")[1:]
@@ -104,7 +104,7 @@ class Completion(unittest.TestCase):
         self.assertEqual(completed("_roam_pane_shells", "pane_shells", "--server", ""), [])
 
     def test_windows(self):
-        """The words for windows, and the numbers of a session's windows, which bash has behind a colon."""
+        """The words for windows are offered, and the numbers of a session's windows, in bash after a colon."""
         self.assertEqual(completed("_roam_mux", "mux", "new-"), ["new-window"])
         for word in ("list-windows", "new-window", "rename-window", "clients"):
             self.assertEqual(completed("_roam_mux", "mux", word, "w"), ["work"])
@@ -118,7 +118,7 @@ class Completion(unittest.TestCase):
         self.assertEqual(completed("_roam_mux", "mux", "env", "w"), ["work"])
 
 
-# What a shell completes a line to in the end: the completion of the line, by what of it, in zsh and in fish.
+# The completion of a whole line in a shell: the line, the expected words, in zsh and in fish.
 LINES = (
     ("roam mux atta", "attach"), ("roam-mux ki", "kill"), ("roam mux attach wor", "work"), ("roam-mux kill ma", "main"),
     ("roam mux send work Ente", "Enter"), ("roam mux cmd work split-w", "split-window"), ("roam mux buffer sho", "show"),
@@ -130,7 +130,7 @@ PLAYED = "#!/bin/sh\n[ \"$1\" != mux ] || shift\n[ \"$1\" != ls ] || printf 'mai
 
 
 class Tables(unittest.TestCase):
-    """The files that are written by the tables."""
+    """The files that are generated from the tables."""
 
     def test_written(self):
         run = subprocess.run([str(TOOLS.parent / "tools/completions"), "--check"], stdout=subprocess.PIPE, check=False)
@@ -138,7 +138,7 @@ class Tables(unittest.TestCase):
 
 
 class OtherShells(Case):
-    """zsh and fish, with a roam that is played."""
+    """zsh and fish, with a simulated roam."""
 
     def setUp(self):
         self.folder = self.made_folder()
@@ -183,7 +183,7 @@ class Zsh:
         os.close(slave)
 
     def types(self, keys, wanted):
-        """Types keys, and reads until a text comes."""
+        """Type keys, and read until a text appears."""
         os.write(self.master, keys.encode())
         read, end = "", time.monotonic() + 10
         while wanted not in read:
@@ -192,7 +192,7 @@ class Zsh:
             read += os.read(self.master, 65536).decode("utf-8", "replace").replace("\a", "")
 
     def end(self):
-        """Ends it."""
+        """End it."""
         self.process.kill()
         self.process.wait()
         os.close(self.master)

@@ -1,4 +1,4 @@
-"""Connections of the tools: who is at the other end, and that none waits for a listener that takes none."""
+"""Connections of the tools: the peer's user, and no wait for a listener that accepts nothing."""
 import contextlib
 import io
 import os
@@ -26,14 +26,14 @@ class Connections(unittest.TestCase):
         self.listener.bind(str(self.path))
 
     def fill(self):
-        """Has as many connections wait as the listener lets; they stay until the test ends."""
+        """Fill the listener's queue with connections that stay until the test ends."""
         self.listener.listen(1)
         with self.assertRaises(BlockingIOError):
             while True:
                 self.addCleanup(unix_socket.connected_now(self.path).close)
 
     def test_own(self):
-        """Who listens is known: this process, of this user."""
+        """The listener is known: this process, of this user."""
         self.listener.listen()
         with unix_socket.connected_now(self.path) as end:
             self.assertEqual(unix_socket.SocketPeer.of(end), (os.getpid(), os.getuid()))
@@ -42,7 +42,7 @@ class Connections(unittest.TestCase):
                 self.assertEqual(unix_socket.SocketPeer.of(taken).process, os.getpid())
 
     def test_another_user(self):
-        """Another's socket isn't taken, and the refusal names the user: also for the superuser, and where it is the superuser's."""
+        """Another user's socket is refused with that user's name, also for the superuser and for a socket of the superuser."""
         self.listener.listen()
         there = os.getuid()
         for own in {0, 1, 54321} - {there}:
@@ -56,7 +56,7 @@ class Connections(unittest.TestCase):
                     unix_socket.connected(self.path)
 
     def test_one_who_connects(self):
-        """One of another user who connects is known as such, and so is what is no Unix socket."""
+        """A peer of another user is recognized, and so is a socket that isn't a Unix one."""
         one, other = socket.socketpair()
         with one, other, mock.patch("os.getuid", return_value=54321):
             self.assertFalse(unix_socket.is_own_peer(one))
@@ -64,7 +64,7 @@ class Connections(unittest.TestCase):
             self.assertFalse(unix_socket.is_own_peer(end))
 
     def test_full(self):
-        """A listener that takes none now is there, and nobody waits for it longer than is asked."""
+        """A busy listener counts as present, and nobody waits for it longer than requested."""
         self.fill()
         before = time.monotonic()
         self.assertTrue(unix_socket.is_listened(self.path))
@@ -76,14 +76,14 @@ class Connections(unittest.TestCase):
         self.assertGreaterEqual(time.monotonic() - before, 0.05)
 
     def test_nobody(self):
-        """Nobody is where no file is, and where the file is left alone."""
+        """Nobody listens if there is no file, or a stale one."""
         self.assertFalse(unix_socket.is_listened(self.path.with_name("none")))
         self.listener.listen()
         self.listener.close()
         self.assertFalse(unix_socket.is_listened(self.path))
 
     def test_listening(self):
-        """A socket's file is taken from nobody who listens there."""
+        """A socket's file is never taken from a listener."""
         self.listener.listen()
         with self.assertRaisesRegex(errors.Fault, "another process already listens at "):
             listening(str(self.path))
@@ -97,7 +97,7 @@ class Lines(unittest.TestCase):
     """Lines of a stream."""
 
     def test_bounded(self):
-        """A line without an end isn't kept for good, and one behind it is read."""
+        """A line without an end isn't stored forever, and the next one is read."""
         lines = common_io.LineReader()
         for _ in range(40):
             self.assertEqual(lines.fed(b"x" * 4096), [])
@@ -106,7 +106,7 @@ class Lines(unittest.TestCase):
 
 
 class Kept(unittest.TestCase):
-    """What is typed and not read."""
+    """Unread input."""
 
     def test_limit(self):
         """65,536 bytes wait, and no more."""
@@ -120,7 +120,7 @@ class Kept(unittest.TestCase):
         self.assertTrue(common_io.keep(waiting, b""))
 
     def test_characters(self):
-        """A character that doesn't fit whole isn't kept in part."""
+        """A character that doesn't fit is not stored in part."""
         for room in range(5):
             waiting = bytearray(65536 - room)
             self.assertEqual(common_io.keep(waiting, "\u20ac".encode()), room >= 3)
@@ -128,10 +128,10 @@ class Kept(unittest.TestCase):
 
 
 class Folders(unittest.TestCase):
-    """Whose a folder is."""
+    """The owners of folders."""
 
     def test_own(self):
-        """A folder of this user is its own, also by a link that it made; one that isn't there, a file, and another's are none."""
+        """A folder of this user is its own, also by its own link; a missing one, a file, and another user's are not."""
         with tempfile.TemporaryDirectory() as made:
             link, file = pathlib.Path(made, "link"), pathlib.Path(made, "file")
             link.symlink_to(made)

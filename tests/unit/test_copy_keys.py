@@ -1,4 +1,4 @@
-"""The keys of copy mode, as tables: mode, key, tmux's name of its command, and what the key changes."""
+"""The keys of copy mode, as tables: mode, key, tmux's name of its command, and the changed state."""
 import pathlib
 import re
 import unittest
@@ -11,13 +11,13 @@ from roam_live.frontend.copymode.selection import Selection
 MAN = pathlib.Path(__file__).resolve().parents[2] / "docs/man/roam-mux.1"
 SIZE = (12, 40)
 
-# What terminals send for keys that have names.
+# The sequences of named keys.
 NAMED = {"Left": b"\x1b[D", "Right": b"\x1b[C", "Up": b"\x1b[A", "Down": b"\x1b[B", "Home": b"\x1b[H", "End": b"\x1b[F", "PgUp": b"\x1b[5~",
          "PgDn": b"\x1b[6~", "C-Up": b"\x1b[1;5A", "C-Down": b"\x1b[1;5B", "M-Up": b"\x1b[1;3A", "M-Down": b"\x1b[1;3B", "Space": b" ",
          "C-Space": b"\0", "Return": b"\r", "Escape": b"\x1b", "BSpace": b"\x7f", "KPEnter": b"\x1bOM"}
 
-# Each key, the command that tmux 3.3a binds to it, and what it changes in the state that `begun` returns: where the cursor is (a row and a
-# column), the first row that is shown, where the selection begins, and so on.
+# Each key, the command that tmux 3.3a binds to it, and its changes to the state from `begun`: the cursor (a row and a column), the first
+# visible row, the start of the selection, and so on.
 VI_ROWS = (
     ("h", "cursor-left", "at 31 7"), ("j", "cursor-down", "at 32 8"), ("k", "cursor-up", "at 30 0; top 30"),
     ("l", "cursor-right", "at 31 9"), ("Left", "cursor-left", "at 31 7"), ("Right", "cursor-right", "at 31 9"),
@@ -103,7 +103,7 @@ def bytes_of(key):
 
 
 def begun(is_vi):
-    """Return copy mode at a word, with a selection, a mark, a jump and a text that was searched for."""
+    """Return copy mode at a word, with a selection, a mark, a jump and a search text."""
     mode = mode_of(TEXT, is_vi, SIZE)
     mode.view.go((31, 8))
     mode.view.want_column()
@@ -114,7 +114,7 @@ def begun(is_vi):
 
 
 def state_of(mode):
-    """Return what a key may change, each in words."""
+    """Return the state that a key may change, each part in words."""
     view, selection = mode.view, mode.view.selection
     return ["at {} {}".format(*view.position), f"top {view.top[0]}",
             "selects from {} {}".format(*selection.begin) if selection else "selects nothing", "block" if view.is_block else "",
@@ -123,13 +123,13 @@ def state_of(mode):
 
 
 def asked_in(wish):
-    """Return in words what a key asks for."""
+    """Return in words the effect of a key."""
     text = f" {wish.text.gather().decode()!r}" if wish.text else ""
     return f"asks {wish.word}{text}{' and leaves' * wish.leaves}{' behind the newest' * wish.appends}"
 
 
 def effect_of(is_vi, key):
-    """Return in words what a key changes."""
+    """Return in words the changes by a key."""
     mode = begun(is_vi)
     before = state_of(mode)
     for one in copy_keys(bytes_of(key)):
@@ -142,7 +142,7 @@ class CopyKeys(unittest.TestCase):
     """Each key of both tables."""
 
     def test_effects(self):
-        """Each key changes that, and nothing else."""
+        """Each key changes exactly this."""
         for is_vi, rows in ((True, VI_ROWS), (False, EMACS_ROWS)):
             for key, _, effect in rows:
                 self.assertEqual(effect_of(is_vi, key), effect, (is_vi, key))
@@ -154,14 +154,14 @@ class CopyKeys(unittest.TestCase):
             self.assertEqual(found, table)
 
     def test_counts(self):
-        """A digit begins a count, with emacs' keys behind Meta; 0 begins none."""
+        """A digit begins a count, with emacs keys after Meta; 0 begins none."""
         for digit in "123456789":
             self.assertEqual([effect_of(True, digit), effect_of(False, f"M-{digit}")], [f"count {digit}"] * 2)
             self.assertEqual(effect_of(False, digit), "")
         self.assertEqual(effect_of(False, "M-0"), "")
 
     def test_page(self):
-        """Each key of the page's table has a row, whose command is one of its line, and each command is in a line with its keys."""
+        """Each key of the page's table has a row, with a command of its line, and each command is in a line with its keys."""
         table = re.search(r"^\.SH COPY MODE\n.*?^ \| vi \| emacs\n(.*?)^\.TE", MAN.read_text(encoding="utf-8"), re.MULTILINE | re.DOTALL)[1]
         lines = [[cell.strip() for cell in line.split(" | ")] for line in table.splitlines()]
         self.assertEqual([line[0] for line in lines], list(PAGE))

@@ -1,5 +1,7 @@
-"""Copy mode over rows that are here or have to be asked for: keys by tables, lines of a width, wide characters by half, what is searched
-for, selected and copied, and what is painted."""
+"""Copy mode over rows that are here or have to be requested.
+
+The tests cover key tables, lines of a width, wide characters by half, searches, selections, copies, and painting.
+"""
 import json
 import pathlib
 import unittest
@@ -25,20 +27,20 @@ from roam_live.protocol.scrollback_client import MOST_SOUGHT
 
 SIZE = (12, 40)
 
-# What tmux 3.3a copies by the keys of `copied`, as tests/stress/try_copy asks it; nothing where it copies nothing.
+# The copies of tmux 3.3a by the keys of `copied`, as tests/stress/try_copy records them; nothing if it copies nothing.
 TMUX = json.loads(pathlib.Path(__file__).with_name("copied.json").read_text(encoding="utf-8"))
 
 
 def copies(asked):
-    """What was copied of what was asked for."""
+    """Return the copied texts among the effects."""
     return [one.text.gather().decode() for one in asked if one.word == COPY]
 
 
 class Tables(unittest.TestCase):
-    """The keys, beside what tmux copies by them."""
+    """The keys, beside tmux's copies by them."""
 
     def test_copied(self):
-        """Each key copies what tmux copies, but for those that are told."""
+        """Each key copies the same text as in tmux, except for the listed ones."""
         for table, cases in CASES.items():
             for name, keys in cases.items():
                 found = copied_by_roam(keys, table == "vi", SIZE)
@@ -47,19 +49,19 @@ class Tables(unittest.TestCase):
         self.assertGreaterEqual(len(TMUX), 80)
 
     def test_known(self):
-        """With emacs' keys what is selected ends where the cursor is, behind what is found."""
+        """With emacs keys the selection ends at the cursor, behind the match."""
         for name, text in (("C-s and n", " again; ALPHA"), ("C-r and N", "ALPHA")):
             self.assertEqual(copied_by_roam(CASES["emacs"][name], False, SIZE), text)
 
     def test_few_rows(self):
-        """A key copies the same where none but the screen's rows are here, and each other is asked for as it is needed."""
+        """A key copies the same if only the screen's rows are here, and each other row is requested on demand."""
         for table, cases in CASES.items():
             for name, keys in cases.items():
                 found = self.typed_with_few(keys, table == "vi")
                 (self.assertNotEqual if (table, name) in KNOWN else self.assertEqual)(found, TMUX[f"{table} {name}"], name)
 
     def typed_with_few(self, keys, is_vi):
-        """What is copied where rows are asked for one by one."""
+        """Return the copies if rows are requested one by one."""
         whole = mode_of(TEXT, is_vi, SIZE)
         rows = Rows(whole.rows.first, whole.rows.end, SIZE[1])
         mode = CopyMode(rows, SIZE[0], is_vi)
@@ -95,25 +97,25 @@ class Tables(unittest.TestCase):
         return (texts[-1] or None) if texts else None
 
     def test_all_known(self):
-        """Each key of both tables asks for something that there is."""
+        """Each key of both tables has an existing command."""
         known = {*MOVES, *STEPS, *COMMANDS, *Prompt.WORDS, "jump-again", "jump-reverse", *(f"jump {kind}" for kind in "fFtT")}
         for table in (EMACS, VI):
             self.assertEqual(set(table.values()) - known, set())
         self.assertGreater(len(set(EMACS.values()) | set(VI.values())), 50)
 
     def test_vi(self):
-        """The keys are vi's where the program of VISUAL, else of EDITOR, has `vi` in its name."""
+        """The keys are vi's if the program in VISUAL, else in EDITOR, has `vi` in its name."""
         for visual, editor, is_vi in (("", "", False), ("vim", None, True), (None, "/usr/bin/nvi", True),
                                       ("/usr/bin/vim.basic", "emacs", True), ("emacs", "vi", False), ("/home/vi/nano", None, False)):
             self.environment_of(visual, editor)
             self.assertEqual(wants_vi(), is_vi, (visual, editor))
 
     def environment_of(self, visual, editor):
-        """Has these variables."""
+        """Set these variables."""
         Case.environment(self, VISUAL=visual, EDITOR=editor)
 
     def test_counts(self):
-        """A count is that of the next key alone: vi's begins with no zero, and emacs' with Meta."""
+        """A count applies to the next key alone: vi's begins with no zero, and emacs' with Meta."""
         for is_vi, names, wanted in ((True, "12", 12), (True, "0", 1), (True, "10", 10), (True, "99999", 9999), (False, ["M-1", "2"], 12),
                                      (False, ["1"], 1), (False, ["M-0"], 1), (False, ["M-1", "M-0"], 10)):
             count = Count(is_vi)
@@ -122,21 +124,21 @@ class Tables(unittest.TestCase):
             self.assertEqual((count.taken(), count.taken()), (wanted, 1), names)
 
     def test_pairs(self):
-        """An escape and what came with it are one key; one behind which nothing comes is the key itself."""
+        """An escape and the key that arrives with it are one key; an escape alone is the key itself."""
         for text, names in ((b"\x1bf", ["M-f"]), (b"\x1b", ["\x1b"]), (b"\x1b\x1b[A", ["M-up"]), (b"\x1b[1;3A", ["M-up"]), (b"q", ["q"]),
                             (b"\x1b\x06x", ["M-\x06", "x"]), (b"\x1b\x1b", ["M-\x1b"])):
             self.assertEqual([key.name for key in copy_keys(text)], names, text)
 
 
 class Asked(unittest.TestCase):
-    """What keys ask for beside what is shown."""
+    """The other effects of keys."""
 
     def asked(self, keys, is_vi=True, text=TEXT):
-        """What is asked for by keys."""
+        """Return the effects of keys."""
         return [one.word for one in typed(mode_of(text, is_vi, SIZE), keys)]
 
     def test_leaves(self):
-        """q and C-c leave, with emacs' keys Escape too; what is copied leaves or stays, and without a selection nothing is copied."""
+        """q and C-c leave, with emacs keys Escape too; a copy leaves or stays, and without a selection there is no copy."""
         for is_vi, keys, words in ((True, [b"q"], [LEAVE]), (True, [b"\x03"], [LEAVE]), (True, [b"\x1b"], []), (False, [b"\x1b"], [LEAVE]),
                                    (True, [b"r"], [REFRESH]), (True, [b"\r"], [LEAVE]), (True, [b"y"], []), (True, [b" ly"], [COPY]),
                                    (False, [b"\x00", b"\x02y"], [COPY]), (True, [b"Q"], []), (True, [b"/\x03q"], [LEAVE]),
@@ -144,18 +146,18 @@ class Asked(unittest.TestCase):
             self.assertEqual(self.asked(keys, is_vi), words, keys)
 
     def test_stays(self):
-        """What is copied by y stays open, with nothing selected, so that more can be."""
+        """A copy by y stays open without a selection, so that more copies can follow."""
         mode = mode_of(TEXT, True, SIZE)
         found = typed(mode, [b"g", b" ", b"ey", b"w", b" ", b"ey"])
         self.assertEqual((copies(found), [one.leaves for one in found]), (["row", "1 of"], [False, False]))
         self.assertIsNone(mode.view.selection)
 
     def test_appends(self):
-        """A of vi's keys says that its text is put behind the newest buffer's."""
+        """The vi key A appends its text to the newest buffer."""
         self.assertTrue(typed(mode_of(TEXT, True, SIZE), [b"g", b" ", b"e", b"A"])[-1].appends)
 
     def test_not_found(self):
-        """What stands nowhere is told, and the cursor stays; a text of none searches for nothing."""
+        """A missing match is reported, and the cursor stays; an empty text searches nothing."""
         mode = mode_of(TEXT, True, SIZE)
         before = mode.view.position
         typed(mode, [b"/nowhere\r"])
@@ -164,7 +166,7 @@ class Asked(unittest.TestCase):
         self.assertEqual(mode.view.position, before)
 
     def test_too_much(self):
-        """What has more bytes than the bound isn't copied, and what has as many is."""
+        """A text above the limit isn't copied, and one of exactly the limit is."""
         text = "\n".join(["x" * 40] * 30)
         for most, length in ((30 * 41 - 1, 30 * 41 - 1), (30 * 41 - 2, None)):
             with mock.patch.object(selection, "MOST_COPIED", most):
@@ -173,7 +175,7 @@ class Asked(unittest.TestCase):
         self.assertEqual((selection.MOST_COPIED, controller.MOST_COPIED), (1 << 20, 1 << 20))
 
     def test_prompt(self):
-        """The line that is asked for is edited; what is pasted into it is a line of it, and it has a bound."""
+        """The prompt's line is edited; a paste adds its first line, and the length is limited."""
         prompt = Prompt("search-forward-incremental", "before")
         for name, text in (("a", "a"), ("\u6f22", "a\u6f22"), ("\x7f", "a"), ("\x17", ""), ("x", "x"), (" ", "x "), ("y", "x y"),
                            ("\x17", "x "), ("\x15", "")):
@@ -191,7 +193,7 @@ class Asked(unittest.TestCase):
         self.assertEqual(prompt.text, "one" + "z" * 77 + "\u6f22" * 33)
 
     def test_incremental(self):
-        """With emacs' keys a search goes on as it is typed, from where it began; C-s goes on in it, and what is pasted is searched."""
+        """With emacs keys a search is incremental from its start; C-s continues in it, and a paste is searched."""
         mode = mode_of(TEXT, False, SIZE)
         typed(mode, [b"\x1b<", b"\x13b"])
         self.assertEqual(matched(mode), "b")
@@ -206,7 +208,7 @@ class Asked(unittest.TestCase):
         self.assertEqual((matched(mode), mode.prompt.text), ("beta", "beta"))
 
     def test_go_to(self):
-        """A number shows the rows so many above the last, the first ones where there are fewer; what is none does nothing."""
+        """A number shows the rows so many above the last, at most the first ones; an invalid one does nothing."""
         for text, back in ((b"5", 5), (b"0", 0), (b"9999999999999", 34), (b"x", 0), (b"", 0)):
             mode = mode_of(TEXT, True, SIZE)
             typed(mode, [b":" + text + b"\r"])
@@ -214,16 +216,16 @@ class Asked(unittest.TestCase):
 
 
 def matched(mode):
-    """The text of the match at which the cursor was put."""
+    """Return the text of the match at the cursor."""
     (row, begin), (_, end) = mode.match
     return mode.rows.row(row).text(begin, end)
 
 
 class Read(unittest.TestCase):
-    """What the filter prints, as cells."""
+    """Output of the scrollback process, as cells."""
 
     def test_rows(self):
-        """Characters and SGR are cells, each wide one two of them; what joins one stands in it, and blanks at the end aren't counted."""
+        """Characters and SGR become cells, two for each wide one; combining characters share one, and trailing blanks don't count."""
         red = Style(foreground=1)
         for line, letters, length, goes_on in (
                 (b" ab  ", list("ab  "), 2, False), (b" ab ", list("ab "), 2, False),
@@ -236,7 +238,7 @@ class Read(unittest.TestCase):
         self.assertEqual(row_of(b" \x1b[1;38;2;1;2;3mx").styles, [Style(frozenset({"bold"}), (1, 2, 3))])
 
     def test_hostile(self):
-        """Whatever stands there that is neither is harmless characters: no escape, no control, no direction of writing."""
+        """Anything else becomes harmless characters: no escape, no control, no writing direction."""
         for line in (b" \x1b]0;title\x07x", b" \x1b[2Jx", b" a\x9b31mb", b" \x00\x07\x7f", " \u202eabc\u2028".encode(), b" \xff\xfe\xc3",
                      b" \x1b[31", b" \x1b", b" \x1b[99999mx", b" \x1b[?25lm", " \ud7b0\u115f".encode(), b" \x1b[38;5;999mz",
                      b" \x1b[38;2;999;0;0mz"):
@@ -249,18 +251,18 @@ class Read(unittest.TestCase):
             self.assertFalse({"\u202e", "\u2028", "\x9b", "\x9d"} & set(text), line)
 
     def test_long(self):
-        """Of a row that is longer than any no more is read."""
+        """A row above the limit is cut."""
         for line in (b" " + b"x" * 2000, " \u6f22".encode() * 2000, b" " + b"\x1b[31mx" * 2000):
             self.assertIn(len(row_of(line).letters), (MOST_COLS, MOST_COLS + 1))
         self.assertNotIn("x", row_of(b" " + b"\x1b[1m" * 100000 + b"x").letters)
 
     def test_joined(self):
-        """No more characters join one than have room."""
+        """Combining characters above the limit are dropped."""
         row = row_of((" e" + "\u0301" * 1000).encode())
         self.assertEqual(len(row.letters[0]), MOST_JOINED)
 
     def test_left_out(self):
-        """Of a row that goes on the blanks that were left out at its end are put back; one of a narrower pane stays as it is."""
+        """In a soft-wrapped row the omitted blanks are restored; a row of a narrower pane stays."""
         self.assertEqual(len(row_of(b"+abc", 5).letters), 5)
         self.assertEqual(len(row_of(b" abc", 5).letters), 3)
         self.assertEqual(len(row_of(b"+abc", 40).letters), 3)
@@ -272,7 +274,7 @@ class Read(unittest.TestCase):
 
 
 def painted_line(line, cols=20):
-    """What is painted for a row."""
+    """Return the painting of a row."""
     rows = Rows(0, 1, cols)
     rows.put(0, [line])
     return LinePainter(CopyMode(rows, 1, False), 1, cols).line((0, 0))
@@ -282,13 +284,13 @@ class Lines(unittest.TestCase):
     """Rows on lines of a width."""
 
     def rows(self, lines, cols):
-        """Rows, all of which are here."""
+        """Return rows, all of which are here."""
         rows = Rows(0, len(lines), cols)
         rows.put(0, lines)
         return rows
 
     def test_wrapped(self):
-        """A row that is wider takes several lines, and no wide character is cut."""
+        """A wider row takes several lines, and no wide character is cut."""
         rows = self.rows([b" " + b"abcdefghij", " a\u6f22\u6f22\u6f22".encode(), b" "], 4)
         self.assertEqual(rows.begins(0), [0, 4, 8])
         self.assertEqual(rows.begins(1), [0, 3])
@@ -303,12 +305,12 @@ class Lines(unittest.TestCase):
                 self.assertEqual(rows.up(line, count), (everything[max(place - count, 0)], min(count, place)))
 
     def test_narrow(self):
-        """However narrow a pane is each line shows something."""
+        """In any narrow pane each line shows something."""
         rows = self.rows([" \u6f22\u6f22\u6f22".encode()], 1)
         self.assertEqual(rows.begins(0), [0, 2, 4])
 
     def test_moves(self):
-        """Up and down go line by line, and come back to their column."""
+        """Up and down move line by line, and return to their column."""
         mode = mode_of("abcdefghij\nxy", False, (6, 40))
         answer_all(mode, lambda: mode.resize(6, 4))
         positions = []
@@ -318,13 +320,13 @@ class Lines(unittest.TestCase):
         self.assertEqual(positions, [(0, 0), (0, 3), (0, 7), (0, 10), (1, 2), (0, 10), (0, 7), (0, 10)])
 
     def test_copied_whole(self):
-        """What is wrapped for a narrower pane is copied as one line."""
+        """A line wrapped for a narrower pane is copied as one line."""
         mode = mode_of(TEXT, True, SIZE)
         answer_all(mode, lambda: mode.resize(5, 13))
         self.assertEqual(copies(typed(mode, [b"/so long\r", b"0", b" ", b"$", b"y"])), [TEXT.split("\n")[32] + "\n"])
 
     def test_resized(self):
-        """Another size keeps what is shown first, or the end; the cursor stays on its character and is shown."""
+        """A new size keeps the first row in view, or the end; the cursor stays on its character and visible."""
         for rows, cols in ((3, 5), (1, 4), (40, 200), (12, 40), (6, 7)):
             mode = mode_of(TEXT, True, SIZE)
             typed(mode, [b"15k"])
@@ -343,7 +345,7 @@ class Lines(unittest.TestCase):
         self.assertEqual(mode.view.top, mode.view.lowest_top())
 
     def test_few(self):
-        """Fewer rows than the pane has are shown from the first on, and nothing moves out of them."""
+        """If there are fewer rows than the pane has they are shown from the first on, and no move leaves them."""
         mode = mode_of("one\ntwo", True, (10, 20))
         mode.rows.end = 2
         for keys in (b"g", b"j", b"j", b"G", b"\x06", b"\x02", b"\x04", b"\x15", b"J", b"K", b"L", b"H", b"}", b"{", b"w", b"99l", b"99h"):
@@ -352,7 +354,7 @@ class Lines(unittest.TestCase):
             self.assertEqual(mode.view.top, (0, 0), keys)
 
     def test_random_keys(self):
-        """Whatever is typed the cursor is shown, and the view is within the rows."""
+        """With any input the cursor is visible, and the view is within the rows."""
         import random
 
         chance = random.Random(77)
@@ -370,7 +372,8 @@ class Lines(unittest.TestCase):
 
 
 class Moved(unittest.TestCase):
-    """Places that move over rows of ten columns: `one two-th`, which goes on as `ree four`, and `(a [b] c) `, which does as `d e`."""
+    """Positions that move over rows of ten columns: `one two-th`, soft-wrapped into `ree four`, and `(a [b] c) `, soft-wrapped into `d e`.
+    """
 
     def setUp(self):
         lines = rows_of("one two-three four\n(a [b] c) d e\n", 10)
@@ -378,7 +381,7 @@ class Moved(unittest.TestCase):
         self.rows.put(0, lines)
 
     def holds(self, move, cases):
-        """Holds where places move to."""
+        """Check the targets of moves."""
         for position, wanted in cases:
             self.assertEqual(move(position), wanted, position)
 
@@ -390,7 +393,7 @@ class Moved(unittest.TestCase):
         self.holds(lambda position: motions.left(self.rows, position, False), (((1, 0), (0, 10)), ((2, 0), (2, 0)), ((3, 0), (2, 9))))
 
     def test_words(self):
-        """A word goes on in the next row where its row does."""
+        """A word continues in the next row if its row is soft-wrapped."""
         self.holds(lambda position: motions.next_word(self.rows, position, motions.SEPARATORS),
                    (((0, 0), (0, 4)), ((0, 5), (0, 7)), ((0, 7), (0, 8)), ((0, 8), (1, 4)), ((1, 4), (2, 0)), ((3, 2), (4, 1))))
         self.holds(lambda position: motions.next_word(self.rows, position, ""), (((0, 4), (1, 4)), ((2, 0), (2, 3))))
@@ -409,7 +412,7 @@ class Moved(unittest.TestCase):
         self.holds(lambda position: motions.indentation(self.rows, position), (((1, 3), (0, 0)), ((3, 1), (2, 0)), ((4, 0), (4, 0))))
 
     def test_jumps(self):
-        """A jump goes on in rows that go on, and no further."""
+        """A jump continues in soft-wrapped rows, and no further."""
         self.holds(lambda position: motions.jumped(self.rows, position, "f", "e"),
                    (((0, 0), (0, 2)), ((0, 2), (1, 1)), ((1, 2), (1, 2)), ((2, 0), (3, 2))))
         self.holds(lambda position: motions.jumped(self.rows, position, "t", "e"), (((0, 0), (0, 1)), ((0, 1), (1, 0)), ((2, 0), (3, 1))))
@@ -418,7 +421,7 @@ class Moved(unittest.TestCase):
         self.holds(lambda position: motions.jumped(self.rows, position, "T", "o"), (((1, 2), (0, 7)), ((0, 6), (0, 1)), ((2, 5), (2, 5))))
 
     def test_brackets(self):
-        """A bracket's other one, of this or the next here; with emacs' keys a word where none is."""
+        """The other bracket of this one or the next; with emacs keys a word if there is none."""
         self.holds(lambda position: motions.matched_forward(self.rows, position, True),
                    (((2, 0), (2, 8)), ((2, 8), (2, 0)), ((2, 1), (2, 5)), ((2, 5), (2, 3)), ((2, 9), (2, 9)), ((0, 0), (0, 0)),
                     ((4, 0), (4, 0))))
@@ -434,10 +437,10 @@ class Moved(unittest.TestCase):
 
 
 class Missed(unittest.TestCase):
-    """What isn't here."""
+    """Missing rows."""
 
     def test_attempt(self):
-        """Where a row isn't here nothing changes: neither the view nor what is typed or selected."""
+        """If a row is missing nothing changes: neither the view nor the input or selection."""
         mode = mode_of(TEXT, True, SIZE)
         whole = dict(mode.rows.lines)
         typed(mode, [b" ", b"k", b"30"])
@@ -454,7 +457,7 @@ class Missed(unittest.TestCase):
         self.assertEqual((mode.view.top, mode.count.digits), ((top[0] - 30, 0), ""))
 
     def test_far_selection(self):
-        """What is selected is shown without the rows at its ends."""
+        """A selection is shown without the rows at its ends."""
         mode = mode_of(TEXT, True, SIZE)
         typed(mode, [b" ", b"g"])
         before = LinePainter(mode, 1, 40).lines(12)
@@ -463,7 +466,7 @@ class Missed(unittest.TestCase):
         self.assertEqual(LinePainter(mode, 1, 40).lines(12), before)
 
     def test_bound(self):
-        """No more bytes of rows are kept than the bound: the farthest go."""
+        """The stored rows stay within their limit: the farthest go."""
         rows = Rows(0, 100, 80)
         rows.put(0, [b" " * (MOST_BYTES // 50)] * 100)
         self.assertEqual(rows.size, 100 * (MOST_ROW_BYTES + ROW_BYTES))
@@ -476,7 +479,7 @@ class Missed(unittest.TestCase):
         self.assertTrue(rows.has(90) and rows.has(99) and rows.has(590) and rows.has(599) and not rows.has(589))
 
     def test_outside(self):
-        """Rows that the snapshot hasn't are never put, nor asked for."""
+        """Rows outside the snapshot are never stored, nor requested."""
         rows = Rows(10, 20, 80)
         rows.put(5, [b" x"] * 30)
         self.assertEqual(sorted(rows.lines), list(range(10, 20)))
@@ -484,10 +487,10 @@ class Missed(unittest.TestCase):
 
 
 class Selected(unittest.TestCase):
-    """What is selected, to be seen and copied."""
+    """Selections, displayed and copied."""
 
     def test_halves(self):
-        """A wide character of which a half is selected is, in the text and to be seen."""
+        """A wide character with a selected half is selected, in the text and in the display."""
         for begin, end, is_vi, text in ((1, 3, False, "\u6f22"), (2, 3, False, "\u6f22"), (1, 2, False, "\u6f22"),
                                         (0, 2, False, "a\u6f22"), (2, 2, True, "\u6f22"), (1, 1, True, "\u6f22"),
                                         (2, 4, False, "\u6f22\u5b57"), (3, 3, False, "")):
@@ -506,7 +509,7 @@ class Selected(unittest.TestCase):
                 self.assertEqual((copies(mode.asked), seen), ([text], text), (begin, end, is_vi, is_block))
 
     def test_words(self):
-        """By words, as from a double click on, whole ones are selected to both sides of the first, and lines where the cursor goes down."""
+        """A selection by words, as after a double click, has whole words on both sides of the first, and lines if the cursor goes down."""
         for is_vi, col, keys, text in (
                 (True, 4, b"", "1"), (True, 4, b"lllllllll", "1 of the older"), (True, 26, b"hhh", "number"), (True, 26, b"bb", ", number"),
                 (True, 4, b"j", "1 of the older ones, number-1\nrow 2 of the older ones, number-2\nrow"), (True, 33, b"", "1"),
@@ -520,7 +523,7 @@ class Selected(unittest.TestCase):
             self.assertEqual(copies(found), [text], (is_vi, col, keys))
 
     def test_block_cursor(self):
-        """While a block is selected the cursor keeps its column on shorter rows, and else comes back to it."""
+        """In a block selection the cursor keeps its column on shorter rows, and otherwise returns to it."""
         for is_block in (False, True):
             mode = mode_of("abcdef\nab\nabcdef", True, (3, 20))
             typed(mode, [b"gllll", *([b"v "] if is_block else [b""]), b"j"])
@@ -529,7 +532,7 @@ class Selected(unittest.TestCase):
             self.assertEqual(mode.view.position, (2, 4))
 
     def test_lines_turn(self):
-        """Lines that are selected are whole where the cursor goes over the first of them, by a line or to the top or bottom."""
+        """Selected lines stay whole if the cursor passes the first of them, by a line or to the top or bottom."""
         for keys, rows in ((b"jjVkk", (0, 2)), (b"jjVjo", (2, 3)), (b"jjVjokk", (0, 3)), (b"jjVg", (0, 2)), (b"jjVjog", (0, 3)),
                            (b"jjVkoG", (1, 4)), (b"jjVG", (2, 4)), (b"jjVjgG", (2, 4))):
             mode = mode_of("a1\nb2\nc3\nd4\ne5", True, (3, 20))
@@ -538,7 +541,7 @@ class Selected(unittest.TestCase):
             self.assertEqual(found, "".join(("a1\n", "b2\n", "c3\n", "d4\n", "e5\n")[rows[0] : rows[1] + 1]), keys)
 
     def test_pages(self):
-        """A page is a height less two, or a line where there are no more than two; half of one half a height."""
+        """A page is the height less two, or a line in a view of two lines or fewer; half a page is half the height."""
         for height, page, half in ((2, 1, 1), (1, 1, 1), (3, 1, 1), (10, 8, 5)):
             mode = mode_of("\n".join(map(str, range(50))), True, (height, 20))
             for keys, count in ((b"\x02", page), (b"\x15", half)):
@@ -560,10 +563,10 @@ class Selected(unittest.TestCase):
 
 
 class Searches(unittest.TestCase):
-    """Where a text stands."""
+    """The matches of a text."""
 
     def test_matches(self):
-        """A text is found across rows that go on, in any case where it has no capital."""
+        """A text matches across soft-wrapped rows, in any case if it has no capital."""
         rows = Rows(0, 4, 10)
         rows.put(0, rows_of("the end of the row goes ROUND", 10) + [b" "])
         self.assertEqual(matches(rows, 1, "e row"), [((1, 3), (1, 8))])
@@ -573,23 +576,23 @@ class Searches(unittest.TestCase):
         self.assertEqual(matches(rows, 0, ""), [])
 
     def test_wide(self):
-        """A match that ends with a wide character ends behind both halves, and a letter whose small form is two moves nothing."""
+        """A match that ends with a wide character ends after both halves, and a letter with a two-letter lower case shifts nothing."""
         rows = Rows(0, 1, 20)
         rows.put(0, [" \u0130a\u6f22b".encode()])
         self.assertEqual(matches(rows, 0, "a\u6f22"), [((0, 1), (0, 4))])
 
     def test_first_row(self):
-        """Round the end even the first row is found, at which no row is before."""
+        """With wrap-around even the first row is found, which no row precedes."""
         mode = mode_of("needle\n" + "x\n" * 30, True, (5, 20))
         typed(mode, [b"G", b"/needle\r"])
         self.assertEqual(mode.view.position, (0, 0))
 
 
 class Painted(unittest.TestCase):
-    """What is painted."""
+    """The painting."""
 
     def painted(self, mode, cols=None):
-        """A terminal on which the lines of copy mode are painted."""
+        """Return a terminal with the painted lines of copy mode."""
         cols = cols or mode.rows.cols
         seen = Emulated(mode.view.height, cols)
         for number, line in enumerate(LinePainter(mode, 1, cols).lines(mode.view.height), 1):
@@ -597,7 +600,7 @@ class Painted(unittest.TestCase):
         return seen
 
     def test_lines(self):
-        """Each line is as wide as the rectangle, with blanks behind its row."""
+        """Each line is as wide as the rectangle, with blanks after its row."""
         mode = mode_of(TEXT, True, SIZE)
         typed(mode, [b"g"])
         seen = self.painted(mode)
@@ -605,7 +608,7 @@ class Painted(unittest.TestCase):
         self.assertEqual([line.rstrip() for line in seen.lines()], wanted)
 
     def test_styles(self):
-        """A style leads to the same style by its SGR."""
+        """A style results in the same style by its SGR sequence."""
         for style in (Style(), Style(frozenset({"bold", "reverse"}), 3, 250), Style(frozenset({"underline"}), (1, 2, 3), 12),
                       Style(frozenset(), 9, None)):
             seen = Emulated(1, 4)
@@ -613,14 +616,14 @@ class Painted(unittest.TestCase):
             self.assertEqual(seen.screen[0][0], ("x", style))
 
     def test_matches(self):
-        """What is found is shown, and the match at the cursor otherwise."""
+        """Matches are highlighted, the one at the cursor differently."""
         mode = mode_of("x one x\nx", True, (3, 20))
         typed(mode, [b"g", b"/x\r"])
         grounds = [style.background for _, style in self.painted(mode).screen[0][:7]]
         self.assertEqual(grounds, [6, None, None, None, None, None, 5])
 
     def test_unmarked(self):
-        """What is found is shown until something else is done with emacs' keys, and with vi's until the selection is cleared."""
+        """Matches stay highlighted until another command with emacs keys, and with vi keys until the selection is cleared."""
         for is_vi, keys, is_shown in ((True, [b"g", b"/x\r", b"l"], True), (True, [b"g", b"/x\r", b"\x1b"], False),
                                       (True, [b"g", b"/x\r", b"\x1b", b"n"], True), (False, [b"\x1b<", b"\x13x\r"], True),
                                       (False, [b"\x1b<", b"\x13x\r", b"\x06"], False)):
@@ -629,14 +632,14 @@ class Painted(unittest.TestCase):
             self.assertEqual(any(style.background for _, style in self.painted(mode).screen[0]), is_shown, keys)
 
     def test_matches_joined(self):
-        """What is found is shown in each of the rows over which it goes."""
+        """A match is highlighted in each of its rows."""
         mode = mode_of("abcdefghijklmno", True, (3, 5))
         typed(mode, [b"g", b"/defghijkl\r"])
         grounds = [[style.background for _, style in line] for line in self.painted(mode).screen]
         self.assertEqual(grounds, [[None] * 3 + [5] * 2, [5] * 5, [5] * 2 + [None] * 3])
 
     def test_cut(self):
-        """A wide character that has no room for both halves is a blank."""
+        """A wide character without room for both halves is a blank."""
         mode = mode_of("\u6f22\u6f22", True, (2, 20))
         seen = self.painted(mode, 3)
         self.assertEqual(seen.lines()[0], "\u6f22 ")

@@ -1,5 +1,4 @@
-"""Copy mode at a person's terminal, with a host that is played: how it is opened, drawn, fed and closed, what becomes of what is copied,
-and which buffer is pasted."""
+"""Copy mode at a user's terminal, with a simulated host: opening, drawing, input and closing, the copies, and the pasted buffer."""
 import base64
 from unittest import mock
 
@@ -22,7 +21,7 @@ ONE = Places({1: Rect(1, 1, 23, 80)}, 1, 1)
 
 
 class CopyHost(PlayedHost):
-    """A host that lends rows, and takes texts and buffers to be pasted."""
+    """A host that returns rows, and accepts texts and buffers to paste."""
 
     def __init__(self, scrollback):
         super().__init__()
@@ -30,35 +29,35 @@ class CopyHost(PlayedHost):
         self.connects = False
 
     def takes_texts(self):
-        """Whether it takes texts."""
+        """Return True if it accepts texts."""
         return True
 
     def is_connecting(self):
-        """Whether it may be connected soon."""
+        """Return True if it may be connected soon."""
         return self.connects
 
     def has_room(self, length):
-        """Whether so many bytes more may wait."""
+        """Return True if so many more bytes may wait."""
         return True
 
     def store(self, name, data):
-        """Keeps what is given: bytes, or the number of a buffer."""
+        """Record a stored text: bytes, or the number of a buffer."""
         self.stored.append((name, data))
 
     def cancel(self, name):
-        """Keeps what isn't given any more."""
+        """Record a cancelled text."""
         self.cancelled.append(name)
 
 
 class Copied(Case):
-    """A person at a terminal of 24 by 80."""
+    """A user at a terminal of 24 by 80."""
 
     def setUp(self):
         self.stop_clock()
         self.environment(VISUAL="vi", EDITOR=None, ROAM_CLIPBOARD=None)
 
     def person(self, text=TEXT, told=ONE, size=(24, 80), opens=True, **more):
-        """A person, who has opened copy mode in the pane in focus."""
+        """Return a user with copy mode open in the focused pane."""
         rect = told.rects[told.focus]
         self.scrollback = PlayedScrollback(text, (rect.rows, rect.cols), first=1000)
         self.host = CopyHost(self.scrollback)
@@ -71,14 +70,14 @@ class Copied(Case):
         return person
 
     def settle(self, person, text="x"):
-        """Has the session paint what was asked for; tells the lines that were said."""
+        """Let the session paint the requested parts, and return the lines sent."""
         said = person.said()
         if said:
             person.paints(*(person.display.part.asked or person.session()), text)
         return said
 
     def stands(self, person, seconds):
-        """Sees that what is told stands for so many seconds, and no longer."""
+        """Check that the message stays for so many seconds, and no longer."""
         line = person.display.row.told
         self.passes(person, seconds - 0.1)
         self.assertEqual(person.display.row.told, line)
@@ -86,24 +85,24 @@ class Copied(Case):
         self.assertEqual(person.display.row.told, "")
 
     def passes(self, person, seconds):
-        """Lets so many seconds pass."""
+        """Let so many seconds pass."""
         self.now += seconds
         person.loop.do_due()
 
     def mode(self, person):
-        """The copy mode that is open."""
+        """Return the open copy mode."""
         return person.commands.copying.state.mode
 
     def position(self, person):
-        """The place of its cursor."""
+        """Return the position of its cursor."""
         return self.mode(person).view.position
 
 
 class Opened(Copied):
-    """How it is opened and closed."""
+    """Opening and closing."""
 
     def test_opened(self):
-        """C-b [ asks for a snapshot and masks the pane; once all is painted anew its rows stand there, and not what the session shows."""
+        """C-b [ requests a snapshot and masks the pane; after the repaint its rows are there in place of the session's."""
         person = self.person(opens=False)
         person.display.outer.waiting.clear()
         self.assertEqual(person.types(b"\x02["), [])
@@ -116,7 +115,7 @@ class Opened(Copied):
         self.assertEqual(shown[23], "[0/77] copy mode")
 
     def test_cursor(self):
-        """After a painting the cursor stands where copy mode has it, and before the next where the last one left it."""
+        """After a painting the cursor is at copy mode's position, and before the next at the last painting's."""
         person = self.person()
         person.types(b"gllll")
         outer = person.display.outer
@@ -130,7 +129,7 @@ class Opened(Copied):
         self.assertTrue(bytes(outer.waiting[before:]).endswith(b"\x1b[1;5H\x1b[?25h"))
 
     def test_stale(self):
-        """What is painted before the mask holds doesn't reach the terminal, and a drawing that isn't there yet isn't drawn over it."""
+        """A painting from before the mask doesn't reach the terminal, and a popup isn't drawn before it is ready."""
         person = self.person(opens=False)
         person.types(b"\x02[")
         person.said()
@@ -143,7 +142,7 @@ class Opened(Copied):
         self.assertIn("row 99 of many, the 99th", person.shown())
 
     def test_closed(self):
-        """q lets the snapshot go and has all painted again, the part with the cursor; what is typed goes to the pane then."""
+        """q releases the snapshot and requests a full repaint, of the part with the cursor; input then goes to the pane."""
         person = self.person()
         self.assertEqual(person.types(b"q"), [])
         self.assertEqual((person.said(), self.scrollback.released), (["unmask", "part 23 80"], [(1, 1)]))
@@ -152,7 +151,7 @@ class Opened(Copied):
         self.assertEqual(person.types(b"q"), ["char 71"])
 
     def test_ahead(self):
-        """What is typed before the snapshot is lent is done behind that, in order."""
+        """Input before the snapshot arrives is handled after it, in order."""
         person = self.person(opens=False)
         self.scrollback.is_quick = False
         self.assertEqual(person.types(b"\x02[g3j"), [])
@@ -162,7 +161,7 @@ class Opened(Copied):
         self.assertEqual(self.position(person), (1003, 0))
 
     def test_page_and_search(self):
-        """C-b PgUp opens it a page up, and C-b / in its search; where it is open these do the same there."""
+        """C-b PgUp opens it a page up, and C-b / in its search; in an open one these keys do the same."""
         person = self.person(opens=False)
         person.types(b"\x02\x1b[5~")
         self.settle(person)
@@ -187,7 +186,7 @@ class Opened(Copied):
             self.assertEqual(self.position(other), position)
 
     def test_searched(self):
-        """What was searched for last is searched on for once it is opened again."""
+        """The last search continues after it is opened again."""
         person = self.person()
         person.types(b"?the 7th\rq")
         self.settle(person)
@@ -195,7 +194,7 @@ class Opened(Copied):
         self.assertEqual(self.position(person), (1006, 15))
 
     def test_not_lent(self):
-        """Where nothing lends rows, or not in two seconds, the view that all share scrolls, by what was typed meanwhile too."""
+        """Without rows, or after two seconds, the shared view scrolls, also by the input so far."""
         for change in ("none", "no host", "late", "no making"):
             person = self.person(opens=False)
             self.scrollback.lends = change != "none"
@@ -224,7 +223,7 @@ class Opened(Copied):
         self.assertEqual(person.display.row.told, "this pane has no stored rows")
 
     def test_not_lent_late(self):
-        """What was typed for a search that can't be is typed nowhere, and neither is what waited for a snapshot anew."""
+        """Input for a failed search is not typed anywhere, and neither is input that waited for another snapshot."""
         person = self.person(opens=False)
         self.scrollback.is_quick = self.scrollback.lends = False
         person.types(b"\x02/secret\r")
@@ -238,7 +237,7 @@ class Opened(Copied):
         self.stands(person, 2.0)
 
     def test_not_lent_again(self):
-        """What was typed while no rows were lent is not done again once some are."""
+        """Input while there were no rows is not repeated once there are some."""
         person = self.person(opens=False)
         self.scrollback.is_quick = self.scrollback.lends = False
         person.types(b"\x02[kkk")
@@ -250,7 +249,7 @@ class Opened(Copied):
         self.assertEqual(self.position(person), self.position(again))
 
     def test_not_lent_prompt(self):
-        """What was typed before a prompt isn't typed into it where no rows are lent; the prompt is there still."""
+        """Without rows, input before a prompt isn't typed into it; the prompt stays."""
         person = self.person(opens=False)
         self.scrollback.is_quick = self.scrollback.lends = False
         person.types(b"\x02[kkxq\x02,")
@@ -262,7 +261,7 @@ class Opened(Copied):
         self.assertEqual((person.types(b"c\x1bd"), person.display.row.prompt), (["char 64"], ""))
 
     def test_connecting(self):
-        """A host that may be connected soon, as one that was launched just before, is waited for; not longer than for a snapshot."""
+        """A host that may connect soon, such as one launched just before, is awaited; not longer than a snapshot."""
         person = self.person(opens=False)
         self.host.connects = True
         self.assertEqual((person.types(b"\x02[gj"), self.scrollback.asked), ([], []))
@@ -281,7 +280,7 @@ class Opened(Copied):
         self.assertEqual(self.scrollback.asked, [])
 
     def test_focus_awaited(self):
-        """Where it isn't told yet where the panes are that is waited for; not longer than for a snapshot."""
+        """It waits for unreported pane positions, but not longer than for a snapshot."""
         for is_late in (False, True):
             person = self.person(opens=False)
             told, person.panes.place.told, person.panes.awaited = person.panes.place.told, None, True
@@ -298,7 +297,7 @@ class Opened(Copied):
                 self.assertEqual((self.position(person), person.link.acts[before:]), ((1001, 0), []))
 
     def test_connection_cut(self):
-        """Where the connection is lost before a snapshot is lent it is asked for again once there is another; not longer than for one."""
+        """If the connection is lost before the snapshot the request is repeated on the next one; not longer than for one."""
         for is_late in (False, True):
             person = self.person(opens=False)
             self.scrollback.is_quick = self.scrollback.lends = False
@@ -317,7 +316,7 @@ class Opened(Copied):
                 self.assertEqual(self.position(person), (1001, 0))
 
     def test_odd_snapshot(self):
-        """A snapshot without a screen, or with one that no pane can have, is none."""
+        """A snapshot without a screen, or with an impossible one, is ignored."""
         for screen in ([], [b" x"] * 201):
             person = self.person(opens=False)
             self.scrollback.snapshot = lambda pane, generation, told, screen=screen: told(Snapshot(pane, generation, 0, 5, screen))
@@ -325,7 +324,7 @@ class Opened(Copied):
             self.assertFalse(person.commands.copying.state.is_on())
 
     def test_late_answer(self):
-        """An answer that comes after that, or for what was closed meanwhile, opens nothing."""
+        """A late answer, or one for a closed copy mode, opens nothing."""
         person = self.person(opens=False)
         self.scrollback.is_quick = False
         person.types(b"\x02[")
@@ -336,14 +335,14 @@ class Opened(Copied):
         self.assertEqual(person.types(b"x"), ["char 78"])
 
     def test_read_only(self):
-        """Who only watches has it too: nothing of it is an act, and what is copied is no buffer."""
+        """A read-only user has it too: nothing of it is an act, and a copy is no buffer."""
         person = self.person(is_read_only=True)
         self.assertEqual(person.types(b"g ey"), [])
         self.assertEqual((self.scrollback.texts, person.display.outer.clips), ([], [base64.b64encode(b"row").decode()]))
         self.assertEqual(person.display.row.told, "3 characters copied to the clipboard")
 
     def test_refreshed(self):
-        """r has a new snapshot."""
+        """r takes a new snapshot."""
         person = self.person()
         self.scrollback.lines.append(b" the newest")
         person.types(b"r")
@@ -352,7 +351,7 @@ class Opened(Copied):
         self.assertEqual(self.scrollback.asked, [("snapshot", 1, 1), ("snapshot", 1, 1)])
 
     def test_more(self):
-        """How many rows came since is told in the last row; of another pane nothing is."""
+        """The last row shows the number of new rows, but not of another pane."""
         person = self.person()
         self.scrollback.on_more(1, 1, 1)
         self.assertEqual(person.shown()[23], "[0/77] copy mode; 1 new row")
@@ -364,10 +363,10 @@ class Opened(Copied):
 
 
 class Fed(Copied):
-    """Rows that have to be asked for, and keys that wait for them."""
+    """Rows that have to be requested, and keys that wait for them."""
 
     def test_asks(self):
-        """Rows are asked for once they are needed, with a page ahead, and no row twice."""
+        """Rows are requested on demand, with a page ahead, and no row twice."""
         person = self.person("\n".join(f"row {number}" for number in range(1, 1001)))
         person.types(b"\x1b[5~")
         self.assertEqual(self.scrollback.asked[1:], [("rows", 1931, 46)])
@@ -380,7 +379,7 @@ class Fed(Copied):
         self.assertEqual(person.shown()[0], "row 1")
 
     def test_ever_more(self):
-        """One key that needs many rows asks for ever more of them at once, 2,000 at most."""
+        """One key that needs many rows requests ever more of them at once, 2,000 at most."""
         person = self.person("x\n" * 9000 + "x")
         person.types(b"{")
         counts = [count for word, _, count in self.scrollback.asked[1:]]
@@ -388,7 +387,7 @@ class Fed(Copied):
         self.assertEqual(self.position(person), (1000, 0))
 
     def test_cut_answer(self):
-        """Where fewer rows come than were asked for the rest is asked for."""
+        """If fewer rows come than requested the rest is requested."""
         person = self.person("\n".join(f"row {number}" for number in range(1, 1001)))
         self.scrollback.most = 10
         person.types(b"\x1b[5~")
@@ -397,7 +396,7 @@ class Fed(Copied):
         self.assertIn("row 957", person.shown())
 
     def test_waits(self):
-        """Keys wait behind what waits for rows, in order; after half a second that is told."""
+        """Keys wait in order after those that wait for rows; after half a second that is reported."""
         person = self.person("\n".join(f"row {number}" for number in range(1, 1001)))
         self.scrollback.is_quick = False
         person.types(b"\x1b[5~\x1b[5~jj0 $y")
@@ -410,7 +409,7 @@ class Fed(Copied):
         self.assertNotEqual(person.display.row.told, WAITING)
 
     def test_leaves(self):
-        """C-c leaves at once while rows are awaited, whatever waits before it, and what comes then is nothing."""
+        """C-c leaves at once while rows are pending, whatever waits before it, and later answers do nothing."""
         person = self.person("\n".join(f"row {number}" for number in range(1, 1001)))
         self.scrollback.is_quick = False
         person.types(b"\x1b[5~kkk\x03")
@@ -420,14 +419,14 @@ class Fed(Copied):
         self.assertNotIn("copy waits", person.loop.due)
 
     def test_gone(self):
-        """Where the rows aren't there any more, as where the host has ended, it is closed with a line."""
+        """If the rows are gone, for example with the host, it closes with a message."""
         person = self.person("\n".join(f"row {number}" for number in range(1, 1001)))
         self.scrollback.lends = False
         person.types(b"\x1b[5~k")
         self.assertEqual((person.commands.copying.state.is_on(), person.display.row.told), (False, GONE))
 
     def test_connection_lost(self):
-        """Where the connection to the host is lost rows are asked for again once there is another."""
+        """After a lost connection to the host rows are requested again on the next one."""
         person = self.person("\n".join(f"row {number}" for number in range(1, 1001)))
         self.scrollback.lends, self.host.connects = False, True
         person.types(b"gj")
@@ -450,7 +449,7 @@ class Fed(Copied):
         self.assertEqual((person.commands.copying.state.is_on(), person.display.row.told), (False, GONE))
 
     def test_full(self):
-        """No more is read while too much waits."""
+        """While too much waits no more input is read."""
         person = self.person(opens=False)
         self.scrollback.is_quick = False
         person.types(b"\x02[" + b"k" * (MOST_WAITING - 1))
@@ -463,7 +462,7 @@ class Fed(Copied):
         self.assertEqual(self.position(person)[0], 1000)
 
     def test_finds(self):
-        """A search asks where its text is next, behind what waits, and is done once that is told."""
+        """A search requests the next match after earlier requests, and finishes once the answer is here."""
         person = self.person()
         self.scrollback.is_quick = False
         person.types(b"?row 7 of\rk")
@@ -474,10 +473,10 @@ class Fed(Copied):
 
 
 class Keeps(Copied):
-    """What becomes of a text that is copied."""
+    """The copied text."""
 
     def test_copied(self):
-        """A text is a buffer, and on the clipboard; that is told."""
+        """A text becomes a buffer and is set on the clipboard, with a message."""
         person = self.person()
         person.types(b"gw e\r")
         self.assertEqual((self.scrollback.texts, person.display.outer.clips), ([b"1 of"], [base64.b64encode(b"1 of").decode()]))
@@ -485,7 +484,7 @@ class Keeps(Copied):
         self.stands(person, 2.0)
 
     def test_clipboard(self):
-        """Where ROAM_CLIPBOARD is off the clipboard isn't set."""
+        """If ROAM_CLIPBOARD is off the clipboard isn't set."""
         for word, count in (("off", 0), ("external", 1), ("on", 1)):
             self.environment(ROAM_CLIPBOARD=word)
             person = self.person()
@@ -495,7 +494,7 @@ class Keeps(Copied):
             self.assertEqual(person.display.row.told, "2 lines copied; C-b ] pastes")
 
     def test_not_kept(self):
-        """Where no buffer is kept the clipboard is set all the same, and that is told."""
+        """Without a buffer the clipboard is still set, with a message."""
         person = self.person()
         self.scrollback.keeps = False
         person.types(b"g e\r")
@@ -503,7 +502,7 @@ class Keeps(Copied):
         self.assertEqual(len(person.display.outer.clips), 1)
 
     def test_all(self):
-        """All rows are copied, which are asked for as they are needed; with more than 1 MB nothing is, which is told."""
+        """All rows are copied, requested on demand; above 1 MB nothing is, with a message."""
         person = self.person("\n".join(["yes"] * 3000))
         person.types(b"g G$\r")
         self.assertEqual(self.scrollback.texts[0], b"yes\n" * 3000)
@@ -513,7 +512,7 @@ class Keeps(Copied):
         self.assertEqual((self.scrollback.texts, person.display.row.told), ([], "not copied: it exceeds 1 MB"))
 
     def test_appended(self):
-        """A puts a text behind the newest buffer, which stays as it was; where there is none it is one."""
+        """A appends a text to the newest buffer as a new one; without a buffer it becomes the first."""
         person = self.person()
         person.types(b"g eA")
         person.types(b"\x02[gw eA")
@@ -523,17 +522,17 @@ class Keeps(Copied):
         self.assertEqual((len(self.scrollback.texts), person.display.row.told), (3, "not copied: it exceeds 1 MB"))
 
     def test_nothing(self):
-        """Where nothing is selected nothing is copied."""
+        """Without a selection nothing is copied."""
         person = self.person()
         person.types(b"\r")
         self.assertEqual((self.scrollback.texts, person.display.outer.clips, person.commands.copying.state.is_on()), ([], [], False))
 
 
 class Meanwhile(Copied):
-    """What happens while it is open."""
+    """Events while it is open."""
 
     def test_paste(self):
-        """A paste ends it and is pasted; into a line that is asked for it is typed."""
+        """A paste ends it and is pasted; into a line it is typed."""
         person = self.person()
         self.assertEqual(person.types(b"\x1b[200~ab\x1b[201~"), ["char 61", "char 62"])
         self.assertFalse(person.commands.copying.state.is_on())
@@ -547,7 +546,7 @@ class Meanwhile(Copied):
         self.assertEqual((person.types(b" of it\x1b[201~x"), person.commands.copying.state.is_on()), (["char 78"], False))
 
     def test_prefix(self):
-        """Keys behind the prefix mean what they always do; the prefix twice is a key of copy mode."""
+        """Keys after the prefix have their usual meanings; the prefix twice is a key of copy mode."""
         person = self.person()
         self.assertEqual(person.types(b"\x02\x02"), [])
         self.assertEqual(person.display.row.line(), "[21/77] copy mode")
@@ -562,7 +561,7 @@ class Meanwhile(Copied):
         self.assertEqual(person.left, "[detached]")
 
     def test_escapes(self):
-        """Behind an escape that came with it the prefix is a key with Meta; an escape alone is the key."""
+        """After an escape that arrived with it the prefix is a key with Meta; an escape alone is the key."""
         self.environment(VISUAL="emacs")
         person = self.person("a (b c) d\n" * 30)
         person.types(b"\x1b<\x05")
@@ -576,7 +575,7 @@ class Meanwhile(Copied):
         self.assertFalse(person.commands.copying.state.is_on())
 
     def test_help(self):
-        """The help stands in its place until the next key, which means nothing else; then all is drawn again."""
+        """The help covers it until the next key, which has no other effect; then everything is redrawn."""
         person = self.person()
         person.types(b"g\x02?")
         self.assertIn("copy mode", "\n".join(person.shown()))
@@ -585,7 +584,7 @@ class Meanwhile(Copied):
         self.assertEqual((self.position(person), person.shown()[0]), ((1000, 0), "row 1 of many, the 1th"))
 
     def test_focus(self):
-        """It goes on where somebody else puts another pane in focus, and ends where this person does."""
+        """It stays open if somebody else focuses another pane, and ends if this user does."""
         person = self.person(told=PANES)
         person.tell(PANES._replace(focus=2))
         self.settle(person)
@@ -598,7 +597,7 @@ class Meanwhile(Copied):
             self.assertFalse(person.commands.copying.state.is_on(), keys)
 
     def test_pane_ends(self):
-        """The pane's end ends it, and so does another life of its number."""
+        """The pane's end ends it, and so does another generation of its number."""
         person = self.person(told=PANES)
         person.tell(Places({2: Rect(1, 1, 11, 80), 3: Rect(13, 1, 11, 80)}, 2, 1))
         self.assertFalse(person.commands.copying.state.is_on())
@@ -608,7 +607,7 @@ class Meanwhile(Copied):
         self.assertFalse(person.commands.copying.state.is_on())
 
     def test_pane_resized(self):
-        """Where the pane has another size its rows are laid out for that, under another mask."""
+        """If the pane has another size its rows are laid out for that, under another mask."""
         person = self.person("\n".join(f"{number} {'x' * 34} {'y' * 20}" for number in range(1, 51)), PANES)
         person.types(b"gjj")
         self.settle(person)
@@ -620,7 +619,7 @@ class Meanwhile(Copied):
         self.assertEqual(self.scrollback.texts[0].count(b"x"), 34)
 
     def test_terminal_resized(self):
-        """A terminal of another size shows it in what is shown of the pane then; where nothing is it ends."""
+        """After a resize of the terminal it uses the pane's visible part; without one it ends."""
         person = self.person()
         person.resize(10, 30)
         said = self.settle(person)
@@ -629,7 +628,7 @@ class Meanwhile(Copied):
         self.assertEqual(person.shown()[8:], ["row 100 of many, the 100th", "[0/91] copy mode"])
 
     def test_part(self):
-        """On a small terminal it is drawn on what is shown of the pane, and the part stays where it was."""
+        """On a small terminal it covers the pane's visible part, and the part stays in place."""
         person = self.person(told=PANES._replace(focus=2), size=(12, 50), opens=False)
         person.display.take(DisplayRecord("part", (4, 30)))
         person.types(b"\x02[")
@@ -642,7 +641,7 @@ class Meanwhile(Copied):
         self.assertEqual((person.commands.copying.state.is_on(), person.display.row.told), (False, NO_ROOM))
 
     def test_client_lost(self):
-        """Another connection to a start is told of the mask, and the part is the same."""
+        """A new client connection gets the mask, and the part is the same."""
         person = self.person(told=PANES._replace(focus=2), size=(12, 50), opens=False)
         person.display.take(DisplayRecord("part", (4, 30)))
         person.types(b"\x02[")
@@ -655,14 +654,14 @@ class Meanwhile(Copied):
         self.assertIn("row 100 of many, the 100th", person.shown()[6])
 
     def test_paused(self):
-        """While there is no connection C-c and q leave, as without it."""
+        """Without a connection C-c and q leave, as in other modes."""
         person = self.person()
         person.commands.acts.paused = True
         person.types(b"q")
         self.assertEqual(person.left, "[left]")
 
     def test_whole(self):
-        """Where the session is shown whole, with its own status row, the line stands over that."""
+        """In a session shown whole, with its own status row, the line covers that."""
         person = self.person(is_whole=True, opens=False)
         person.paints(24, 80)
         person.types(b"\x02[")
@@ -676,23 +675,23 @@ class Meanwhile(Copied):
 
 
 class Pointed(Copied):
-    """The mouse, where roam has it."""
+    """The mouse, if roam uses it."""
 
     def person(self, *words, **more):
-        """A person who has switched the mouse on."""
+        """Return a user with the mouse switched on."""
         person = super().person(*words, **more)
         person.commands.pointing.is_on = True
         return person
 
     def points(self, person, *reports):
-        """Points; tells the acts."""
+        """Report mouse events, and return the acts."""
         before = len(person.link.lines)
         for one in reports:
             person.keyboard.fed(report(*one))
         return [line for line in person.link.lines[before:] if line.startswith("focus")]
 
     def test_wheel(self):
-        """The first notch of the wheel opens it three rows up, each further one scrolls, and going past the last row closes it."""
+        """The first notch of the wheel opens it three rows up, each further one scrolls, and scrolling past the last row closes it."""
         person = self.person(opens=False)
         self.assertEqual(self.points(person, (64, 5, 5)), [])
         self.settle(person)
@@ -708,7 +707,7 @@ class Pointed(Copied):
         self.assertFalse(person.commands.copying.state.is_on())
 
     def test_wheel_selected(self):
-        """While something is selected the wheel doesn't close it."""
+        """With a selection the wheel doesn't close it."""
         person = self.person(opens=False)
         self.points(person, (64, 5, 5))
         self.settle(person)
@@ -717,13 +716,13 @@ class Pointed(Copied):
         self.assertTrue(person.commands.copying.state.is_on())
 
     def test_wheel_elsewhere(self):
-        """Over another pane it opens there, and puts that in focus."""
+        """Over another pane the wheel opens it there, and focuses that pane."""
         person = self.person(told=PANES, opens=False)
         self.assertEqual(self.points(person, (64, 5, 50)), ["focus 2"])
         self.assertEqual((person.commands.copying.state.pane, person.said()), (2, ["part 0 0 23 80", "mask 0 40 11 40", "focus 2"]))
 
     def test_wheel_not_lent(self):
-        """Where no rows are lent the wheel scrolls the view that all share, each notch that came meanwhile too."""
+        """Without rows the wheel scrolls the shared view, by each notch that came meanwhile too."""
         person = self.person(opens=False)
         self.scrollback.is_quick, self.scrollback.lends = False, False
         self.points(person, (64, 5, 5), (64, 5, 5))
@@ -731,7 +730,7 @@ class Pointed(Copied):
         self.assertEqual(person.display.row.told.split(":")[0], "6 rows back")
 
     def test_drag(self):
-        """What is dragged over is selected, copied as the button is let go, and that leaves."""
+        """A drag selects, the release copies, and copy mode ends."""
         person = self.person(opens=False)
         self.assertEqual(self.points(person, (0, 23, 5), (32, 23, 6)), [])
         self.settle(person)
@@ -739,7 +738,7 @@ class Pointed(Copied):
         self.assertEqual((self.scrollback.texts, person.commands.copying.state.is_on()), ([b"100 of "], False))
 
     def test_drag_out(self):
-        """What is dragged above the pane has rows shown, one more each twentieth of a second, until it is let go."""
+        """A drag above the pane scrolls, one row each twentieth of a second, until the release."""
         person = self.person(told=PANES._replace(focus=3), opens=False)
         self.points(person, (0, 15, 45), (32, 15, 46))
         self.settle(person)
@@ -772,7 +771,7 @@ class Pointed(Copied):
         self.assertEqual((self.scrollback.texts, person.commands.copying.state.is_on()), ([], False))
 
     def test_click(self):
-        """A click puts the cursor there; one in another pane puts that in focus, which ends it."""
+        """A click moves the cursor there; one in another pane focuses that, which ends it."""
         person = self.person(told=PANES)
         self.points(person, (0, 3, 6), (0, 3, 6, True))
         self.assertEqual(self.position(person), (1079, 5))
@@ -780,7 +779,7 @@ class Pointed(Copied):
         self.assertFalse(person.commands.copying.state.is_on())
 
     def test_program(self):
-        """A program that has the mouse is sent reports, but not while copy mode is over its pane."""
+        """A program with the mouse gets reports, but not while copy mode covers its pane."""
         person = self.person(told=PANES, opens=False)
         person.panes.modes_of = {1: "motion sgr", 2: "motion sgr"}
         self.assertEqual(len(self.points(person, (64, 3, 6), (0, 3, 6), (32, 3, 7), (0, 3, 7, True))), 4)
@@ -791,10 +790,10 @@ class Pointed(Copied):
 
 
 class Chosen(Copied):
-    """Buffers that are pasted."""
+    """Pasted buffers."""
 
     def test_newest(self):
-        """C-b ] pastes the newest buffer, by a mark; where none is that is told."""
+        """C-b ] pastes the newest buffer, by a placeholder; without one a message appears."""
         person = self.person(opens=False)
         person.types(b"\x02]")
         self.assertEqual((self.host.stored, person.display.row.told), ([], "there are no buffers"))
@@ -807,7 +806,7 @@ class Chosen(Copied):
         self.assertEqual((person.said(), person.link.acts[-1]), ([" ; ".join(["paste", *placeholder_acts(name)])], "char 78"))
 
     def test_cut(self):
-        """Where the connection is cut as it is asked for it is asked for again, while that may be there soon; else it says so."""
+        """If the connection is cut during the request it is repeated while a new one may come soon; else a message appears."""
         person = self.person(opens=False)
         self.scrollback.texts = [b"one"]
         self.host.connects = True
@@ -827,7 +826,7 @@ class Chosen(Copied):
         self.assertEqual((len(self.host.stored), person.display.row.told), (1, lists.UNTOLD))
 
     def test_refused(self):
-        """What is refused, or not taken, is told, and what waits behind it is dropped."""
+        """A refusal, or a failure to store, is reported, and later input is dropped."""
         for word, more, told in (("refused", "it isn't kept", "not pasted: it isn't kept"),
                                  ("untold", "", "not pasted: the pty host accepts nothing")):
             person = self.person(opens=False)
@@ -844,14 +843,14 @@ class Chosen(Copied):
         self.assertEqual((person.commands.copying.state.is_on(), len(self.host.stored)), (False, 1))
 
     def test_read_only(self):
-        """Who only watches pastes nothing."""
+        """A read-only user pastes nothing."""
         person = self.person(is_read_only=True, opens=False)
         self.scrollback.texts = [b"one"]
         person.types(b"\x02]\x02=")
         self.assertEqual((self.host.stored, person.commands.lists.is_on()), ([], False))
 
     def test_read(self):
-        """Lines that are only read scroll, until q, Return or the prefix; in the midst of something else they aren't shown."""
+        """Lines to read scroll, until q, Return or the prefix; in the middle of something else they aren't shown."""
         person, lines = self.person(opens=False), [f"row {number}" for number in range(60)]
         for ends, acts in ((b"q", []), (b"\r", []), (b"\x1b", []), (b"\x02o", ["next"])):
             self.assertTrue(person.commands.lists.show_lines(lines))
@@ -869,7 +868,7 @@ class Chosen(Copied):
         self.assertFalse(person.commands.lists.show_lines(lines))
 
     def test_list(self):
-        """C-b = lists the buffers over the pane, the newest first; the one that is chosen is pasted."""
+        """C-b = lists the buffers over the pane, the newest first; the chosen one is pasted."""
         person = self.person(opens=False)
         self.scrollback.texts = [b"first", "\u6f22 \x1b[31m".encode(), b"third"]
         person.types(b"\x02=")
@@ -890,7 +889,7 @@ class Chosen(Copied):
         self.assertEqual(person.types(b"x"), ["char 78"])
 
     def test_list_ends(self):
-        """The list ends with its pane, another focus of this person, a paste, and where copy mode is opened; with another size it stays."""
+        """The list ends with its pane, with this user's move of the focus, a paste, and copy mode; another size keeps it."""
         for ends in (lambda person: person.tell(Places({2: Rect(1, 1, 23, 80)}, 2, 1)), lambda person: person.types(b"\x02q2"),
                      lambda person: person.types(b"\x1b[200~x\x1b[201~"), lambda person: person.types(b"\x02[")):
             person = self.person(told=PANES, opens=False)
@@ -908,7 +907,7 @@ class Chosen(Copied):
         self.assertEqual((self.settle(person), person.shown()[0][:20].rstrip()), (["unmask", "mask 0 0 10 20"], "0: 3 bytes: one"))
 
     def test_list_wheeled(self):
-        """The list ends where the wheel opens copy mode over it, whose keys are its then."""
+        """The list ends if the wheel opens copy mode over it, which then takes the keys."""
         person = self.person(told=ONE, opens=False)
         person.commands.pointing.is_on = True
         self.scrollback.texts = [b"one"]
@@ -920,7 +919,7 @@ class Chosen(Copied):
         self.assertEqual((person.commands.copying.state.is_on(), person.modes.drawn, person.types(b"x")), (False, None, ["char 78"]))
 
     def test_late_list(self):
-        """A list that comes after the person went on isn't opened."""
+        """A list that arrives after the user has continued isn't opened."""
         person = self.person(opens=False)
         self.scrollback.texts, self.scrollback.is_quick = [b"one"], False
         person.types(b"\x02=")

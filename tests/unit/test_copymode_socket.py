@@ -1,4 +1,4 @@
-"""Copy mode at the host's socket `host`: what it asks and what it makes of the answers, with a filter that is played."""
+"""Copy mode at the host's socket `host`: its requests, and its use of the answers, with a simulated scrollback process."""
 from aids import Case, LinkedClient
 from roam_live.frontend.copymode.state import GONE
 from roam_live.protocol.panes import Places, Rect
@@ -9,7 +9,7 @@ SCREEN = b"".join(b" screen %d\n" % row for row in range(1, 24))
 
 
 class Connected(Rows):
-    """A person whose front end is connected to a host."""
+    """A user whose front end is connected to a host."""
 
     def setUp(self):
         super().setUp()
@@ -25,13 +25,13 @@ class Connected(Rows):
         self.loop.turns(4)
 
     def types(self, text):
-        """Types, and has all go on that can."""
+        """Type, and let everything continue."""
         acts = self.person.types(text)
         self.loop.turns(12)
         return acts
 
     def opened(self, screen=SCREEN):
-        """Opens copy mode."""
+        """Open copy mode."""
         self.types(b"\x02[")
         self.prints(b"screen 0 %d %d\n" % (screen.count(b"\n"), len(screen)) + screen)
         self.loop.turns(6)
@@ -39,11 +39,11 @@ class Connected(Rows):
         self.person.paints(23, 80)
 
     def line(self):
-        """The last row."""
+        """Return the last row."""
         return self.person.shown()[23]
 
     def test_opened(self):
-        """The rows of the screen are shown, and those that left it above them."""
+        """The rows of the screen are shown, and the scrollback above them."""
         self.opened()
         self.assertEqual((self.person.shown()[22], self.line()), ("screen 23", "[0/3] copy mode"))
         self.types(b"g")
@@ -52,7 +52,7 @@ class Connected(Rows):
         self.assertEqual(self.scrollback.room.snapshots, [])
 
     def test_found(self):
-        """A text is found in rows that went on, and round the end."""
+        """A text is found in soft-wrapped rows, and with wrap-around."""
         self.opened()
         self.types(b"?beta\r")
         self.assertEqual(self.person.commands.copying.state.mode.view.position, (1, 0))
@@ -62,7 +62,7 @@ class Connected(Rows):
         self.assertEqual(self.person.commands.copying.state.mode.view.position, (0, 0))
 
     def test_copied(self):
-        """What is copied is the newest buffer, which C-b ] has put where its placeholder is typed."""
+        """A copy is the newest buffer, which C-b ] inserts at its placeholder."""
         self.opened()
         self.types(b"gjV\r")
         self.assertEqual(self.socket.uploads.buffers.texts, {1: b"beta\n"})
@@ -73,7 +73,7 @@ class Connected(Rows):
         self.assertEqual(len(placeholders), 1)
 
     def test_more(self):
-        """How many rows came since is told, and what was there stays."""
+        """The number of new rows is reported, and the existing ones stay."""
         self.opened()
         self.prints(b"rows 0 2 6\n d\n e\n")
         self.loop.turns(6)
@@ -84,13 +84,13 @@ class Connected(Rows):
         self.assertEqual(self.person.display.row.line(), "[0/5] copy mode")
 
     def test_not_kept(self):
-        """Of a pane of which nothing is kept the view that all share scrolls."""
+        """For a pane without scrollback the shared view scrolls."""
         self.person.panes.making = lambda pane: f"{pane} 9"
         self.assertEqual(self.types(b"\x02["), [])
         self.assertEqual(self.types(b"k"), ["view 1"])
 
     def test_lost(self):
-        """Where the host goes what was had is shown on, and it is closed once more is needed."""
+        """After the host's end the rows so far stay visible, and it closes once more are needed."""
         self.prints(b"rows 0 500 2000\n" + b" ab\n" * 500)
         self.opened()
         self.types(b"\x1b[5~")

@@ -1,4 +1,4 @@
-"""What a person's terminal shows: a part of the session, or lines in its place, and a line of its own; and what is typed meanwhile."""
+"""A user's display: a part of the session, or lines in its place, and a line of its own; and the input meanwhile."""
 import os
 import pty
 import signal
@@ -26,7 +26,7 @@ FITS = "C-b r fits"
 
 
 class OuterTerminal:
-    """A terminal of a size, and what was written there."""
+    """A terminal of a size, and its output."""
 
     def __init__(self, rows, cols):
         self.rows, self.cols = rows, cols
@@ -35,65 +35,65 @@ class OuterTerminal:
         self.title_and_shape, self.reports, self.clips = ("", 0), "", []
 
     def size(self):
-        """Its rows and columns."""
+        """Return its rows and columns."""
         return self.rows, self.cols
 
     def set_title_and_shape(self, title, shape):
-        """Keeps a title and a shape."""
+        """Record a title and a shape."""
         self.title_and_shape = title, shape
 
     def ask(self, reports):
-        """Keeps which reports of the mouse it is asked for."""
+        """Record the requested mouse reports."""
         self.reports = reports
 
     set_keypad, ring = outer_terminal.OuterTerminal.set_keypad, outer_terminal.OuterTerminal.ring
     write = outer_terminal.OuterTerminal.write
 
     def set_clip(self, text):
-        """Keeps a text for the clipboard."""
+        """Record a text for the clipboard."""
         self.clips.append(text)
 
     def shown(self):
-        """The rows that it shows, without spaces at their ends."""
+        """Return its visible rows, without trailing spaces."""
         emulated = Emulated(self.rows, self.cols)
         emulated.fed(bytes(self.waiting))
         return [line.rstrip() for line in emulated.lines()]
 
 
 class ClientLink:
-    """What is said and typed."""
+    """The lines and the input sent."""
 
     def __init__(self, is_read_only=False):
         self.is_read_only, self.has_taken = is_read_only, True
         self.acts, self.lines = [], []
 
     def is_done(self):
-        """Whether the session has taken all."""
+        """Return True if the session has taken everything."""
         return self.has_taken
 
     def untaken(self):
-        """How many lines it hasn't."""
+        """Return the number of untaken lines."""
         return 0 if self.has_taken else 99
 
     def type(self, *acts, is_pasted=False):
-        """Keeps acts."""
+        """Record acts."""
         self.acts += acts
 
     def say(self, line):
-        """Keeps a line."""
+        """Record a line."""
         self.lines.append(line)
 
     def drop_pasted(self):
-        """Nothing waits."""
+        """Return no lines: nothing waits."""
         return []
 
     def is_full_behind(self):
-        """Nothing does."""
+        """Return False: nothing waits."""
         return False
 
 
 class AnySession:
-    """A session's folder, and where its panes are."""
+    """A session's folder, and its pane positions."""
 
     served, number = "server", 0
 
@@ -102,12 +102,12 @@ class AnySession:
         self.told = None
 
     def busy(self):
-        """What runs there."""
+        """Return the programs there."""
         return {1: "vi", 2: "vi"}
 
 
 class PlayedPanes:
-    """What is told of a session's panes."""
+    """The reports of a session's panes."""
 
     awaited = full = brackets = False
     knows = True
@@ -118,63 +118,63 @@ class PlayedPanes:
         self.modes_of = {}
 
     def probe(self, answered):
-        """Nobody answers."""
+        """Do nothing: nobody answers."""
 
     @property
     def places(self):
-        """Where they are."""
+        """Return their positions."""
         return self.place.told
 
     def is_awaited(self):
-        """Whether that may be told soon."""
+        """Return True if a report may come soon."""
         return self.awaited and self.places is None
 
     def is_untold(self):
-        """Whether nothing tells it."""
+        """Return True if no report will come."""
         return self.places is None and not self.awaited
 
     def is_full(self):
-        """Whether the server hears no other client."""
+        """Return True if the server accepts no more clients."""
         return self.full
 
     def knows_modes(self):
-        """Whether it is told which modes programs have set."""
+        """Return True if the programs' modes are reported."""
         return self.knows
 
     @property
     def focus_modes(self):
-        """The modes that the program in focus has set."""
+        """Return the modes of the focused program."""
         return self.modes(self.places.focus) if self.places else []
 
     @property
     def has_application_keypad(self):
-        """Whether it asked for the application codes of the keypad."""
+        """Return True if the focused program set the keypad's application mode."""
         return "keypad" in self.focus_modes
 
     def making(self, pane):
-        """Which making of its number a pane is."""
+        """Return the generation of a pane."""
         return f"{pane} 1" if self.places and pane in self.places.rects else ""
 
     def follow_clips(self, clipped):
-        """Keeps what is called with texts for the clipboard."""
+        """Record the call for clipboard texts."""
         self.clipped = clipped
 
     def modes(self, pane):
-        """Those of a pane's."""
+        """Return those of a pane."""
         return self.modes_of.get(pane, "").split()
 
     def wants_brackets(self):
-        """Whether the program in focus wants what is pasted between brackets."""
+        """Return True if the focused program uses bracketed paste."""
         return self.brackets
 
 
 def painting(rows, cols, text="x"):
-    """A painting of so many rows and columns, from a reset on: a text in each row."""
+    """Return a painting of so many rows and columns, from a reset on: a text in each row."""
     return b"\x1bc\x1b[?25l\x1b[2J" + b"".join(f"\x1b[{row};1H{text[:cols]}".encode() for row in range(1, rows + 1)) + b"\x1b[1;1H\x1b[?25h"
 
 
 class PlayedHost:
-    """What the pty host tells of who else is at the session."""
+    """The pty host's reports of the other terminals."""
 
     is_known = is_there = False
     peer = answers = None
@@ -182,24 +182,24 @@ class PlayedHost:
     def __init__(self, types=None, awaited=False):
         self.types, self.awaited, self.said = types, awaited, 0
         self.scrollback = NoScrollback()
-        # The zoom of this terminal, all that was told of it, and the one that is told of.
+        # The zoom of this terminal, all its reports, and the reported one.
         self.zoom, self.zooms, self.zoomed = None, [], (0, None)
 
     def note_zoom(self, note):
-        """Keeps what is told of a zoom."""
+        """Record a reported zoom."""
         self.zoom = note
         self.zooms.append(str(note))
 
     def say_here(self):
-        """Counts how often the terminal's size was looked at."""
+        """Count the checks of the terminal's size."""
         self.said += 1
 
     def is_awaited(self):
-        """Whether it may be known soon."""
+        """Return True if they may be known soon."""
         return self.awaited
 
     def has_others(self):
-        """Whether somebody else types, where that is known."""
+        """Return True if somebody else types; None if unknown."""
         return self.types
 
     def is_connecting(self):
@@ -214,10 +214,10 @@ class PlayedHost:
 
 
 class NoScrollback:
-    """What lends no rows, and keeps no buffers."""
+    """A host without scrollback and buffers."""
 
     def snapshot(self, pane, generation, answered):
-        """Lend nothing."""
+        """Return no snapshot."""
         answered(None)
 
     def buffers(self, answered):
@@ -226,7 +226,7 @@ class NoScrollback:
 
 
 class Person:
-    """A person at a terminal, without the processes. The session shows a text, by the size that it has, where the front end asks for it."""
+    """A user at a terminal, without the processes. The session shows a text at its size if the front end requests it."""
 
     def __init__(self, rows, cols, is_read_only=False, is_new=False, told=None, folder=None, is_whole=False, host=None):
         self.loop, self.link, self.place = Loop(), ClientLink(is_read_only), AnySession(folder)
@@ -246,49 +246,49 @@ class Person:
         self.commands.follower.fit_first()
 
     def leave(self, line):
-        """Keeps the line with which the person leaves."""
+        """Record the line with which the user leaves."""
         self.left = line if line is not None else self.left
 
     def types(self, text):
-        """Types, and tells the acts of it."""
+        """Type a text, and return its acts."""
         before = len(self.link.acts)
         self.keyboard.fed(text)
         return self.link.acts[before:]
 
     def sizes(self):
-        """The sizes that the session was given."""
+        """Return the sizes requested of the session."""
         return [act for act in self.link.acts if act.startswith("size")]
 
     def said(self):
-        """The lines about what is shown here that weren't looked at yet."""
+        """Return the new lines about the view."""
         lines = self.link.lines[self.heard :]
         self.heard = len(self.link.lines)
         return lines
 
     def paints(self, rows, cols, text="x", word="anew"):
-        """Has so many rows and columns be painted."""
+        """Paint so many rows and columns."""
         data = painting(rows, cols, text)
         self.display.take(DisplayRecord("size", (rows, cols)))
         self.display.take(DisplayRecord(word, (len(data),), data))
 
     def answers(self, text="x"):
-        """Has the session paint what the front end asked for since it was looked at last."""
+        """Let the session paint the parts requested since the last call."""
         for line in self.said():
             word, *numbers = line.split()
             size = self.display.part.painted_size if word == "repaint" else tuple(map(int, numbers[-2:]))
             self.paints(*(size if word != "whole" else self.session()), text)
 
     def session(self):
-        """The session's size."""
+        """Return the session's size."""
         return self.place.told.size() if self.place.told else (24, 80)
 
     def tell(self, told):
-        """Has it be told where the panes are."""
+        """Report pane positions."""
         self.place.told = told
         self.commands.panes_changed()
 
     def resize(self, rows, cols):
-        """Gives the terminal another size, which stands."""
+        """Change the terminal's size for good."""
         self.display.outer.rows, self.display.outer.cols = rows, cols
         self.commands.follower.resized()
         self.display.resized()
@@ -296,24 +296,24 @@ class Person:
         self.commands.follower.fit()
 
     def shown(self):
-        """The rows that the terminal shows."""
+        """Return the visible rows of the terminal."""
         return self.display.outer.shown()
 
 
 def places(rows, cols):
-    """The places of a session of one pane."""
+    """Return the positions of a session of one pane."""
     return Places({1: Rect(1, 1, rows - 1, cols)}, 1, 1)
 
 
 class Sizes(unittest.TestCase):
-    """Which size a session has beside a terminal's."""
+    """The session's size relative to a terminal's."""
 
     def test_new(self):
         for size in ((50, 132), (20, 60)):
             self.assertEqual(Person(*size, is_new=True).sizes(), ["size {} {}".format(*size)])
 
     def test_new_for_a_moment(self):
-        """A window that gets its size once it is there has the session go by it; what isn't told yet isn't asked for."""
+        """A session follows a window that gets its size only after its start; an unreported size isn't requested."""
         person = Person(24, 80, is_new=True, told=places(24, 80))
         self.assertEqual(person.said(), ["part 23 80"])
         person.resize(15, 120)
@@ -325,7 +325,7 @@ class Sizes(unittest.TestCase):
         self.assertEqual(person.shown(), ["x"] * 14 + ["[1]"])
 
     def test_awaited(self):
-        """While it may be told soon where panes are a session isn't fitted by what was painted so far, which may be another size."""
+        """While pane positions are pending, a session isn't fitted by the painting so far, whose size may be outdated."""
         with mock.patch.object(PlayedPanes, "awaited", True):
             person = Person(30, 100)
             person.paints(10, 40)
@@ -349,7 +349,7 @@ class Sizes(unittest.TestCase):
         self.assertEqual(Person(24, 80, told=places(24, 80)).sizes(), [])
 
     def test_unknown_at_first(self):
-        """Where nothing tells its panes its size is that of what is painted whole."""
+        """Without reports of its panes its size is that of the whole painting."""
         person = Person(50, 132)
         self.assertEqual((person.sizes(), person.commands.follower.is_fitted), ([], False))
         person.paints(24, 80)
@@ -357,7 +357,7 @@ class Sizes(unittest.TestCase):
         self.assertEqual((person.sizes(), person.commands.follower.is_fitted), (["size 50 132"], True))
 
     def test_smaller_shows_a_part(self):
-        """A smaller terminal shows the part with the cursor, and is told the key; the session's size stays."""
+        """A smaller terminal shows the part with the cursor, and the key; the session's size stays."""
         person = Person(12, 40, told=places(24, 100))
         self.assertEqual((person.said(), person.sizes()), (["part 11 40"], []))
         person.paints(11, 40, "part")
@@ -365,7 +365,7 @@ class Sizes(unittest.TestCase):
         self.assertEqual(person.types(b"ls"), ["char 6c", "char 73"])
 
     def test_smaller_unknown(self):
-        """So does one where nothing tells the panes, once the whole was painted, which has no room and isn't shown."""
+        """So does one without pane reports, once the whole was painted, which does not fit and isn't shown."""
         person = Person(12, 40)
         self.assertEqual(person.said(), [])
         person.paints(24, 100, "secret")
@@ -377,7 +377,7 @@ class Sizes(unittest.TestCase):
         self.assertEqual(person.shown()[10:], ["part", " " * 30 + FITS])
 
     def test_smaller_anew(self):
-        """Once a session has a smaller size that it was given what is shown of it is asked for anew, where that began further on."""
+        """After this user made a session smaller the view is requested anew if it began further on."""
         person = Person(12, 60, told=places(13, 60))
         person.commands.size.requested = 12, 60
         person.commands.show_known()
@@ -387,8 +387,9 @@ class Sizes(unittest.TestCase):
         self.assertEqual((person.said(), person.commands.size.requested), (["part 0 0 11 60"], None))
 
     def test_chosen_before(self):
-        """The client may choose the part that has all panes over an earlier, larger screen: whatever it says, and whenever the smaller size
-        is told, the first row is the first one shown. Once the session is larger the part goes with the cursor again."""
+        """The client may choose the part with all panes on an earlier, larger screen. Whatever it reports, and whenever the smaller size
+        comes, the first row stays first. In a larger session the part follows the cursor again.
+        """
         for is_told_before in (True, False):
             person = Person(24, 80, told=places(65, 80))
             person.answers()
@@ -408,8 +409,9 @@ class Sizes(unittest.TestCase):
             self.assertEqual((person.said(), person.loop.due.get("part")), ([], None))
 
     def test_chosen_again(self):
-        """Of a session that is larger than the terminal a part with its status row is chosen again by the client, until it has the screen
-        of the smaller size, or that was tried often enough."""
+        """In a session larger than the terminal, the client chooses a part with the status row again until it has the smaller screen. The
+        number of tries is limited.
+        """
         clock = mock.Mock(return_value=100.0)
         for tries in (0, 3, 20):
             person = Person(12, 40, told=places(60, 100))
@@ -429,7 +431,7 @@ class Sizes(unittest.TestCase):
             self.assertEqual((person.said(), person.display.part.chosen), ([], 0))
 
     def test_wider_and_lower(self):
-        """Neither side may be cut."""
+        """Neither side is cut."""
         for size, part in (((20, 200), "part 19 80"), ((60, 70), "part 23 70")):
             person = Person(*size, told=places(24, 80))
             self.assertEqual((person.sizes(), person.said()), ([], [part]))
@@ -446,24 +448,24 @@ class Sizes(unittest.TestCase):
         self.assertEqual(person.shown(), ["here"] * 11 + ["[1]"])
 
     def test_beside_another(self):
-        """A larger terminal leaves the size to another that is there, and is told the key."""
+        """A larger terminal leaves the size to another user, and shows the key."""
         person = Person(50, 132, told=places(24, 80), host=PlayedHost(True))
         self.assertEqual((person.sizes(), person.said()), ([], ["part 23 80"]))
         self.assertEqual(person.display.row.told, "24 by 80, the size of another terminal; C-b r fits this one")
         self.assertEqual(person.types(b"\x02r"), ["size 50 132"])
-        # No resize of one that isn't alone makes the session smaller.
+        # A resize of one of several terminals never makes the session smaller.
         other_one = Person(24, 80, told=places(24, 80), host=PlayedHost(True))
         other_one.resize(20, 70)
         self.assertEqual((other_one.sizes(), other_one.display.row.line().endswith(FITS)), ([], True))
         self.assertEqual(Person(50, 132, told=places(24, 80), host=PlayedHost(False)).sizes(), ["size 50 132"])
 
     def test_resized(self):
-        """A lone terminal that showed all of it is followed to a smaller size, and back; one that showed a part isn't."""
+        """A session follows a lone terminal that showed all of it to a smaller size, and back; one shown in part doesn't."""
         person = Person(24, 80, told=places(24, 80), host=PlayedHost(False))
         person.answers()
         person.resize(20, 70)
         self.assertEqual((person.sizes(), person.said()), (["size 20 70"], ["part 19 70"]))
-        # One that comes before that is told is followed too.
+        # It follows one that comes before the report too.
         person.resize(18, 60)
         self.assertEqual((person.sizes()[1:], person.said()), (["size 18 60"], ["part 17 60"]))
         person.tell(places(18, 60))
@@ -471,7 +473,7 @@ class Sizes(unittest.TestCase):
         self.assertEqual(person.said(), [])
         person.resize(30, 90)
         self.assertEqual(person.sizes()[2:], ["size 30 90"])
-        # Without a pty host that knows who is there none is.
+        # Without a pty host that knows the terminals there is no other.
         for host in (None, PlayedHost(None)):
             person = Person(24, 80, told=places(24, 80), host=host)
             person.resize(20, 70)
@@ -484,7 +486,7 @@ class Sizes(unittest.TestCase):
         self.assertEqual(small.sizes(), ["size 30 90"])
 
     def test_latest(self):
-        """By window-size latest the session gets the size of the terminal at which somebody types, but for one that watches."""
+        """With window-size latest the session takes the size of the terminal with the latest input, but not of a read-only one."""
         self.addCleanup(environment.choose_by_file, {})
         for is_read_only, chosen, sizes in ((False, "latest", ["size 24 80"]), (True, "latest", []), (False, "largest", [])):
             environment.choose_by_file({"window-size": chosen})
@@ -495,20 +497,20 @@ class Sizes(unittest.TestCase):
             self.assertEqual(person.types(b"x"), [] if is_read_only else ["char 78"])
 
     def test_resized_as_told(self):
-        """Where the pty host tells who else types that alone is gone by, of another machine's session too."""
+        """If the pty host reports another typing user, only that counts, for a remote session too."""
         for types, sizes in ((False, ["size 20 70"]), (True, []), (None, [])):
             person = Person(24, 80, told=places(24, 80), host=PlayedHost(types))
             person.place.served = "relay"
             person.answers()
             person.resize(20, 70)
             self.assertEqual((person.sizes(), person.host.said > 1), (sizes, True), types)
-            # Nor does it grow where that isn't known.
+            # Nor does it grow if that is unknown.
             person = Person(24, 80, told=places(24, 80), host=PlayedHost(types))
             person.place.served = "relay"
             person.answers()
             person.resize(30, 90)
             self.assertEqual(person.sizes(), ["size 30 90"] if types is False else [], types)
-        # It grows where no pty host is there at all, and not where one may tell later.
+        # It grows without any pty host, but not if one may report later.
         for is_known, is_there, sizes in ((True, False, []), (False, True, []), (False, False, ["size 50 132"])):
             host = PlayedHost(None)
             host.is_known, host.is_there = is_known, is_there
@@ -522,7 +524,7 @@ class Sizes(unittest.TestCase):
         self.assertEqual(small.sizes(), [])
 
     def test_resized_before_told(self):
-        """What hangs on who else is there waits until that is told, but for a new session, and for no longer than it may be."""
+        """Steps that depend on the other terminals wait for the report, but for a new session, and no longer than it may take."""
         host = PlayedHost(awaited=True)
         person = Person(24, 80, told=places(24, 80), host=host)
         person.answers()
@@ -548,7 +550,7 @@ class Sizes(unittest.TestCase):
             self.assertEqual(Person(*size, told=places(24, 100)).sizes(), [])
 
     def test_less_than_any(self):
-        """A terminal on which no part has room is told so; one that has it shows a part, and gives the session no size that can't be."""
+        """A terminal too small for any part shows a message. A larger one shows a part, and never requests an invalid size."""
         person = Person(2, 30, told=places(24, 80))
         self.assertEqual((person.shown(), person.said()), (["too small: 3 by 4 is needed", "C-b d leaves"], []))
         self.assertEqual(person.types(b"\x02r"), [])
@@ -560,11 +562,11 @@ class Sizes(unittest.TestCase):
         self.assertEqual((person.said(), person.sizes()), (["part 23 80"], []))
 
     def test_refused(self):
-        """A session that has no room for its panes in a size goes on with the one that it has, and that is told."""
+        """A session whose panes do not fit a size keeps its own, and that is reported."""
         person = Person(5, 8, told=places(24, 80))
         person.types(b"\x02r")
         self.assertEqual((person.sizes(), person.commands.size.requested), (["size 5 8"], (5, 8)))
-        # A session that hasn't taken it yet may still have it.
+        # A session that hasn't taken it yet may still get it.
         person.link.has_taken = False
         person.commands.size.refused()
         self.assertEqual((person.display.row.told, person.commands.size.requested, "requested size" in person.loop.due), ("", (5, 8), True))
@@ -575,7 +577,7 @@ class Sizes(unittest.TestCase):
         self.assertTrue(person.display.part.shows_all() is False)
 
     def test_given_and_had(self):
-        """A size that was had isn't told as refused, when another makes the session larger later."""
+        """A size that was reached isn't reported as refused after somebody enlarges the session."""
         person = Person(24, 100, is_new=True, told=places(24, 80))
         self.assertIn("requested size", person.loop.due)
         person.tell(places(24, 100))
@@ -593,7 +595,7 @@ class Sizes(unittest.TestCase):
         self.assertEqual((person.link.acts, person.said()), ([], ["repaint", "part 23 100"]))
 
     def test_given_size_comes(self):
-        """What is larger for a moment isn't shown, while a size that was given is on its way."""
+        """A temporarily larger session isn't shown while a requested size is pending."""
         person = Person(20, 60, is_new=True, told=places(24, 80))
         person.paints(24, 80, "early")
         self.assertEqual(person.display.notice, "")
@@ -605,16 +607,16 @@ class Sizes(unittest.TestCase):
 
 
 def signal_pause():
-    """Waits for the end."""
+    """Wait for the end."""
     while True:
         signal.pause()
 
 
 class Parts(unittest.TestCase):
-    """Which part of a session is asked for, and when it is asked for anew."""
+    """The requested part of a session, and repeated requests."""
 
     def test_grown(self):
-        """A session that another made larger is shown in part from then on, and its beginning stays where it has room."""
+        """A session that somebody enlarged is shown in part from then on, and its beginning stays if it fits."""
         person = Person(24, 80, told=places(24, 80))
         person.answers()
         person.tell(places(24, 100))
@@ -622,7 +624,7 @@ class Parts(unittest.TestCase):
         self.assertEqual(person.shown()[23], "[1]" + " " * 67 + FITS)
 
     def test_shrunk(self):
-        """Of one that another made smaller, what is shown begins at the first row again, so that no row below its panes is shown."""
+        """In one that somebody shrank the view begins at the first row again, so that no row below its panes is visible."""
         for place in ((12, 50), (12, 0), (0, 50), (1, 0), (0, 1)):
             for size in ((14, 60), (14, 100), (24, 60), (23, 100), (24, 99), (14, 120), (30, 60)):
                 person = Person(12, 40, told=places(24, 100))
@@ -633,34 +635,34 @@ class Parts(unittest.TestCase):
         person.display.take(DisplayRecord("part", (0, 0)))
         person.tell(places(13, 50))
         self.assertEqual(person.said(), [])
-        # One that is larger now, or has its size, goes on as it was.
+        # A larger session, or one with the same size, continues as before.
         for size in ((24, 100), (24, 101), (25, 100), (60, 200)):
             person = Person(12, 40, told=places(24, 100))
             person.answers()
             person.display.take(DisplayRecord("part", (12, 50)))
             person.tell(places(*size))
             self.assertEqual(person.said(), [], size)
-        # A client that is connected to anew knows nothing of where it began.
+        # A newly connected client does not know the earlier position.
         person.display.begin()
         person.commands.show_known()
         self.assertEqual((person.said(), person.display.part.place, person.display.row.silent), (["part 11 40"], (0, 0), 0))
 
     def test_larger_terminal(self):
-        """One that has more room than the session has no more of it than its panes, and blanks beside these."""
+        """A terminal with more room than the session shows only its panes, and blanks beside them."""
         person = Person(50, 200, is_read_only=True, told=places(24, 80))
         self.assertEqual(person.said(), ["part 23 80"])
         person.paints(23, 80, "here")
         self.assertEqual(person.shown(), ["here"] * 23 + [""] * 26 + ["[1]"])
 
     def test_any_told(self):
-        """Whatever is told of a session's size, what is asked for is a part that can be."""
+        """Whatever size is reported, the requested part is valid."""
         for told, part in ((Rect(0, 0, 0, 0), (2, 4)), (Rect(1, 1, 1, 1), (2, 4)), (Rect(9999, 9999, 9999, 9999), (199, 500)),
                            (Rect(1, 1, 9999, 3), (199, 4)), (Rect(1, 1, 2, 9999), (2, 500))):
             person = Person(300, 600, is_read_only=True, told=Places({1: told}, 1, 1))
             self.assertEqual(person.said(), ["part {} {}".format(*part)], told)
 
     def test_whole(self):
-        """By hand the whole is shown, with its own status row, where there is room for it, and else a part; so is one that isn't told."""
+        """On request the whole session is shown with its own status row if it fits, else a part; so is an unreported one."""
         for person in (Person(24, 80, True, told=places(24, 80), is_whole=True), Person(24, 80, True)):
             self.assertEqual(person.said(), [])
             person.paints(24, 80, "all")
@@ -676,7 +678,7 @@ class Parts(unittest.TestCase):
             self.assertEqual(person.shown(), ["all"] * 24)
 
     def test_whole_of_a_parts_size(self):
-        """A session that has come to have the size of the part that was shown is known to have it, though that isn't told again."""
+        """A session that took the size of the visible part is known to have it, though that isn't reported again."""
         person = Person(12, 40, is_read_only=True)
         person.paints(24, 80)
         self.assertEqual(person.said(), ["part 11 40"])
@@ -687,7 +689,7 @@ class Parts(unittest.TestCase):
         self.assertEqual((person.display.part.whole_size, person.shown()[:11]), ((11, 40), ["all"] * 11))
 
     def test_told_later(self):
-        """Where it comes to be told where the panes are a part is shown from then on, and where it is told no more the whole."""
+        """Once pane positions are reported a part is shown, and once they are no longer, the whole."""
         person = Person(24, 80)
         person.paints(24, 80, "all")
         person.tell(places(24, 80))
@@ -701,7 +703,7 @@ class Parts(unittest.TestCase):
         self.assertEqual(person.said(), ["whole"])
 
     def test_stale(self):
-        """What was painted before the part that was asked for is dropped, and so are changes until all is painted anew."""
+        """Paintings from before the requested part are dropped, and so are changes until a full repaint."""
         person = Person(24, 80, told=places(24, 80))
         person.paints(24, 80, "whole")
         person.display.take(DisplayRecord("size", (23, 80)))
@@ -712,7 +714,7 @@ class Parts(unittest.TestCase):
         self.assertEqual(person.shown(), ["anew", "more", *["anew"] * 21, "[1]"])
 
     def test_size_within(self):
-        """A painting of another size that isn't anew may erase the last row, whose line is written behind it."""
+        """A painting of another size that isn't a repaint may erase the last row, whose line follows it."""
         person = Person(24, 80, told=places(24, 80))
         person.answers()
         person.display.take(DisplayRecord("size", (20, 60)))
@@ -720,7 +722,7 @@ class Parts(unittest.TestCase):
         self.assertEqual(person.shown(), [""] * 23 + ["[1]"])
 
     def test_drawn(self):
-        """While a terminal is drawn smaller by hand nothing is written that has no room, and a part is asked for once in 0.05 s."""
+        """During a resize by mouse nothing that does not fit is written, and a part is requested once in 0.05 s."""
         person = Person(24, 80, told=places(24, 80))
         person.answers()
         person.display.outer.cols = 90
@@ -740,10 +742,10 @@ class Parts(unittest.TestCase):
 
 
 class UnderNotice(unittest.TestCase):
-    """Nothing is typed where nobody would see it."""
+    """Nothing is typed while the user could not see it."""
 
     def covered(self):
-        """A person whose terminal is too small."""
+        """Return a user whose terminal is too small."""
         person = Person(2, 40, told=places(24, 100))
         self.assertTrue(person.display.notice.startswith("too small"))
         return person
@@ -778,7 +780,7 @@ class UnderNotice(unittest.TestCase):
         self.assertEqual(person.shown(), ["here"] * 11 + ["[1]"])
 
     def test_scrolled(self):
-        """The scroll mode that was begun before is ended as ever."""
+        """An earlier scroll mode ends as usual."""
         person = Person(24, 80, told=places(24, 80))
         person.answers()
         person.types(b"\x02[")
@@ -787,7 +789,7 @@ class UnderNotice(unittest.TestCase):
         self.assertEqual(person.types(b"q"), ["view -500"])
 
     def test_pasted_before(self):
-        """Of a paste under a cover nothing is typed, and what follows it is typed again once the session is shown."""
+        """Nothing of a paste under a notice is typed, and later input is typed again once the session is shown."""
         person = self.covered()
         person.types(b"\x1b[200~pas")
         person.resize(24, 100)
@@ -795,7 +797,7 @@ class UnderNotice(unittest.TestCase):
         self.assertEqual((person.display.notice, person.types(b"\x1b[201~x")), ("", ["char 78"]))
 
     def test_brackets(self):
-        """A paste stands between brackets where the program in focus wants that as it ends, and nothing in it ends them."""
+        """A paste is bracketed if the focused program wants that at its end, and nothing in it ends the brackets."""
         begin, end = BRACKETS
         person = Person(24, 80, told=places(24, 80))
         person.answers()
@@ -809,11 +811,11 @@ class UnderNotice(unittest.TestCase):
         self.assertEqual(person.types(b"y\x1b[201~"), [*begin, "char 78", "char 79", *end])
         person.commands.acts.panes.brackets = False
         self.assertEqual(person.types(b"\x1b[200~a\r\x1b[201~"), ["char 61", "key return"])
-        # An end without a beginning is nothing, and so is a paste of nothing.
+        # An end without a beginning is ignored, and so is an empty paste.
         self.assertEqual(person.types(b"a\x1b[201~b\x1b[200~\x1b[201~\x1b[200~\x03\x1b[201~c"), ["char 61", "char 62", "char 63"])
 
     def test_brackets_end(self):
-        """Of a paste over which something comes to stand nothing is typed, nor its brackets; nor of one that begins there."""
+        """If a notice covers a paste, neither it nor its brackets are typed; the same for one that begins there."""
         person = Person(24, 80, told=places(24, 80))
         person.answers()
         person.commands.acts.panes.brackets = True
@@ -846,7 +848,7 @@ class UnderNotice(unittest.TestCase):
 
 
 class Words(unittest.TestCase):
-    """Words on a terminal."""
+    """Text on a terminal."""
 
     def test_help_fits(self):
         for prefix in PREFIXES:
@@ -873,7 +875,7 @@ class Words(unittest.TestCase):
             self.assertNotIn(odd, written)
 
     def test_wide_words(self):
-        """A line of wide characters doesn't go on into another row."""
+        """A line of wide characters doesn't wrap into another row."""
         person = Person(24, 80)
         person.paints(24, 80)
         before = len(person.display.outer.waiting)
@@ -882,7 +884,7 @@ class Words(unittest.TestCase):
         self.assertTrue(written.startswith(b"\x1b7\x1b[?7l\x1b[24;1H") and written.endswith(b"\x1b[0m\x1b[?7h\x1b8"), written)
 
     def test_left(self):
-        """What is said at the end is printable."""
+        """The last message is printable."""
         master, slave = pty.openpty()
         ends = os.dup(0), os.dup(1)
         os.dup2(slave, 0), os.dup2(slave, 1)
@@ -903,14 +905,14 @@ class Lines(Case):
         self.stop_clock()
 
     def test_labels(self):
-        """The panes in the layout's order, that in focus in brackets, and at the end which key fits, where not all is shown."""
+        """The panes in the layout's order, the focused one in brackets, and at the end the key that fits, if not all is visible."""
         two = Places({1: Rect(1, 1, 23, 50), 2: Rect(1, 52, 23, 49)}, 2, 1)
         for size, line in (((24, 100), " 1 [2]".ljust(100)), ((24, 80), " 1 [2]".ljust(70) + FITS), ((24, 17), f" 1 [2] {FITS}"),
                            ((24, 16), f"      {FITS}"), ((24, 10), FITS), ((24, 9), " 1 [2]   ")):
             self.assertEqual(Person(*size, told=two).display.row.line(), line, size)
 
     def test_starts(self):
-        """From 48 starts on their number stands at the end."""
+        """From 48 starts on their number is at the end."""
         person = Person(24, 80, told=places(24, 80))
         ends = []
         for clients in (47, 48, 64):
@@ -921,7 +923,7 @@ class Lines(Case):
                          ["", "48 of 64 clients", "64 of 64 clients", f" 50 of 64 clients {FITS}"])
 
     def test_same(self):
-        """What stands there isn't written again."""
+        """An unchanged row isn't written again."""
         person = Person(24, 80, told=places(24, 80))
         person.answers()
         before = len(person.display.outer.waiting)
@@ -930,7 +932,7 @@ class Lines(Case):
         self.assertEqual(len(person.display.outer.waiting), before + 1)
 
     def test_silent(self):
-        """How long a server is silent is told there with the key that leaves, and when it is heard the panes are again."""
+        """The seconds of a server's silence are shown with the key that leaves, and afterwards the panes again."""
         person = Person(24, 80, told=places(24, 80))
         person.answers("here")
         for seconds in (10, 11):
@@ -940,7 +942,7 @@ class Lines(Case):
         self.assertEqual((person.shown(), person.said()), (["here"] * 23 + ["[1]"], []))
 
     def test_silent_whole(self):
-        """Over a session's own status row it is written behind each painting, and all is painted anew then."""
+        """Over a session's own status row it is written after each painting, and then everything is repainted."""
         person = Person(24, 80)
         person.paints(24, 80, "here")
         person.display.take(DisplayRecord("silent", (10,)))
@@ -950,7 +952,7 @@ class Lines(Case):
         self.assertEqual(person.said(), ["repaint"])
 
     def test_silent_and_told(self):
-        """What is told or asked stands there first, and a silence under a cover is told once that goes."""
+        """Messages and prompts have precedence, and a silence under a notice is shown once that goes."""
         person = Person(24, 80, told=places(24, 80))
         person.answers()
         person.display.row.tell("told", 1.0)
@@ -966,7 +968,7 @@ class Lines(Case):
         self.assertTrue(person.shown()[23].startswith("roam: no answer for 12 s"))
 
     def test_shown_by_a_pane(self):
-        """What a pane shows is never changed: a painting of the words of a silence, in any style and at any place."""
+        """A pane's own contents are never changed: a painting with the words of a silence, in any style and position."""
         for style in (b"0;7", b"0", b"0;1", b"7"):
             for row in (1, 24, 999):
                 text = b"\x1b7\x1b[?7l\x1b[%d;1H\x1b[%smroam: no answer for 12 s\x1b[0mthe rest of the row|" % (row, style)

@@ -1,4 +1,4 @@
-"""Records of a stream, cut at each place, and what is none."""
+"""Records of a stream, cut at each position, and invalid ones."""
 import unittest
 
 from roam_live.protocol import display_records
@@ -30,7 +30,7 @@ class TestRecords(unittest.TestCase):
         self.assertEqual(records.came(b"ll\n"), [DisplayRecord("full")])
 
     def test_bounded(self) -> None:
-        """What comes before the first record is dropped, however much it is."""
+        """Output before the first record is dropped, however long it is."""
         records = Records()
         for _ in range(100):
             self.assertEqual(records.came(b"full\n" * 1000), [])
@@ -38,7 +38,7 @@ class TestRecords(unittest.TestCase):
         self.assertEqual(records.came(display_records.BEGIN), [DisplayRecord("events")])
 
     def test_none(self) -> None:
-        """What is no record is told, and never waited for."""
+        """An invalid record is reported, without a wait."""
         for line in (b"what\n", b"size 1\n", b"size 1 2 3\n", b"size 01 2\n", b"size -1 2\n", b"size \xd9\xa1 2\n", b"taken 1_0\n",
                      b"paint 99999999\n", b"taken 111111111111111111111\n", b"heard 1\n", b"\xff\n", b"x" * 600, b"\n"):
             records = Records()

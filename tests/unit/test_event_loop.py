@@ -1,4 +1,4 @@
-"""The loop of the tools: ends that come and go, moments by a clock that is handed in, and who connects at a socket."""
+"""The loop of the tools: ends that are added and removed, timers with a manual clock, and connections at a socket."""
 import errno
 import os
 import socket
@@ -11,24 +11,24 @@ from roam_live.common.unix_socket import DEAF, Listener
 
 
 class Ends(Case):
-    """Ends of which something can be read, or that take something."""
+    """Ends that are readable, or writable."""
 
     def setUp(self):
         self.loop, self.done = StillLoop(), []
 
     def named(self, name):
-        """A call that tells its name."""
+        """Return a call that records its name."""
         return lambda: self.done.append(name)
 
     def turn(self):
-        """What is done in a turn."""
+        """Return the calls of a turn."""
         self.loop.turn()
         done = list(self.done)
         self.done.clear()
         return done
 
     def test_read(self):
-        """An end is read while something is there and is wanted, in the order in which the ends came."""
+        """An end is read while it is readable and wanted, in the order of the ends."""
         (one, other), (two, there) = self.pair(), self.pair()
         wanted = []
         self.loop.add(two, self.named("two"), hears=lambda: wanted)
@@ -45,7 +45,7 @@ class Ends(Case):
         self.assertEqual(self.turn(), [])
 
     def test_written(self):
-        """An end is written while there is more, and read before."""
+        """An end is written while there is more, and read first."""
         one, other = self.pair()
         waiting = bytearray()
         self.loop.add(one, self.named("read"), self.named("written"), has_more=lambda: waiting)
@@ -58,7 +58,7 @@ class Ends(Case):
         self.assertEqual(self.turn(), ["read"])
 
     def test_unwanted(self):
-        """What isn't wanted ends no wait: bytes at an end that is only written."""
+        """An unwanted event ends no wait: bytes at an end that is only written."""
         one, other = self.pair()
         self.loop.add(one, self.named("read"), self.named("written"), hears=lambda: False, has_more=lambda: True)
         while ready(one, WRITE, 0):
@@ -67,7 +67,7 @@ class Ends(Case):
         self.assertEqual((self.turn(), self.loop.found), ([], 0))
 
     def test_gone(self):
-        """What is done at one end may let another go, and itself; nothing more is done there then."""
+        """A callback may remove another end, or its own; then nothing more is called there."""
         (one, other), (two, there) = self.pair(), self.pair()
         for end in (other, there):
             end.send(b"x")
@@ -85,7 +85,7 @@ class Ends(Case):
         self.loop.remove(5)
 
     def test_another(self):
-        """An end that has the number of one that was let go in this turn is another."""
+        """A new end with the number of one removed in this turn is another one."""
         (one, other), (two, there) = self.pair(), self.pair()
         for end in (other, there):
             end.send(b"x")
@@ -107,7 +107,7 @@ class Ends(Case):
         self.assertEqual(self.turn(), ["another"])
 
     def test_ended(self):
-        """An end whose other end is gone can be read."""
+        """An end whose other end is gone is readable."""
         one, other = self.pair()
         self.loop.add(one, self.named("one"))
         self.assertEqual(self.turn(), [])
@@ -122,7 +122,7 @@ class Ends(Case):
         self.assertEqual(self.turn(), ["one"])
 
     def test_lowered(self):
-        """It goes on where the limit of descriptors was lowered below those that are there."""
+        """It continues if the limit of descriptors falls below the existing ones."""
         import resource
 
         one, other = self.pair()
@@ -144,7 +144,7 @@ class Ends(Case):
             self.assertEqual(self.turn(), ["file", "nothing"])
 
     def test_moments_between(self):
-        """What has come is taken before what is due."""
+        """Arrived data is handled before due timers."""
         one, other = self.pair()
         self.loop.add(one, self.named("one"))
         self.loop.later("moment", 0, self.named("moment"))
@@ -152,7 +152,7 @@ class Ends(Case):
         self.assertEqual(self.turn(), ["one", "moment"])
 
     def test_waits(self):
-        """It waits as long as nothing is due, and in truth no longer than until something comes."""
+        """It waits until a timer is due, and never longer than until data arrives."""
         one, other = self.pair()
         loop = Loop()
         loop.add(one, self.named("one"))
@@ -165,7 +165,7 @@ class Ends(Case):
         self.assertEqual(self.done, ["moment", "one"])
 
     def test_once(self):
-        """Whether one end can be read or takes something, within some seconds."""
+        """Return True if one end becomes readable or writable within some seconds."""
         one, other = self.pair()
         self.assertEqual((comes(one, 0), comes(one.fileno(), -1), is_taken(one, 0)), (False, False, True))
         self.assertEqual(ready(one, READ | WRITE, 0), WRITE)
@@ -178,21 +178,21 @@ class Ends(Case):
 
 
 class Told(Case):
-    """What is waited for at an end of which somebody tells when that may be something else."""
+    """An end whose owner reports changes of its wishes."""
 
     def setUp(self):
         self.loop, self.done, self.asked = StillLoop(), [], []
         self.one, self.other = self.pair()
 
     def turn(self):
-        """What is done in a turn."""
+        """Return the calls of a turn."""
         self.loop.turn()
         done = list(self.done)
         self.done.clear()
         return done
 
     def test_changed(self):
-        """It is asked what it waits for once it came, after something was done there, and where somebody tells so, and never else."""
+        """Its wishes are checked when it is added, after a callback of it, and after its owner reports a change, but never otherwise."""
         waiting = bytearray()
         self.loop.add(self.one, lambda: self.done.append(self.one.recv(9)), lambda: self.done.append(b"written"),
                       has_more=lambda: self.asked.append(1) or waiting, is_told=True)
@@ -213,7 +213,7 @@ class Told(Case):
         self.loop.changed(77)
 
     def test_many(self):
-        """A turn asks none of many ends at which nothing is."""
+        """A turn checks none of many idle ends."""
         for _ in range(30):
             self.loop.add(self.pair()[0], self.fail, self.fail, hears=lambda: self.asked.append(1) or True,
                           has_more=lambda: self.asked.append(1), is_told=True)
@@ -221,7 +221,7 @@ class Told(Case):
         self.assertEqual(len(self.asked), 60)
 
     def test_hung_up(self):
-        """The end of the other end of what nothing is waited for wakes nobody."""
+        """The hangup of an unwatched end causes no wakeup."""
         self.loop.add(self.one, self.fail, self.fail, hears=lambda: False, has_more=lambda: False, is_told=True)
         self.loop.turn()
         self.other.close()
@@ -229,7 +229,7 @@ class Told(Case):
         self.assertEqual(self.loop.found, 0)
 
     def test_another_file(self):
-        """A descriptor that was closed and is another file now is watched as that."""
+        """A descriptor that was closed and reused for another file is watched as the new one."""
         self.loop.add(self.one, lambda: self.done.append("one"))
         self.assertEqual(self.turn(), [])
         two, there = self.pair()
@@ -239,7 +239,7 @@ class Told(Case):
         self.assertEqual(self.turn(), ["two", "written"])
 
     def test_high(self):
-        """Descriptors may be more than can be selected."""
+        """Descriptors may exceed select's limit."""
         import fcntl
         import resource
 
@@ -254,7 +254,7 @@ class Told(Case):
         self.assertEqual((self.turn(), comes(high, 0)), (["high"], True))
 
     def test_long(self):
-        """A wait may be longer than the system counts; and an end that was closed without a word is nothing."""
+        """A wait may exceed the system's longest; and an end closed without removal is ignored."""
         loop = Loop()
         loop.later("moment", 1e12, self.fail)
         loop.add(self.one, lambda: self.done.append("one"))
@@ -267,7 +267,7 @@ class Told(Case):
         self.assertEqual(loop.ready(0), {})
 
     def test_soon(self):
-        """What is to be done soon is done once, before the next wait, which isn't long where more is."""
+        """A call by `soon` runs once, before the next wait, which is short if more calls are due."""
         def again():
             self.done.append("again")
             self.loop.soon(again)
@@ -281,7 +281,7 @@ class Told(Case):
 
 
 class Faults(Case):
-    """What goes wrong at an end, at a moment, or before a wait."""
+    """Exceptions at an end, in a timer, or before a wait."""
 
     def setUp(self):
         self.now, self.done, self.faults = 100.0, [], []
@@ -290,12 +290,12 @@ class Faults(Case):
         self.other.send(b"x")
 
     def fault(self):
-        """What goes wrong."""
+        """Raise an exception."""
         self.done.append(self.now)
         raise ValueError("wrong")
 
     def test_none(self):
-        """It is the process's, where nobody takes it."""
+        """Without a handler it ends the process."""
         self.loop.add(self.one, self.fault)
         with self.assertRaisesRegex(ValueError, "wrong"):
             self.loop.turn()
@@ -307,7 +307,7 @@ class Faults(Case):
             self.loop.before.clear()
 
     def test_ends(self):
-        """It ends what it is said to end, and is told; others go on, and so where that goes wrong too."""
+        """It ends its own part, and is reported; others continue, even if the handler fails too."""
         two, there = self.pair()
         there.send(b"x")
         self.loop.faults = self.faults.append
@@ -323,7 +323,7 @@ class Faults(Case):
         self.assertEqual((self.done[-1], len(self.faults)), ("asked", 4))
 
     def test_rests(self):
-        """An end of which nothing is said rests for a second; a moment's call is tried again a second later; a hook stays."""
+        """An end without a handler pauses for a second; a timer's call is repeated a second later; a hook stays."""
         self.loop.faults = self.faults.append
         self.loop.add(self.one, self.fault)
         self.loop.turns(4)
@@ -343,7 +343,7 @@ class Faults(Case):
         self.assertEqual((len(self.done), len(self.faults)), (6, 6))
 
     def test_ended(self):
-        """What ends a process by its own word does so."""
+        """SystemExit and similar exceptions end the process."""
         def end():
             raise SystemExit(3)
 
@@ -353,7 +353,7 @@ class Faults(Case):
             self.loop.turn()
 
     def test_refused(self):
-        """An end that the system can't watch for want of memory is tried again."""
+        """An end that the system can't watch because memory is short is retried."""
         self.loop.add(self.one, lambda: self.done.append("one"))
         with mock.patch.object(self.loop.watched, "watch", side_effect=OSError(errno.ENOMEM, "memory")):
             self.loop.turn()
@@ -368,7 +368,7 @@ class Faults(Case):
 
 
 class Many(Ends):
-    """The same where a process has more ends than may be selected."""
+    """The same for a process with more ends than select permits."""
 
     def setUp(self):
         super().setUp()
@@ -378,14 +378,14 @@ class Many(Ends):
 
 
 class Moments(Case):
-    """What is due, by a clock that is handed in."""
+    """Timers with a manual clock."""
 
     def setUp(self):
         self.now, self.done = 100.0, []
         self.loop = StillLoop(lambda: self.now)
 
     def test_clock(self):
-        """Moments go by the clock of the loop, whatever that of the system is."""
+        """Timers use the clock of the loop, whatever the system's is."""
         self.loop.later("a", 5.0, lambda: self.done.append("a"))
         self.loop.at("b", 103.0, lambda: self.done.append("b"))
         self.loop.turn()
@@ -400,7 +400,7 @@ class Moments(Case):
         self.assertIsNone(self.loop.waited)
 
     def test_each(self):
-        """What is done before each wait tells by when it has to be done again."""
+        """A hook before each wait returns the moment of its next call."""
         asked = []
         for told in (107.5, None, 99.0):
             self.loop.each(lambda told=told: asked.append(told) or told)
@@ -415,7 +415,7 @@ class Moments(Case):
 
 
 class Listeners(Case):
-    """Who connects at a socket."""
+    """Connections at a socket."""
 
     def setUp(self):
         self.stop_clock()
@@ -427,7 +427,7 @@ class Listeners(Case):
         self.addCleanup(self.listener.close)
 
     def connect(self):
-        """One who connects."""
+        """Connect to the listener."""
         one = socket.socket(socket.AF_UNIX, socket.SOCK_STREAM)
         self.addCleanup(one.close)
         one.settimeout(5)
@@ -435,7 +435,7 @@ class Listeners(Case):
         return one
 
     def test_room(self):
-        """As many are taken as there is room for; another waits, which costs nothing, and is taken once there is."""
+        """As many are accepted as there is room for; another waits without cost, and is accepted later."""
         for _ in range(3):
             self.connect()
         self.loop.turns(4)
@@ -448,7 +448,7 @@ class Listeners(Case):
         self.assertEqual(len(self.taken_peers), 3)
 
     def test_descriptors(self):
-        """Without a descriptor for one it goes on, and listens again after a second."""
+        """Without a descriptor it continues, and listens again after a second."""
         self.connect()
         end, self.listener.end = self.listener.end, mock.Mock()
         self.listener.end.accept.side_effect = OSError(errno.EMFILE, "Too many open files")
@@ -460,7 +460,7 @@ class Listeners(Case):
         self.assertEqual((len(self.taken_peers), len(self.refused)), (1, 1))
 
     def test_real(self):
-        """So it is where the system has none in truth."""
+        """The same holds if the system really has no descriptor."""
         import resource
 
         client = self.connect()
@@ -486,7 +486,7 @@ class Listeners(Case):
         self.assertIsNotNone(client)
 
     def test_another(self):
-        """One of another user is let go at once, and one who has left is nobody."""
+        """A connection of another user is closed at once, and a connection that is already closed counts as none."""
         client = self.connect()
         with mock.patch("os.getuid", return_value=os.getuid() + 1):
             self.loop.turn()
@@ -498,7 +498,7 @@ class Listeners(Case):
         self.assertEqual((self.refused, self.listener.hears()), ([], True))
 
     def test_closed(self):
-        """Its file goes with it, and none that took its place."""
+        """Its file is removed with it, but not a replacement."""
         self.listener.close()
         self.assertEqual((self.path.exists(), self.loop.sources), (False, {}))
         with self.subTest("another"):

@@ -1,4 +1,4 @@
-"""Keys that a terminal tells with all that is held: their sequences cut anywhere, what they are called, and what programs are sent."""
+"""Extended keys of a terminal: their sequences cut anywhere, their names, and the forms for programs."""
 import random
 import unittest
 
@@ -11,8 +11,8 @@ from roam_live.input.extended_keys import ANSWERED, BACK_TAB, QUERY, WANTED, ans
 from roam_live.input.key_names import named, named_key, names_of_key
 from roam_live.input.keys import Key, Keys, acts_of, key_of
 
-# What a terminal tells of a key, the names that it may be bound by, what it is to a program that asked for nothing, and whether one that
-# asked for some keys is sent the form.
+# A terminal's report of a key, its names for bindings, its plain form, and a flag for a program that requested some keys: it gets the
+# extended form.
 KEYS = (
     ("27;5;9", ["C-tab", "tab"], "\t", True), ("27;6;9", ["C-S-tab", "S-tab"], "\x1b[Z", True), ("27;2;9", ["S-tab"], "\x1b[Z", False),
     ("27;2;13", ["S-enter", "enter"], "\r", True), ("27;5;13", ["C-enter", "enter"], "\r", True), ("27;3;13", ["M-enter"], "\x1b\r", False),
@@ -25,16 +25,16 @@ KEYS = (
     ("27;2;127", ["S-bspace", "bspace"], "\x7f", False), ("27;5;8", ["C-bspace", "C-h"], "\x08", False),
     ("27;2;27", ["S-escape", "escape"], "\x1b", True), ("27;9;120", ["M-x"], "\x1bx", False), ("27;5;228", ["C-ä", "ä"], "ä", True),
 )
-# The same in the other form, which has the character without Shift.
+# The same in the other form, which contains the character without Shift.
 OTHERS = (("9;5", "27;5;9"), ("13;2", "27;2;13"), ("97;6", "27;6;65"), ("97;5", "27;5;97"), ("97;133", "27;5;97"), ("13;66", "27;2;13"))
-# What is no such key, and stays what it was.
+# Texts that are no such key, and stay unchanged.
 NONE = ("\x1b[27;0;9~", "\x1b[27;17;9~", "\x1b[27;5;1114112~", "\x1b[27;5;1~", "\x1b[27;5~", "\x1b[27;5;55296~", "\x1b[97u", "\x1b[u",
         "\x1b[97;9u", "\x1b[27;5;133~", "\x1b[27;300;9~")
 ANSWERS = (("\x1b[>4;2m", 2), ("\x1b[>4;0m", 0), ("\x1b[>4m", 0), ("\x1b[>4;m", 0), ("\x1b[>4;1m", 1), ("\x1b[>4;3m", 3))
 
 
 def told(form):
-    """The sequence of a form."""
+    """Return the sequence of a form."""
     return f"\x1b[{form}{'~' if form.startswith('27;') else 'u'}"
 
 
@@ -42,7 +42,9 @@ class Forms(unittest.TestCase):
     """Sequences as keys."""
 
     def test_keys(self):
-        """Each has its names and is what it was; who asked for all has it in its form, who asked for some where nothing else tells it."""
+        """Each key has its names and its plain form. A program that requested all gets the extended form, and one that requested some only
+        if no other form is distinct.
+        """
         for form, names, text, is_some in KEYS:
             key = key_of(told(form))
             self.assertEqual((names_of_key(key), key.text), (names, text), form)
@@ -53,7 +55,7 @@ class Forms(unittest.TestCase):
                 self.assertEqual(key_of(sent["keys2"]), key)
 
     def test_as_ever(self):
-        """To bindings, prompts and programs that asked for nothing it is the key that other terminals send; but for Meta, which is one."""
+        """Bindings, prompts and programs without a request get the key that other terminals send, with Meta if that is pressed."""
         for form, _, text, _ in KEYS:
             key, keys = key_of(told(form)), Keys()
             plain = keys.fed(text.encode()) + keys.ended()
@@ -62,14 +64,14 @@ class Forms(unittest.TestCase):
                 self.assertEqual(key.name, plain[0].name, form)
 
     def test_others(self):
-        """The other form tells the same keys; what tells none is what it was."""
+        """The other form reports the same keys; an invalid one stays unchanged."""
         for other, form in OTHERS:
             self.assertEqual(key_of(told(other)), key_of(told(form)), other)
         for text in NONE:
             self.assertEqual((key_of(text), extended_key(text)), (Key("unknown", text), None), text)
 
     def test_cut(self):
-        """Keys and answers among what is typed are the same wherever they are cut, and no part of an answer is ever typed."""
+        """Keys and answers in the input are the same wherever they are cut, and no part of an answer is ever typed."""
         chance = random.Random(9)
         parts = [*(told(form) for form, *_ in KEYS), *(text for text, _ in ANSWERS), "a", "é", "\x1b[A", "\x1b[<0;1;1M"]
         for _ in range(60):
@@ -82,7 +84,7 @@ class Forms(unittest.TestCase):
             self.assertEqual({key.text for key in whole if key.name == "unknown"} - {BACK_TAB}, set())
 
     def test_answer_waits(self):
-        """The beginning of an answer waits for its end however long that takes; one that ends otherwise is no answer."""
+        """The start of an answer waits for its end however long that takes; one with another end is no answer."""
         for text, before in ANSWERS:
             self.assertEqual((answered(text), key_of(text).name), (before, ANSWERED), text)
             for end in range(3, len(text)):
@@ -97,10 +99,10 @@ class Forms(unittest.TestCase):
 
 
 class Bound(unittest.TestCase):
-    """Keys of a person's own."""
+    """The user's own key bindings."""
 
     def test_bound(self):
-        """A key is bound by its own name, else by that of the key that it was; with Meta also where an escape stands before it."""
+        """A key is bound by its own name, else by that of its plain form; with Meta also after an escape."""
         own = {("root", name): Binding([["next-window"]], False) for name in ("C-tab", "enter", "M-h", "C-M-a")}
         for text, name in ((told("27;5;9"), "C-tab"), ("\t", ""), (told("27;2;13"), "enter"), ("\x1bh", "M-h"), (told("27;3;104"), "M-h"),
                            ("\x1b\x01", "C-M-a"), (told("27;7;97"), "C-M-a"), ("\x1bj", ""), ("\x1b", "")):
@@ -109,10 +111,10 @@ class Bound(unittest.TestCase):
 
 
 class Given(unittest.TestCase):
-    """What a terminal is given, and has back."""
+    """The terminal's setting, and its restoration."""
 
     def test_given_back(self):
-        """It is asked how it told keys, and tells them so again, as it answered, or by its own default; one of Linux is asked nothing."""
+        """The terminal is queried for its setting, which is restored from its answer, or to the default; a Linux console gets no query."""
         for answer, back in ((None, b"\x1b[>4m"), ("\x1b[>4;0m", b"\x1b[>4m"), ("\x1b[>4;1m", b"\x1b[>4;1m")):
             modes = OuterModes()
             modes.is_able = True
@@ -131,10 +133,10 @@ class Given(unittest.TestCase):
 
 
 class Typed(Attached):
-    """What is typed in panes."""
+    """Input in panes."""
 
     def test_typed(self):
-        """A pane's program that asked for such keys has them, and another in the session as ever, also where all panes are typed in."""
+        """A pane's program that requested such keys gets them, and others the plain form, also if keys go to all panes."""
         session = Lived()
         session.do("split right")
         self.attach(session)

@@ -1,4 +1,4 @@
-"""Windows of another machine's session over a relay: what the far end tells of them, the near end's folders, and peers' numbers."""
+"""Windows of a remote session over a relay: the far end's reports, the near end's folders, and peers' numbers."""
 import os
 import pathlib
 import types
@@ -12,7 +12,7 @@ from roam_live.relay.near_sockets import NearWindows
 
 
 class Told(Case):
-    """The text by which all windows are told."""
+    """The text that reports all windows."""
 
     def test_text(self):
         windows = [(2, "5e55"), (1, "a"), (99, "0123456789abcdef")]
@@ -24,7 +24,7 @@ class Told(Case):
 
 
 class Far(Case):
-    """The far end's, of a session that is played."""
+    """The far end of a simulated session."""
 
     def setUp(self):
         self.folder, self.told = self.made_folder(), []
@@ -34,14 +34,14 @@ class Far(Case):
         self.windows = FarWindows(self.place, self.loop, self.told.append)
 
     def window(self, number):
-        """A window of it."""
+        """Return a window of it."""
         folder = self.folder / f"w/{number}"
         folder.mkdir(parents=True, exist_ok=True)
         return types.SimpleNamespace(number=number, folder=folder, common=self.folder, id=lambda: self.here.get(number, ""),
                                      windows=lambda: [self.window(one) for one in self.here])
 
     def test_asked(self):
-        """Nothing is told before it is asked; then all, the relay's own first, and each change once."""
+        """Nothing is reported before the request; then all windows, the relay's own first, and each change once."""
         listener = self.listening(self.folder / "host")
         self.windows.tell()
         self.assertEqual((self.told, self.windows.folder(1), self.windows.path("w/1/panes")), ([], str(self.place.folder), ""))
@@ -58,13 +58,14 @@ class Far(Case):
         self.assertEqual(self.told[1:], [b"n3 a3 1 a1 2 a2"])
         self.assertEqual([self.windows.path(name) for name in ("w/2/panes", "panes", "host")],
                          [str(self.folder / "w/2/panes"), str(self.place.folder / "panes"), str(self.folder / "host")])
-        # A relay that comes again is told anew.
+        # A relay that returns gets the report again.
         self.windows.use()
         self.assertEqual(len(self.told), 3)
 
     def test_gone(self):
-        """One that is told to be gone, or isn't named anew where the connection was cut, is told no more, though its server hasn't ended
-        yet; the relay's own is until then. What is no number changes nothing."""
+        """A window that is reported gone, or missing after a cut connection, is no longer reported, though its server still runs; the
+        relay's own is until then. An invalid number changes nothing.
+        """
         listener = self.listening(self.folder / "host")
         self.here.update({2: "a2", 4: "a4"})
         self.windows.use()
@@ -87,7 +88,7 @@ class Far(Case):
             self.assertEqual(self.told, [wanted] if wanted else [], text)
 
     def test_heir(self):
-        """Once its own window has ended another is, where the near end knows of windows."""
+        """After the end of its own window another replaces it, if the near end knows of windows."""
         self.assertIsNone(self.windows.heir())
         self.windows.use()
         del self.here[3]
@@ -96,7 +97,7 @@ class Far(Case):
         self.assertIsNone(self.windows.heir())
 
     def test_earlier(self):
-        """A session of one window tells none."""
+        """A session of one window reports none."""
         for place in (None, types.SimpleNamespace(number=0)):
             windows = FarWindows(place, self.loop, self.told.append)
             windows.use()
@@ -113,15 +114,15 @@ class Near(Case):
         self.addCleanup(self.windows.close)
 
     def listens(self, folder, number):
-        """The socket of a window's clients."""
+        """Return the socket of a window's clients."""
         return Listener(self.loop, os.path.join(folder, "clients"), lambda peer: None, lambda: True, lambda fault: None)
 
     def there(self):
-        """What lies in the folder."""
+        """Return the contents of the folder."""
         return sorted(str(path.relative_to(self.folder)) for path in self.folder.rglob("*") if not path.is_dir())
 
     def test_taken(self):
-        """A window has its sockets while it is told; one that has another session now is made anew, and what is left goes."""
+        """A window has its sockets while it is reported; one with another session is created anew, and the rest is removed."""
         (self.folder / "w/9").mkdir(parents=True)
         pathlib.Path(self.folder, "w/9/session").touch()
         self.windows.take({1: "a", 2: "b"})
@@ -135,8 +136,7 @@ class Near(Case):
         self.assertEqual(os.listdir(self.folder), [])
 
     def test_churn(self):
-        """Other windows without end are made at a bounded rate; the same, told again, cost nothing; in the end those are there that were
-        told last."""
+        """Endless other windows are created at a bounded rate; repeated ones cost nothing; in the end the last reported ones exist."""
         made = []
         make = self.windows.make
         self.patch_of(self.windows, "make", side_effect=lambda number, name: (made.append(number), make(number, name)))
@@ -159,7 +159,7 @@ class Numbers(Case):
     """Peers' numbers."""
 
     def test_windows(self):
-        """The high byte is the window's; the relay's own keeps to its numbers once others are known."""
+        """The high byte is the window's; the relay's own keeps its numbers once others are known."""
         forgotten = []
         peers = Peers(forgotten.append)
         peers.last[0] = 300
@@ -174,10 +174,10 @@ class Numbers(Case):
 
 
 class Names(Case):
-    """Names of sockets that are carried."""
+    """Names of forwarded sockets."""
 
     def test_names(self):
-        """Of windows `panes` alone can be had; the host is the session's."""
+        """For other windows only `panes` is forwarded; the host is the session's."""
         opened = []
 
         def opens(name):

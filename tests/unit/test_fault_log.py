@@ -1,4 +1,4 @@
-"""Unexpected exceptions in the pty host: what each ends, and what is logged."""
+"""Unexpected exceptions in the pty host: the part that each ends, and the log."""
 import errno
 import os
 import socket
@@ -16,7 +16,7 @@ from test_pty_host import Host
 
 
 class Logged(Case):
-    """How exceptions are logged."""
+    """The log of exceptions."""
 
     def setUp(self):
         self.now = 100.0
@@ -49,7 +49,7 @@ class Logged(Case):
                         and len(self.said.getvalue()) < 400)
 
     def test_apart(self):
-        """One from the same source line is logged once a minute, with how many came; one from another line is logged."""
+        """One from the same source line is logged once a minute, with the count; one from another line is logged."""
         for _ in range(5):
             self.fault("one")
         self.fault("two", 3)
@@ -82,7 +82,7 @@ class Logged(Case):
 
 
 class Kept(Host):
-    """What an exception ends."""
+    """The part that an exception ends."""
 
     def asker(self, *lines):
         """Connect to `host` and send lines."""
@@ -153,7 +153,7 @@ class Kept(Host):
         self.assertEqual((pane.state.process, read_now(end), self.host.common.windows()), (72, b"new", [self.host]))
 
     def test_moment(self):
-        """Exceptions in a timer, a hook and `tend` are logged, and everything else goes on."""
+        """Exceptions in a timer, a hook and `tend` are logged, and everything else continues."""
         panes = self.begin()
         self.host.loop.later("moment", 0, lambda: 1 / 0)
         self.host.loop.each(lambda: [][0])
@@ -175,7 +175,7 @@ class Kept(Host):
         self.assertEqual((self.host.common.faults.count, sorted(self.host.panes)), (1, [1, 2]))
 
     def test_memory(self):
-        """If memory is short, scrollback rows are dropped and the pane goes on a second later, however often that happens."""
+        """If memory is short, scrollback rows are dropped and the pane continues a second later, however often that happens."""
         panes = self.begin()
         self.host.rows.shed = mock.Mock()
         read = host_pane.read
@@ -190,7 +190,7 @@ class Kept(Host):
         self.assertEqual((read_now(panes[0]), self.host.panes[1].runs()), (b"kept", True))
 
     def short(self):
-        """Fail for want of memory."""
+        """Raise a MemoryError."""
         raise MemoryError
 
 
@@ -198,7 +198,7 @@ class Sizes(Case):
     """Sizes in requests."""
 
     def test_open(self):
-        """A size is cut to the largest that a session may have; what isn't a size is a bad line."""
+        """A size is cut to the largest of a session; an invalid size is a bad line."""
         asked = []
         table = mock.Mock(open=lambda size, beside, told, begins: asked.append(size))
         lines = window_commands.WindowLines(table, mock.Mock(channels={}))
@@ -227,7 +227,7 @@ class Short(Case):
         self.assertEqual(room.kept, sum(chunk.charge() for pane in panes for chunk in pane.chunks))
 
     def test_handed(self):
-        """A record for the filter is queued completely or not at all."""
+        """A record for the scrollback process is queued completely or not at all."""
         one = scrollback_process.ScrollbackProcess.__new__(scrollback_process.ScrollbackProcess)
         one.terminal, one.chunks, one.chunks_size, one.waiting = 3, [b"ab", b"c"], 3, bytearray()
         one.sheds = mock.Mock()

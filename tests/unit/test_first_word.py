@@ -1,4 +1,4 @@
-"""What `roam` says before the program has its words, in a clone and where it is installed."""
+"""The messages of `roam` before the program gets its words, in a clone and in an installation."""
 import os
 import shutil
 import subprocess
@@ -14,14 +14,14 @@ TELLS = "roam mux runs terminal sessions; `roam mux help` explains it\n"
 
 
 def write(path, text):
-    """Writes a file that can be run, and the folders above it."""
+    """Write an executable file, and create the folders above it."""
     path.parent.mkdir(parents=True, exist_ok=True)
     path.write_text(text, encoding="utf-8")
     path.chmod(0o755)
 
 
 class FirstWord(Case):
-    """Both scripts, with a program and a `mux` that are played."""
+    """Both scripts, with a simulated program and `mux`."""
 
     def setUp(self):
         self.clone, self.installed = self.made_folder() / "clone", self.made_folder() / "installed"
@@ -41,7 +41,7 @@ class FirstWord(Case):
         write(self.installed / "lib/roam/mux", MUX)
 
     def says(self, *words):
-        """The status and what is said, on standard output and on standard error, which is the same of both scripts."""
+        """Return the status and the output, on standard output and on standard error, which is the same of both scripts."""
         told = []
         for folder in (self.clone, self.installed / "bin"):
             environment = {**os.environ, "PATH": f"{folder}:{os.environ['PATH']}"}
@@ -52,7 +52,7 @@ class FirstWord(Case):
         return told[0]
 
     def test_help(self):
-        """What tells the program's commands begins with mux; help of one of them is the program's alone."""
+        """The text about the program's commands begins with mux; help of one of them is the program's alone."""
         self.assertEqual(self.says(), (2, "program\n", TELLS))
         for word in ("help", "-h", "--help"):
             self.assertEqual(self.says(word), (0, f"{TELLS}\nprogram {word}\n", ""))
@@ -61,7 +61,7 @@ class FirstWord(Case):
         self.assertEqual(self.says("mux", "ls", "-x"), (0, "mux ls -x\n", ""))
 
     def test_attach(self):
-        """What the program asks for behind attach is led by what a person meant."""
+        """The program's usage of attach follows the probable intention of the user."""
         self.assertEqual(self.says("attach"), (0, "program attach\n", "roam mux attach attaches to a session by its name; this command runs a client\n"))
 
     def test_version(self):
@@ -70,7 +70,7 @@ class FirstWord(Case):
             self.assertEqual(self.says(word), (0, "mux --version\n", ""))
 
     def test_words_of_mux(self):
-        """A word of mux is refused with what was meant, but for those that the program has with options."""
+        """A word of mux is refused with a suggestion, except for those that the program has with options."""
         for word in WORDS:
             if word not in ("attach", "help", "far"):
                 self.assertEqual(self.says(word, "work"), (2, "", f"roam: {word} is a command of mux: `roam mux {word}`\n"))
@@ -80,7 +80,7 @@ class FirstWord(Case):
 
 
 class Stamp(Case):
-    """By what a clone's `roam` knows that its program is up to date."""
+    """The stamp by which a clone's `roam` knows that its program is up to date."""
 
     def setUp(self):
         self.clone = self.made_folder() / "clone"
@@ -94,26 +94,26 @@ class Stamp(Case):
         write(self.clone / "crates/roam/src/lib.rt", "")
         write(self.clone / "crates/roam/out/roam", PROGRAM)
         write(self.clone / "crates/roam/out/current", "")
-        # What looks at files, and what builds, say so.
+        # Replacements of the file check and the build that report their calls.
         for name in ("find", "rt"):
             write(self.clone / f"bin/{name}", f"#!/bin/sh\necho {name} >> {self.clone}/called\n")
         write(self.clone / "tools/build", f"#!/bin/sh\necho build:$1:$2 >> {self.clone}/called\n[ $1 != --check ] || [ -e {self.clone}/built ]\n")
         self.age("crates.txt", "crates/roam/src", "crates/roam/specs", "crates/roam/proofs", "crates/roam/src/lib.rt")
 
     def age(self, *names):
-        """Has files be older than the stamp."""
+        """Make files older than the stamp."""
         for name in names:
             os.utime(self.clone / name, (1000, 1000))
 
     def called(self, *words):
-        """What `roam` calls to do words, in order."""
+        """Return the commands that `roam` runs for these words, in order."""
         (self.clone / "called").write_text("", encoding="ascii")
         environment = {**os.environ, "PATH": f"{self.clone}/bin:{os.environ['PATH']}"}
         subprocess.run([str(self.clone / "roam"), *words], env=environment, stdout=subprocess.DEVNULL, stderr=subprocess.DEVNULL, check=True)
         return (self.clone / "called").read_text(encoding="ascii").split()
 
     def test_asking(self):
-        """Words that ask a session that runs something look at no file while no folder is newer than the stamp; others do."""
+        """Words that query a running session check no file while no folder is newer than the stamp; others do."""
         for words in (("mux", "attach", "main"), ("mux", "ls"), ("mux", "send", "main", "x"), ("mux", "help")):
             self.assertEqual(self.called(*words), [], words)
         for words in (("mux",), ("mux", "main"), ("mux", "new", "main"), ("mux", "ssh", "there"), ("show",), ("serve", "--dir", "d")):
@@ -123,7 +123,7 @@ class Stamp(Case):
         self.assertEqual(self.called("mux", "ls"), ["find"])
 
     def test_none(self):
-        """Without a stamp tools/build looks, whatever the words are, and builds what is stale; the next call needs neither."""
+        """Without a stamp tools/build checks, whatever the words are, and builds stale crates; the next call needs neither."""
         (self.clone / "crates/roam/out/current").unlink()
         self.assertEqual(self.called("mux", "ls"), ["build:--check:roam", "build:roam:"])
         (self.clone / "crates/roam/out/current").unlink()

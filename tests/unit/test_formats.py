@@ -1,4 +1,4 @@
-"""Formats of a status row, by tmux's manual: values, times, styles, and what isn't known."""
+"""Formats of a status row, by tmux's manual: values, times, styles, and unknown parts."""
 import os
 import time
 import unittest
@@ -11,7 +11,7 @@ VALUES = {"session": "main", "window": "bash", "index": "2", "pane": "3", "title
 # 29 November 2026, 01:02:03 in UTC.
 NOW = 1795914123.0
 
-# A format, and what it says.
+# A format, and its output.
 SAYS = {
     "": "", "#S": "main", "[#S] #I:#W#F #P": "[main] 2:bash* 3", "#H #h": "here.example here", "##S": "#S", "#{session_name}": "main",
     "#{window_index}:#{window_name}": "2:bash", "#{host_short}": "here", "%H:%M": "01:02", "%H:%M:%S": "01:02:03", "%d-%b-%y": "29-Nov-26",
@@ -19,13 +19,13 @@ SAYS = {
     "#S" * 3: "main" * 3,
 }
 
-# A format, what it says, and what of it isn't known.
+# A format, its output, and its unknown parts.
 WRONG = {
     "#(date) #S": (" main", ["#(date)"]), "#{?window_zoomed_flag,Z,}x": ("x", ["#{?window_zoomed_flag,Z,}"]), "#Zx": ("x", ["#Z"]),
     "#[fg=nosuch]x": ("x", ["#[fg=nosuch]"]), "#{}": ("", ["#{}"]), "#(a\\)b)c": ("c", ["#(a\\)b)"]), "#(open": ("", ["#(open"]),
 }
 
-# Words of a style, and the numbers of SGR (ECMA-48, 8.3.117; the colours of xterm).
+# Words of a style, and the SGR numbers (ECMA-48, 8.3.117; the colours of xterm).
 STYLES = {
     "fg=red": "31", "bg=red": "41", "fg=brightred": "91", "bg=brightblue": "104", "fg=colour196": "38;5;196", "fg=color7": "38;5;7",
     "bg=#ff8000": "48;2;255;128;0", "fg=default": "39", "bold": "1", "nobold": "", "fg=green,bold": "32;1", "fg=green bg=black": "32;40",
@@ -45,14 +45,14 @@ class Formats(unittest.TestCase):
 
     @staticmethod
     def restore(before):
-        """The zone that there was."""
+        """Restore the time zone."""
         os.environ.pop("TZ")
         os.environ.update({} if before is None else {"TZ": before})
         time.tzset()
 
     @staticmethod
     def said(text):
-        """What a format says."""
+        """Return the output of a format."""
         return "".join(one.text for one in filled(read_format(text), VALUES, NOW))
 
     def test_says(self):

@@ -1,4 +1,4 @@
-"""Connections that a relay carries: both ends over frames of a command, and over chunks of a path that are lost and turned round."""
+"""Forwarded connections of a relay: both ends over frames of a command, and over lost and reordered chunks of a path."""
 import random
 import socket
 import unittest
@@ -13,7 +13,7 @@ ROOM = 1137
 
 
 class Both(Case):
-    """Two ends of a way, and a folder of the far one whose sockets are played."""
+    """Two ends of a transport, and a folder of the far one with simulated sockets."""
 
     def setUp(self):
         self.loop = StillLoop()
@@ -21,7 +21,7 @@ class Both(Case):
         self.make()
 
     def opens(self, name):
-        """A connection to a socket of the far folder; its other end is the server's."""
+        """Return a connection to a socket of the far folder; its other end is the server's."""
         self.names.append(name)
         if name == "w/3/panes":
             raise ConnectionRefusedError("nobody keeps shells")
@@ -31,22 +31,22 @@ class Both(Case):
         return ours
 
     def client(self, name="panes", said=b""):
-        """One who connected at the near end; its own end. None where there is no room."""
+        """Connect at the near end, and return the connection's other end; None if there is no room."""
         ours, theirs = self.pair()
         return ours if self.near.begin(name, theirs, said) else None
 
     def turn(self, count=1):
-        """Carries what there is, so often."""
+        """Pass all data on, so many times."""
         for _ in range(count):
             self.loop.turn()
             self.carry()
 
 
 class Carries:
-    """What holds over either kind of way."""
+    """Properties of both transports."""
 
     def test_both_ways(self):
-        """Bytes go both ways, in their order, to the socket of that name; what was read already goes first."""
+        """Bytes go both ways, in order, to the socket of that name; bytes read earlier go first."""
         client, other = self.client("panes", b"host\n"), self.client("host")
         self.turn(2)
         self.assertEqual(sorted(self.names), ["host", "panes"])
@@ -59,7 +59,7 @@ class Carries:
         self.assertEqual((read_now(client), read_now(other)), (b"1 1 1 23 80 1\n", b"others 0\n"))
 
     def test_ends(self):
-        """Whoever ends it ends both, behind what was said before; nothing is left of it at either end."""
+        """An end of either side ends both, after the earlier bytes; nothing of it remains at either end."""
         for is_near in (True, False):
             client = self.client()
             self.turn(2)
@@ -72,7 +72,7 @@ class Carries:
             self.assertEqual((self.near.all, self.far.all), ({}, {}))
 
     def test_names(self):
-        """Two names are known, and no other, nor a path; where nobody listens the connection ends."""
+        """There are two valid names, and no other, nor a path; without a listener the connection ends."""
         self.assertEqual((HOST, PANES), ("host", "panes"))
         clients = [self.client(name) for name in ("clients", "p1", "terminals", "../panes", "panes\0", "w/3/host", "w/3/panes", "x" * 32)]
         self.turn(6)
@@ -82,7 +82,7 @@ class Carries:
         self.assertEqual((self.near.all, self.far.all), ({}, {}))
 
     def test_most(self):
-        """64 are carried, and no more; where one ends there is room for another."""
+        """64 connections are forwarded, and no more; the end of one makes room for another."""
         clients = [self.client() for _ in range(MOST_FORWARDED)]
         self.assertEqual(MOST_FORWARDED, 64)
         self.assertNotIn(None, clients)
@@ -99,8 +99,9 @@ class Carries:
         self.assertEqual((len(self.servers), read_now(again)), (65, b"y"))
 
     def test_credit(self):
-        """Where a reader takes nothing 65,536 bytes are taken beyond what it has, and no more is read of who writes; once it reads all
-        comes, and of one that is slow nothing is lost."""
+        """If a reader takes nothing, 65,536 bytes are taken beyond its consumption, and then the writer waits. Once it reads, everything
+        arrives, and a slow reader loses nothing.
+        """
         client = self.client()
         self.turn(2)
         server, (one,) = self.servers[0], self.near.all.values()
@@ -129,7 +130,7 @@ class Carries:
         self.assertEqual(got, wanted)
 
     def test_end_all(self):
-        """Where another way carries them they all end, at both ends."""
+        """After a change of transport they all end, at both ends."""
         clients = [self.client(name) for name in ("panes", "host")]
         self.turn(2)
         self.near.end_all()
@@ -144,7 +145,7 @@ class Carries:
         self.assertEqual((self.near.all, self.far.all), ({}, {}))
 
     def test_close(self):
-        """A way that is no more takes them with it."""
+        """A transport that is gone ends them."""
         client = self.client()
         self.turn(2)
         self.near.close()
@@ -152,7 +153,7 @@ class Carries:
         self.assertEqual((client.recv(1), self.servers[0].recv(1), self.near.all, self.far.all, self.loop.sources), (b"", b"", {}, {}, {}))
 
     def test_numbers(self):
-        """A number isn't given again while it is used, and after the last comes the first."""
+        """A number isn't reused while it is in use, and after the last comes the first."""
         self.near.last = forwarding.MOST_NUMBER - 1
         for _ in range(2):
             self.client()
@@ -163,7 +164,7 @@ class Carries:
         self.assertEqual(len(self.servers), 3)
 
     def test_ending(self):
-        """Those whose end the other end never takes are kept for a while, 64 at most."""
+        """Those whose end the other end never acknowledges are remembered for a while, 64 at most."""
         self.is_cut = True
         for _ in range(300):
             client = self.client()
@@ -175,27 +176,27 @@ class Carries:
 
 
 class Limits(Case):
-    """How much is carried."""
+    """The limits of forwarded data."""
 
     def test_limits(self):
-        """65,536 bytes beyond what the reader took, of which it tells each 16,384; as many are read ahead."""
+        """The credit is 65,536 bytes beyond the consumption, acknowledged every 16,384 bytes; as many are read ahead."""
         self.assertEqual((forwarding.CREDIT, forwarding.TAKEN_AFTER, forwarding.READ_AHEAD), (65536, 16384, 16384))
         self.assertEqual((forwarding.MOST_ENDING, forwarding.LONGEST_NAME, path_forwarding.MOST_CHUNKS), (64, 32, 64))
 
 
 class Pipes(Both, Carries):
-    """Over the frames of a command, which come whole and in their order."""
+    """Over the frames of a command, which arrive whole and in order."""
 
     is_cut = False
 
     def make(self):
-        """Both ends."""
+        """Return both ends."""
         self.going = {"near": [], "far": []}
         self.near = PipeStreams(self.loop, lambda text, is_counted: self.going["near"].append((text, is_counted)))
         self.far = PipeStreams(self.loop, lambda text, is_counted: self.going["far"].append((text, is_counted)), self.opens)
 
     def carry(self):
-        """Hands each end what the other told."""
+        """Pass each end the other's frames."""
         if self.is_cut:
             self.near.fill(0)
             return
@@ -207,7 +208,7 @@ class Pipes(Both, Carries):
                 self.assertTrue(other.take(text))
 
     def refused(self, end, text, words):
-        """A frame is refused."""
+        """Check that a frame is refused."""
         with self.assertRaisesRegex(BadStream, words):
             end.take(text)
 
@@ -222,7 +223,7 @@ class Pipes(Both, Carries):
         self.assertFalse(self.far.take(b"z"))
 
     def test_fill(self):
-        """So many bytes go at once, and each has its turn."""
+        """So many bytes are sent at once, and each connection has its turn."""
         for _ in range(2):
             self.client("panes", b"x" * 9000)
         self.going["near"].clear()
@@ -233,7 +234,7 @@ class Pipes(Both, Carries):
         self.assertTrue(all(len(text) <= 4096 for text, _ in self.going["near"]))
 
     def test_forged(self):
-        """What can't be is refused: a frame that is cut, one of another length, more than may be on its way, more taken than was sent."""
+        """Invalid frames are refused: cut ones, wrong lengths, more than the credit, more consumed than sent."""
         for kind in (OPEN, BYTES, END, TAKEN):
             for length in range(1, NUMBER.size):
                 self.refused(self.far, NUMBER.pack(kind, 1)[:length], "is truncated")
@@ -250,14 +251,14 @@ class Pipes(Both, Carries):
         self.refused(self.far, TAKEN_COUNT.pack(TAKEN, 1, 1), "acknowledged 1 bytes of a connection's 0")
 
     def test_65(self):
-        """A far end ends the 65th at once, and what is said of ones that aren't there is nothing."""
+        """A far end ends the 65th at once, and ignores frames of unknown connections."""
         for number in range(1, 66):
             self.far.take(NUMBER.pack(OPEN, number) + b"panes")
         self.assertEqual((len(self.servers), len(self.far.all)), (64, 64))
         self.assertEqual(self.going["far"], [(NUMBER.pack(END, 65), False)])
         for text in (NUMBER.pack(BYTES, 65) + b"x", NUMBER.pack(END, 65), TAKEN_COUNT.pack(TAKEN, 65, 9)):
             self.assertTrue(self.far.take(text))
-        # Many that end while their readers take nothing are let go.
+        # Too many ending connections with stalled readers are dropped.
         for number in range(1, 65):
             self.far.take(NUMBER.pack(BYTES, number) + b"x")
             self.far.take(NUMBER.pack(END, number))
@@ -269,17 +270,17 @@ class Pipes(Both, Carries):
 
 
 class Paths(Both, Carries):
-    """Over chunks of a path, some of which are lost and go again."""
+    """Over chunks of a path, some of which are lost and sent again."""
 
     is_cut = False
 
     def make(self):
-        """Both ends; what of each is on its way."""
+        """Return both ends, and the chunks in flight of each."""
         self.near, self.far = PathStreams(self.loop), PathStreams(self.loop, self.opens)
         self.chance, self.lost = random.Random(1), 0.0
 
     def chunks(self, end):
-        """The chunks that an end sends now: those that were lost, and as many more as may go."""
+        """Return the chunks that an end sends now: lost ones, and as many more as permitted."""
         found = []
         while len(found) < 200:
             chunk = end.next_chunk(ROOM)
@@ -290,7 +291,7 @@ class Paths(Both, Carries):
         return found
 
     def carry(self):
-        """Hands each end the chunks of the other, some of them twice, and tells that of those that arrived."""
+        """Pass each end the other's chunks, some of them twice, and acknowledge those that arrived."""
         for end, other in ((self.near, self.far), (self.far, self.near)):
             for chunk in self.chunks(end):
                 if self.is_cut or self.chance.random() < self.lost:
@@ -304,13 +305,13 @@ class Paths(Both, Carries):
                 end.arrived(chunk)
 
     def give(self, end, frame):
-        """Hands an end a frame."""
+        """Pass a frame to an end."""
         layout = STREAM if frame[:1] == STREAM_KIND else TAKEN_COUNT
         kind, number, offset = layout.unpack_from(frame)[:3]
         end.take(kind, number, offset, frame[layout.size :])
 
     def test_lost(self):
-        """Where every third chunk is lost, and all are turned round, each byte comes once and in its order, and so does the end."""
+        """If every third chunk is lost, and all are reordered, each byte arrives once and in order, and so does the end."""
         self.lost = 1 / 3
         client = self.client()
         wanted = bytes(self.chance.randrange(256) for _ in range(200_000))
@@ -329,7 +330,7 @@ class Paths(Both, Carries):
         self.assertEqual((self.servers[0].recv(1), self.near.all, self.far.all), (b"", {}, {}))
 
     def test_chunks(self):
-        """The first bytes are the name and LF; chunks have 1,080 bytes at most, and the last none."""
+        """The first bytes are the name and LF; chunks have 1,080 bytes at most, and the last is empty."""
         client = self.client("panes", b"x" * 2000)
         found = [self.near.next_chunk(ROOM) for _ in range(2)]
         client.close()
@@ -344,7 +345,7 @@ class Paths(Both, Carries):
         self.assertEqual(self.near.next_chunk(13), None)
 
     def test_little_room(self):
-        """A chunk goes by the room that there is; none where there is none."""
+        """A chunk fits the room in the packet; without room there is none."""
         self.client("panes")
         self.assertFalse(self.near.next_chunk(13))
         chunk = self.near.next_chunk(15)
@@ -354,14 +355,14 @@ class Paths(Both, Carries):
         self.assertFalse(self.near.waits())
 
     def test_unsent(self):
-        """One that ends before anything of it went is nothing to the other end."""
+        """One that ends before anything of it was sent is unknown to the other end."""
         client = self.client()
         client.close()
         self.loop.turn()
         self.assertEqual((self.near.all, self.near.waits()), ({}, False))
 
     def test_forged(self):
-        """What can't be is dropped: bytes behind the most, the same again, another's credit; memory is bounded."""
+        """Invalid chunks are dropped: bytes beyond the limit, duplicates, another's credit; memory is bounded."""
         self.turn()
         for number, offset, text in ((0, 0, b"panes\n"), (1, CREDIT, b"x"), (1, 1 << 63, b"x"), (1, CREDIT - 1, b"xy")):
             self.far.take(STREAM_KIND, number, offset, text)
@@ -376,7 +377,7 @@ class Paths(Both, Carries):
         self.assertEqual(self.near.all, {})
 
     def test_nameless(self):
-        """Those of which no name comes are let go for others, and one whose name is too long is ended."""
+        """Those without a name are dropped for others, and one with a too long name is ended."""
         for number in range(1, 1000):
             self.far.take(STREAM_KIND, number, 5, b"x")
         self.assertEqual(len(self.far.all), 64)
@@ -394,7 +395,7 @@ class Paths(Both, Carries):
         self.assertEqual(self.far.next_chunk(ROOM), StreamChunk(STREAM_KIND, 65, 0))
 
     def test_late(self):
-        """A chunk of one that has ended is nothing, and no new one."""
+        """A chunk of an ended one is ignored, and begins no new one."""
         client = self.client()
         self.turn(2)
         client.close()
@@ -408,7 +409,7 @@ class Paths(Both, Carries):
         self.assertEqual(len(self.far.ended), path_forwarding.MOST_ENDED)
 
     def test_taken_again(self):
-        """What was taken is told again where that is lost, by the newest count."""
+        """A lost acknowledgement of consumption is sent again, with the newest count."""
         client = self.client()
         self.turn(2)
         for _ in range(3):

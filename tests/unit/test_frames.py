@@ -1,4 +1,4 @@
-"""What the two ends of a relay say to each other, and what an end does with what can't be."""
+"""The messages of a relay's two ends, and the handling of invalid ones."""
 import os
 import random
 import unittest
@@ -14,27 +14,27 @@ from roam_live.relay.frames import (COUNT, ENDED, HAD, HEADER, MOST_TOLD, PACKED
 
 
 def frame(peer, text):
-    """A frame as it stands before it is compressed."""
+    """Return a frame before compression."""
     return HEADER.pack(len(text), peer) + text
 
 
 def packed(frames):
-    """Frames as they go over a stream."""
+    """Return frames in their form on a stream."""
     packer = zlib.compressobj()
     return packer.compress(frames) + packer.flush(zlib.Z_SYNC_FLUSH)
 
 
 def packed_frame(text, is_last=1):
-    """A frame of what LZMA packed, as it stands before it is compressed."""
+    """Return a frame of LZMA data, before compression."""
     return frame(0, PACKED_HEAD.pack(PACKED, 1, is_last) + text)
 
 
 def datagram(length):
-    """What may be a datagram, of so many bytes."""
+    """Return a possible datagram of so many bytes."""
     return b"RM" + bytes(length - 2)
 
 
-# What a far end says that can't be, behind its greeting, and what is told of it.
+# Invalid messages of a far end, after its greeting, and the errors.
 HOSTILE = {
     "an empty frame": (packed(frame(0, b"")), "an empty frame"),
     "an empty frame for a peer": (packed(frame(7, b"")), "an empty frame"),
@@ -61,7 +61,7 @@ HOSTILE = {
     "the end of what is compressed": (zlib.compress(frame(0, b"z")) + bytes(100), "ended, but the other end did not"),
 }
 
-# What is odd, and no fault.
+# Odd messages that are no errors.
 ODD = {
     "bytes and ends of connections that aren't there": packed(b"".join(
         frame(0, NUMBER.pack(BYTES, number) + b"x") + frame(0, NUMBER.pack(END, number)) + frame(0, TAKEN_COUNT.pack(TAKEN, number, 9))
@@ -78,7 +78,7 @@ class Frames(unittest.TestCase):
     """Frames of a stream, taken one by one."""
 
     def stream(self, said):
-        """A stream to which the other end has said so much."""
+        """Return a stream with this input."""
         reader, writer = os.pipe()
         self.addCleanup(os.close, reader)
         os.write(writer, greeting("abc") + said)
@@ -86,14 +86,14 @@ class Frames(unittest.TestCase):
         return RelayStream(reader, 1, "-")
 
     def test_before_a_fault(self):
-        """What comes before what can't be is taken."""
+        """Frames before an invalid one are taken."""
         frames = self.stream(packed(frame(3, datagram(50)) + frame(4, datagram(LONGEST)) + frame(0, b""))).received()
         self.assertEqual([next(frames), next(frames)], [(3, datagram(50)), (4, datagram(LONGEST))])
         with self.assertRaises(BadWords):
             next(frames)
 
     def test_one_by_one(self):
-        """A frame is made once it is asked for."""
+        """A frame is made on demand."""
         stream = self.stream(packed(frame(3, datagram(1242)) * 10000))
         frames = stream.received()
         for _ in range(3):
@@ -102,14 +102,14 @@ class Frames(unittest.TestCase):
 
 
 def instruction(number, text, says=0):
-    """The datagrams of an instruction; what says other bytes of its numbers says the same."""
+    """Return the datagrams of an instruction; other bytes for its numbers mean the same contents."""
     parts = [text[k : k + 1200] for k in range(0, len(text), 1200)]
     return [b"RM\2\1" + bytes(16) + (says + k).to_bytes(8, "big") + number.to_bytes(8, "big") + k.to_bytes(2, "big")
             + len(parts).to_bytes(2, "big") + len(part).to_bytes(2, "big") + part for k, part in enumerate(parts)]
 
 
 class Goes(Case):
-    """What goes over a stream: packed where both ends can, and nothing twice that is on its way."""
+    """The data sent over a stream: packed if both ends can, and without repeats of data in flight."""
 
     def setUp(self):
         self.stop_clock()
@@ -121,12 +121,12 @@ class Goes(Case):
         self.waiting = Waiting()
 
     def add(self, peer, texts):
-        """Has an instruction wait."""
+        """Queue an instruction."""
         for text in texts:
             self.waiting.add(peer, text)
 
     def carried(self):
-        """What comes of what waits, and the bytes that went."""
+        """Return the received contents of the queue, and the bytes sent."""
         self.near.fill(self.waiting)
         count = len(self.near.going)
         found = []
@@ -136,7 +136,7 @@ class Goes(Case):
         return found, count
 
     def test_says_so(self):
-        """An end says once that it can unpack LZMA, where it can, and packs for one that has said so."""
+        """An end that can unpack LZMA announces it once, and packs for an end that announced it."""
         self.assertFalse(self.far.packs)
         self.carried()
         self.assertTrue(self.far.packs)
@@ -150,7 +150,7 @@ class Goes(Case):
             self.assertEqual((list(self.near.received()), self.near.packs), ([], False))
 
     def test_packed(self):
-        """A large instruction goes packed to an end that can unpack it, in its place, and counts what it took."""
+        """A large instruction is packed for an end that can unpack it, in order, and its size is counted."""
         large, small = instruction(1, bytes(range(256)) * 800), instruction(1, b"small")
         self.add(7, large)
         self.add(9, small)
@@ -165,7 +165,7 @@ class Goes(Case):
         self.assertLess(self.near.sent, sum(map(len, large)) // 10)
 
     def test_packed_larger_than_a_frame(self):
-        """What takes several frames comes whole."""
+        """Data larger than a frame arrives whole."""
         large = instruction(1, random.Random(1).randbytes(40_000))
         self.add(7, large)
         self.near.packs = True
@@ -173,7 +173,7 @@ class Goes(Case):
         self.assertEqual((self.near.sent, self.far.packed), (self.far.had, b""))
 
     def test_waits_for_the_rest(self):
-        """A large instruction that comes in parts is packed once it is whole; what doesn't come in 0.1 s isn't waited for."""
+        """A large instruction that arrives in parts is packed once complete; after 0.1 s it no longer waits for the rest."""
         large = instruction(1, bytes(range(256)) * 800)
         self.near.packs = True
         self.carried()
@@ -192,7 +192,7 @@ class Goes(Case):
         self.assertEqual(self.carried()[0], [(7, text) for text in instruction(4, b"newer")])
 
     def test_unpacked(self):
-        """To an end that hasn't said so it goes as ever, as does what isn't whole yet."""
+        """For an end without the announcement it is sent unpacked, like an incomplete one."""
         large = instruction(1, bytes(9000))
         self.add(7, large[:-1])
         self.assertEqual(self.carried()[0], [(7, text) for text in large[:-1]])
@@ -202,7 +202,7 @@ class Goes(Case):
         self.assertEqual(self.near.sent, sum(map(len, large)))
 
     def test_repeats(self):
-        """What says word for word what is on its way to that peer is dropped; once that has come it goes again."""
+        """A word-for-word repeat of data in flight to that peer is dropped; after its arrival it is sent again."""
         for text in (b"small", bytes(9000)):
             self.near.packs = len(text) > 100
             self.add(1, instruction(1, text))
@@ -217,7 +217,7 @@ class Goes(Case):
             self.assertEqual(len(self.carried()[0]), len(first))
 
     def test_resumes(self):
-        """Behind a time in which nothing went it says at once that it is there, and isn't taken for silent."""
+        """After a pause it sends a heartbeat at once, and doesn't count as silent."""
         self.carried()
         self.now += 600
         self.assertTrue(self.near.is_silent(7))
@@ -235,12 +235,14 @@ class Whole(unittest.TestCase):
         self.waiting = Waiting()
 
     def add(self, peer, texts):
-        """Has datagrams wait."""
+        """Queue datagrams."""
         for text in texts:
             self.waiting.add(peer, text)
 
     def test_take_whole(self):
-        """The oldest whole one of each peer, where it may be taken; one that isn't whole waits until it is, or a newer one comes."""
+        """It returns the oldest complete one of each peer, if permitted; an incomplete one waits until it is complete, or a newer one
+        comes.
+        """
         self.assertEqual(self.waiting.take_whole(lambda peer, size: True), (0, []))
         part, small, other = instruction(1, bytes(5000)), instruction(1, b"small"), instruction(1, b"other")
         self.add(1, part[:-1])
@@ -254,7 +256,7 @@ class Whole(unittest.TestCase):
         self.assertEqual((self.waiting.size, list(self.waiting.datagrams)), (0, []))
 
     def test_rest(self):
-        """Of one that has begun to go the rest is taken once nothing more of it will come."""
+        """The rest of a partly sent one is taken once nothing more of it will come."""
         large, newer = instruction(1, bytes(5000)), instruction(2, b"newer")
         self.add(1, large[:3])
         self.assertEqual(self.waiting.take(), (1, large[0]))
@@ -264,7 +266,7 @@ class Whole(unittest.TestCase):
         self.assertEqual(self.waiting.take_whole(lambda peer, size: True), (1, newer))
 
     def test_first_whole(self):
-        """The oldest datagram's instruction, where it is whole from its beginning."""
+        """It returns the oldest datagram's instruction, if it is complete from its beginning."""
         self.assertEqual(self.waiting.first_whole(), (0, []))
         large, small = instruction(1, bytes(5000)), instruction(1, b"small")
         self.add(1, large)

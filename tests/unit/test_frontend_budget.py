@@ -1,4 +1,5 @@
-"""What a key and its echo, and a painting, cost a front end, counted and not timed: more than that isn't seen before it is felt."""
+"""The cost of a key and its echo, and of a painting, in a front end, counted and not timed. Regressions show here before a user feels them.
+"""
 import os
 import select
 from unittest import mock
@@ -10,28 +11,28 @@ from roam_live.input.keys import Key
 from roam_live.protocol.window_lines import WINDOW
 from test_app import Fronts
 
-# So many events are counted, after so many that aren't.
+# The number of counted events, and of uncounted ones before them.
 EVENTS, BEFORE = 10, 3
 
-# So many seconds after an echo what it has brought about is over.
+# Seconds after an echo in which all its effects end.
 SETTLES = 0.05
 
-# Most calls of Python, bytecodes and system calls of a key with its echo, and of a painting of 200 bytes, with what comes of them in
-# SETTLES seconds. Python 3.11 takes 139, 2,995 and 6, and 55, 1,295 and 3; other versions have other bytecodes.
+# The most Python calls, bytecodes and system calls of a key with its echo, and of a painting of 200 bytes, with their effects in SETTLES
+# seconds. Python 3.11 takes 139, 2,995 and 6, and 55, 1,295 and 3; other versions have other bytecodes.
 MOST_KEY = 150, 3000, 7
 MOST_PAINTING = 65, 1450, 4
 
-# So many windows are listed in the last row beside the one that is shown.
+# The number of windows in the last row besides the current one.
 MANY = 12
 
 
 class CountedKeys(list):
-    """Keys, and how many of them were copied."""
+    """Keys, and the count of copied ones."""
 
     copied = 0
 
     def __getitem__(self, place):
-        """One, or some, which are counted."""
+        """Return one, or some, and count them."""
         found = super().__getitem__(place)
         self.copied += len(found) if isinstance(place, slice) else 0
         return found
@@ -41,15 +42,15 @@ class Budget(Fronts):
     """A key that is typed, taken by the client, and shown; and a painting."""
 
     def settle(self):
-        """Lets what is due soon be done: without that no turn is taken."""
+        """Run all timers due soon, without which no turn is taken."""
         self.now += SETTLES
         if any(moment <= self.now for moment, _ in self.front.loop.due.values()):
             self.front.turn()
 
     def key(self, client):
-        """Types a key, and shows it."""
+        """Type a key, and show it."""
         os.write(self.master, b"a")
-        # The system hands over what was written a moment later.
+        # The system delivers written data a moment later.
         select.select([self.slave], [], [], 5)
         self.front.turn()
         typed = read_now(client)
@@ -60,7 +61,7 @@ class Budget(Fronts):
         return typed, self.shown()
 
     def painting(self, client):
-        """Has 200 bytes be painted."""
+        """Paint 200 bytes."""
         client.send(record("paint", data=b"\x1b[5;1H" + b"x" * 190 + b"\x1b[0m"))
         self.front.turn()
         self.settle()
@@ -68,7 +69,7 @@ class Budget(Fronts):
         return self.shown()
 
     def demand(self, event, client, most):
-        """Sees that an event costs no more than so much."""
+        """Check that an event is within its limit."""
         for _ in range(BEFORE):
             event(client)
         with TurnCounter() as counter:
@@ -80,14 +81,14 @@ class Budget(Fronts):
         return counts
 
     def both(self, client):
-        """What a key and a painting cost."""
+        """Return the cost of a key and of a painting."""
         return self.demand(self.key, client, MOST_KEY), self.demand(self.painting, client, MOST_PAINTING)
 
     def test_costs(self):
-        """Both cost no more than they may, and the same beside many windows; the terminal's size isn't asked for."""
+        """Both are within their limits, and the same beside many windows; the terminal's size isn't queried."""
         client = self.connect()
         self.paints()
-        # A pty host is there, as it is in any session.
+        # There is a pty host, as in any session.
         host = self.listening(self.place.folder / "host")
         self.now += 1.0
         self.turn()
@@ -106,7 +107,7 @@ class Budget(Fronts):
         sizes.assert_not_called()
 
     def test_many_keys(self):
-        """Of many keys that come at once none is copied for the ones before it."""
+        """Of many keys that arrive at once none is copied for the earlier ones."""
         self.connect()
         self.paints()
         keys = CountedKeys([Key("x", "x")] * 1000)

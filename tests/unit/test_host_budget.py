@@ -1,5 +1,7 @@
-"""The cost of a key with its echo, and of output, at the pty host, in Python calls, bytecodes and system calls: the same with many windows as
-with one, on any machine and load."""
+"""The cost of a key with its echo, and of output, at the pty host, in Python calls, bytecodes and system calls.
+
+It is the same with many windows as with one, on any machine and load.
+"""
 import os
 
 from aids import read_now
@@ -9,12 +11,12 @@ from roam_live.host import pane, window
 from roam_live.session import tmp_keepalive
 from test_pty_host import Host
 
-# Most Python calls, bytecodes and system calls of a key and its echo, and of 200 bytes of output, with what comes of them in SETTLES
+# The most Python calls, bytecodes and system calls of a key and its echo, and of 200 bytes of output, with their effects in SETTLES
 # seconds. Python 3.11 takes 85, 1,940 and 8, and 36, 820 and 4; other versions have other bytecodes.
 MOST_KEY = 95, 2000, 9
 MOST_OUTPUT = 45, 950, 5
 
-# So many seconds later what an event has brought about is over.
+# Seconds until all effects of an event are over.
 SETTLES = 0.05
 
 EVENTS, BEFORE = 20, 5
@@ -24,7 +26,7 @@ class Key(Host):
     """A key that is typed into a pane, and its echo."""
 
     def window(self, number):
-        """One more window with three panes, in which nothing happens."""
+        """Add an idle window with three panes."""
         folder = self.folder / f"w{number}"
         folder.mkdir()
         listeners = [self.listening(folder / name) for name in ("panes", "p1", "p2", "p3")]
@@ -38,13 +40,13 @@ class Key(Host):
         self.ends.append([server, *(self.taken(listener) for listener in listeners[1:])])
 
     def settle(self):
-        """Lets what is due soon be done: without that no turn is taken."""
+        """Run all timers due soon, without which no turn is taken."""
         self.now += SETTLES
         if any(moment <= self.now for moment, _ in self.host.loop.due.values()):
             self.host.common.turn()
 
     def key(self):
-        """A key goes to the program, and its echo comes."""
+        """Send a key to the program, and read its echo."""
         self.panes[0].send(b"a")
         self.host.common.turn()
         self.assertEqual(read_now(self.made[0]), b"a")
@@ -54,14 +56,14 @@ class Key(Host):
         self.settle()
 
     def output(self):
-        """The program writes 200 bytes."""
+        """Write 200 bytes as the program."""
         self.made[0].send(b"x" * 200)
         self.host.common.turn()
         self.assertEqual(read_now(self.panes[0]), b"x" * 200)
         self.settle()
 
     def demand(self, event, most):
-        """Sees that an event costs no more than so much."""
+        """Check that an event is within its limit."""
         for _ in range(BEFORE):
             event()
         with TurnCounter() as counter:
@@ -73,11 +75,11 @@ class Key(Host):
         return counts
 
     def both(self):
-        """What a key and output cost."""
+        """Return the cost of a key and of output."""
         return self.demand(self.key, MOST_KEY), self.demand(self.output, MOST_OUTPUT)
 
     def test_budget(self):
-        """They cost no more than they may, and with twelve windows beside it the same."""
+        """They are within their limits, and the same with twelve windows beside it."""
         self.panes, self.ends = self.begin(), []
         counts = self.both()
         for number in range(2, 14):
@@ -86,13 +88,13 @@ class Key(Host):
         self.turn(5)
         found = self.host.loop.found
         for before, beside in zip(counts, self.both()):
-            # What is looked at each second may be due among so many events.
+            # A check of every second may be due among so many events.
             self.assertTrue(all(more <= 1.05 * one for more, one in zip(beside, before)), (beside, before))
-        # Each turn had one end at which something was.
+        # Each turn had one ready end.
         self.assertEqual(self.host.loop.found - found, 3 * (EVENTS + BEFORE))
 
     def test_idle(self):
-        """Where nothing happens no turn is due sooner than the look at the folders, with many windows as with one."""
+        """In an idle session no timer is due before the check of the folders, with many windows as with one."""
         self.panes, self.ends = self.begin(), []
         for number in range(2, 14):
             self.window(number)

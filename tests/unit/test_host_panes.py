@@ -1,4 +1,4 @@
-"""The pty host of a session: what it starts where, what waits for a program that doesn't read, and who is told what."""
+"""The pty host of a session: its processes and their folders, the queue of a program that doesn't read, and its reports."""
 import contextlib
 import io
 import os
@@ -22,17 +22,17 @@ from roam_live.session.foreground import group_in_front, working_folder
 
 
 class Surroundings(unittest.TestCase):
-    """What a pane's command has of the environment."""
+    """The environment of a pane's command."""
 
     def test_not_asked(self):
-        """The pane's name, and nothing that tells of another terminal or asks the programs of a session why they ended."""
+        """It has the pane's name, and no variable of another terminal. Nothing asks the programs of a session to print why they ended."""
         with unittest.mock.patch.dict(os.environ, {"ROAM_WHY": "1", "TMUX": "another", "KEPT": "one"}):
             found = host_pane.surroundings(host_pane.Options(folder="folder"), 3, PaneEnvironment())
         self.assertEqual((found.get("ROAM_WHY"), found.get("TMUX"), found["KEPT"], found["ROAM_PANE"]), (None, None, "one", "folder:3"))
 
 
 class Working(unittest.TestCase):
-    """Where a new pane's command starts."""
+    """The folder of a new pane's command."""
 
     def setUp(self):
         made = tempfile.TemporaryDirectory()
@@ -40,7 +40,7 @@ class Working(unittest.TestCase):
         self.folder = pathlib.Path(os.path.realpath(made.name))
 
     def process(self, folder):
-        """A process that is in a folder."""
+        """Return a process in a folder."""
         folder.mkdir(exist_ok=True)
         process = subprocess.Popen(["sleep", "60"], cwd=folder)
         self.addCleanup(process.wait)
@@ -48,7 +48,7 @@ class Working(unittest.TestCase):
         return process.pid
 
     def test_first(self):
-        """The folder of the first process of which it can be read and is there."""
+        """It is the first process's folder that is readable and exists."""
         one, other = self.process(self.folder / "one"), self.process(self.folder / "o\u00e9\n\udcff")
         self.assertEqual(working_folder([None, one, other]), str(self.folder / "one"))
         (self.folder / "one").rmdir()
@@ -57,7 +57,7 @@ class Working(unittest.TestCase):
         self.assertEqual(working_folder([]), "")
 
     def test_in_front(self):
-        """The process group that has a pseudo-terminal is known at its other end."""
+        """The foreground process group of a pseudo-terminal is known at its master."""
         process, master = pty.fork()
         if process == 0:
             os.execvp("sleep", ["sleep", "60"])
@@ -70,7 +70,7 @@ class Working(unittest.TestCase):
         self.assertIsNone(group_in_front(1 << 20))
 
     def test_entered(self):
-        """Who enters a folder is told of it; one that can't be entered leaves all as it was."""
+        """A folder that is entered is in the environment; a failed one changes nothing."""
         here = os.getcwd()
         self.addCleanup(os.chdir, here)
         for folder in ("", str(self.folder / "none")):
@@ -81,10 +81,10 @@ class Working(unittest.TestCase):
 
 
 class Typed(unittest.TestCase):
-    """What is typed and a pane's programs don't read."""
+    """Input that a pane's programs do not read."""
 
     def test_dropped(self):
-        """65,536 bytes wait; what is above is dropped, which is told once until all was read."""
+        """65,536 bytes wait; more is dropped, which is reported once until all is read."""
         typed = TypedQueue(PendingPastes(SessionState(), StillLoop(), lambda name, word: None), lambda: False)
         state = PaneState(number=4, generation=1, size=(23, 80))
         pane = host_pane.PaneCommand(host_pane.Options(folder="/no"), StillLoop(), state, False, typed)
@@ -103,7 +103,7 @@ class Typed(unittest.TestCase):
 
 
 class Server:
-    """What a server of panes does at its sockets, by hand."""
+    """A server's sockets for panes, played by hand."""
 
     def __init__(self, folder):
         self.folder = folder
@@ -111,7 +111,7 @@ class Server:
         self.subscriber = None
 
     def listens(self, name):
-        """One who listens."""
+        """Return a listening socket."""
         one = socket.socket(socket.AF_UNIX, socket.SOCK_STREAM)
         one.bind(str(self.folder / name))
         one.listen()
@@ -119,19 +119,19 @@ class Server:
         return one
 
     def taken(self, name):
-        """Who came to a socket."""
+        """Return the connection at a socket."""
         one = self.listeners[name].accept()[0]
         one.settimeout(10)
         return one
 
     def close(self):
-        """Ends all."""
+        """End all."""
         for one in self.listeners.values():
             one.close()
 
 
 class Kept(unittest.TestCase):
-    """The tool round a server that is played by hand."""
+    """The tool with a server that is played by hand."""
 
     def setUp(self):
         made = tempfile.TemporaryDirectory()
@@ -142,7 +142,7 @@ class Kept(unittest.TestCase):
         self.held = []
 
     def run_tool(self, *words):
-        """The tool, with a command in each pane. It keeps no rows, which takes the built program."""
+        """Run the tool, with a command in each pane. It stores no rows, which would need the built program."""
         words, known = [sys.executable, "-B", str(TOOLS / "pane_shells"), *words], {**os.environ, "ROAM_HISTORY": "0"}
         with open(self.folder / "said", "wb") as said:
             process = subprocess.Popen(words, stdout=said, stderr=said, env=known)
@@ -151,18 +151,18 @@ class Kept(unittest.TestCase):
         return process
 
     def said(self):
-        """What the tool said."""
+        """Return the messages of the tool."""
         return (self.folder / "said").read_text(encoding="utf-8")
 
     def told(self, lines):
-        """Who follows, told of panes."""
+        """Send lines about panes to the subscriber."""
         subscriber = self.server.taken("panes")
         subscriber.send(lines)
         self.held.append(subscriber)
         return subscriber
 
     def shows(self, pane, text):
-        """Whether a pane comes to have a text."""
+        """Return True if a pane gets a text."""
         found = b""
         with contextlib.suppress(OSError):
             while text not in found:
@@ -173,7 +173,7 @@ class Kept(unittest.TestCase):
         return text in found
 
     def test_let_go(self):
-        """A host that the server lets go keeps its shells, follows again, and knows then which panes are there still."""
+        """A host that the server disconnects keeps its shells, subscribes again, and then knows the remaining panes."""
         server = subprocess.Popen(["sleep", "60"])
         self.addCleanup(server.wait)
         self.addCleanup(server.kill)
@@ -200,7 +200,7 @@ class Kept(unittest.TestCase):
         self.assertEqual(process.wait(10), 0)
 
     def test_last(self):
-        """The end of the last shell is noted before the server is ended."""
+        """The end of the last shell is recorded before the server is ended."""
         server = subprocess.Popen(["sleep", "60"])
         self.addCleanup(server.wait)
         self.addCleanup(server.kill)
@@ -215,7 +215,7 @@ class Kept(unittest.TestCase):
         pane.close()
 
     def test_folder(self):
-        """A new pane's command starts where the program in front in the pane in focus is; the first one's where the server is."""
+        """A new pane's command starts in the folder of the focused pane's foreground program; the first one's in the server's."""
         (self.folder / "there").mkdir()
         server = subprocess.Popen(["sleep", "60"], cwd=self.folder / "there")
         self.addCleanup(server.wait)
@@ -230,12 +230,12 @@ class Kept(unittest.TestCase):
         self.assertTrue(self.shows(self.server.taken("p2"), b"/usr=/usr."))
 
     def held_process(self):
-        """The tool's process."""
+        """Return the tool's process."""
         own = pathlib.Path(f"/proc/{os.getpid()}/task/{os.getpid()}/children").read_text(encoding="utf-8").split()
         return next(one for one in own if b"pane_shells" in pathlib.Path(f"/proc/{one}/cmdline").read_bytes())
 
     def children_of(self, process):
-        """The processes that a process started."""
+        """Return the children of a process."""
         path = pathlib.Path(f"/proc/{process}/task/{process}/children")
         comes(lambda: path.read_text(encoding="utf-8").split())
         return path.read_text(encoding="utf-8").split()

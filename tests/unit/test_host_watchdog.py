@@ -1,4 +1,4 @@
-"""What sees the end of the pty host: it is spawned anew, after pauses that grow where it ends at once."""
+"""The watchdog of the pty host: it restarts the host, after growing pauses if that ends at once."""
 import os
 import unittest
 from unittest import mock
@@ -10,7 +10,7 @@ from roam_live.session.host_watchdog import LOOKS, PAUSES, STOPPED, HostWatchdog
 
 
 class AnySession:
-    """A session whose shells are revived, or can't be."""
+    """A session whose pty host can be restarted, or can't."""
 
     name = "main"
 
@@ -20,11 +20,11 @@ class AnySession:
         self.is_revived = True
 
     def process(self, role):
-        """The process of a role."""
+        """Return the process of a role."""
         return {"host": 17}[role]
 
     def revive_host(self):
-        """Starts them anew."""
+        """Restart it."""
         if self.fault:
             raise self.fault
         self.revived += self.is_revived
@@ -32,7 +32,7 @@ class AnySession:
 
 
 class Watches(unittest.TestCase):
-    """A watch over a process that is a pipe here, and a clock that is set by hand."""
+    """A watchdog of a process that is a pipe here, with a manual clock."""
 
     def setUp(self):
         self.now, self.writer = 100.0, None
@@ -46,32 +46,32 @@ class Watches(unittest.TestCase):
         self.addCleanup(lambda: self.watch.file and os.close(self.watch.file))
 
     def opened(self, process):
-        """A process that runs."""
+        """Return a running process."""
         reader, writer = os.pipe()
         os.close(writer)
         return reader
 
     def end(self):
-        """Has the process end; what is said."""
+        """End the process, and return the messages."""
         self.loop.turn()
         return self.told()
 
     def told(self):
-        """What was said since."""
+        """Return the new messages."""
         said = "".join(self.said)
         self.said.clear()
         return said
 
     def pass_time(self):
-        """Waits until something is due, and does it; how long, and what is said."""
+        """Wait until a timer is due, run it, and return the wait and the messages."""
         wait = self.loop.wait_time()
         self.now += wait
         self.loop.do_due()
         return round(wait, 3), self.told()
 
     def test_stopped(self):
-        """Whoever types is told of one that is stopped, within five seconds and for as long as it is; without a key nothing is looked
-        at."""
+        """A user who types sees that the host is stopped, within five seconds and for as long as it is; without a key nothing is checked.
+        """
         stopped = self.patch_of_stop(True)
         self.now += 100
         self.assertEqual((self.loop.wait_time(), self.told()), (None, ""))
@@ -87,13 +87,13 @@ class Watches(unittest.TestCase):
         self.assertIsNone(self.loop.wait_time())
 
     def patch_of_stop(self, is_stopped):
-        """Has the process be stopped or not."""
+        """Simulate a stopped or running process."""
         patched = mock.patch("roam_live.session.host_watchdog.is_stopped", return_value=is_stopped)
         self.addCleanup(patched.stop)
         return patched.start()
 
     def test_once(self):
-        """The end of one that ran for long is made good soon, and told once it is."""
+        """A host that ran for long is restarted soon after its end, and reported once it is back."""
         self.now += SOUND + 1
         self.assertEqual(self.end(), "")
         self.assertEqual(self.end(), "")
@@ -103,7 +103,7 @@ class Watches(unittest.TestCase):
         self.assertIsNone(self.loop.wait_time())
 
     def test_again(self):
-        """One that ends at once each time is spawned anew after pauses that grow, and that is told."""
+        """A host that always ends at once is restarted after growing pauses, and that is reported."""
         self.now += SOUND + 1
         waits, said = [], []
         for _ in range(8):
@@ -118,7 +118,7 @@ class Watches(unittest.TestCase):
         self.assertEqual(self.pass_time()[0], PAUSES[0])
 
     def test_refused(self):
-        """What can't be spawned is told with the reason, and tried again after pauses that grow."""
+        """A failure to start is reported with the reason, and retried after growing pauses."""
         self.place.fault = Fault("session main: no room")
         self.now += SOUND + 1
         self.end()
@@ -129,7 +129,7 @@ class Watches(unittest.TestCase):
         self.assertTrue(self.pass_time()[1].startswith("the pty host was restarted"))
 
     def test_by_another(self):
-        """Where another starts them, or the session ends, nothing is told."""
+        """If another process starts it, or the session ends, nothing is reported."""
         self.place.is_revived = False
         self.end()
         self.assertEqual(self.pass_time()[1], "")

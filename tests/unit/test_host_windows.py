@@ -1,4 +1,4 @@
-"""Windows at the host: how they are opened, named, told, shut and taken over, with processes and servers that are played."""
+"""Windows at the host: opening, names, reports, closing and adoption, with simulated processes and servers."""
 import fcntl
 import json
 import os
@@ -30,12 +30,12 @@ from roam_live.session.roles import CLIENT, SERVER
 
 
 def read_now(one):
-    """What one was told now, in lines without their numbers, or what was written elsewhere."""
+    """Return a peer's new lines without their numbers, or other new output."""
     return unled(aids.read_now(one)) if isinstance(one, Asker) else aids.read_now(one)
 
 
 class Played(Case):
-    """A host of windows whose servers, starts and commands are played by sockets and pipes."""
+    """A host of windows with servers, clients and commands that sockets and pipes simulate."""
 
     def setUp(self):
         self.stop_clock()
@@ -56,7 +56,7 @@ class Played(Case):
         self.addCleanup(self.leave)
 
     def leave(self):
-        """Closes what a host has, whose state has its windows and can be written and read back whatever was done."""
+        """Close a host, and check that its state has its windows and survives JSON."""
         self.assertEqual(state_in(written(self.common.state)), self.common.state)
         self.assertEqual(list(self.common.state.windows), list(self.windows.windows))
         for window in self.windows.windows.values():
@@ -67,13 +67,13 @@ class Played(Case):
             one.free()
 
     def forked(self, size):
-        """A command's process and terminal: a socket here."""
+        """Return a command's process and terminal: a socket here."""
         one, other = self.pair()
         self.made.append((size, other))
         return 70 + len(self.made), os.dup(one.fileno())
 
     def spawn(self, processes, role):
-        """A process of a window that is played."""
+        """Return a process of a simulated window."""
         self.spawned.append((processes.number, role))
         number = 1000 * processes.number + (role == CLIENT)
         processes.noted[role] = number, 1
@@ -81,7 +81,7 @@ class Played(Case):
         return number
 
     def kill(self, process, number):
-        """A signal, by which one that is played ends, or doesn't."""
+        """Send a signal that ends a simulated process, or doesn't."""
         self.killed.append((process, number))
         if process < 1000 or process in self.stubborn and number != signal.SIGKILL:
             return
@@ -90,11 +90,11 @@ class Played(Case):
     stubborn = ()
 
     def path(self, number, name):
-        """What lies in a window's folder."""
+        """Return the path of a file in a window's folder."""
         return self.folder / f"w/{number}/{name}"
 
     def comes_up(self, number):
-        """Has a window's server, and its client, be there."""
+        """Simulate a window's server and client."""
         for name in ("panes", "p1"):
             self.servers[number, name] = self.listening(self.path(number, name))
         self.path(number, "session").touch()
@@ -106,13 +106,13 @@ class Played(Case):
         self.turns(3)
 
     def turns(self, count=1):
-        """So many turns, each a moment after the one before."""
+        """Take so many turns, each a moment after the one before."""
         for _ in range(count):
             self.now += 0.01
             self.common.turn()
 
     def opened(self, size=None):
-        """Has a window opened, and tells what was told of it."""
+        """Open a window, and return the report."""
         told = []
         self.windows.open(size, 0, lambda *words: told.append(words))
         number = max(number for number, _ in self.spawned)
@@ -120,24 +120,24 @@ class Played(Case):
         return told
 
     def asker(self, number, text=b"windows\n"):
-        """One who is connected at a window, and says this."""
+        """Return a peer at a window that sends this text."""
         one = Asker(self, self.folder, number)
         one.send(text)
         self.turns(3)
         return one
 
     def said_by(self, one, text):
-        """What is told to who says a line."""
+        """Return the answers to a line."""
         one.send(text)
         self.turns(3)
         return read_now(one)
 
 
 class Fronts(Played):
-    """What runs in windows, and who is to leave them."""
+    """Programs in windows, and requests to detach."""
 
     def test_runs(self):
-        """What runs in front in the pane in focus is told to who asked for windows, and again where it is another."""
+        """Subscribers of windows get the foreground program of the focused pane, and its changes."""
         self.opened()
         self.patch("roam_live.host.foreground_watch.group_in_front", lambda terminal: 5)
         name = self.patch("roam_live.host.foreground_watch.name_of", return_value="vim")
@@ -153,7 +153,7 @@ class Fronts(Played):
         self.assertIn(b"runs 1 sh\n", read_now(one))
 
     def test_leave_others(self):
-        """All terminals are told to leave, of each window, but the one that says it; one who watches has nobody leave."""
+        """All terminals of each window but the requesting one are asked to detach; a read-only terminal can't request that."""
         self.opened()
         self.opened((24, 80))
         there = ((1, "a", "read-write"), (2, "a", "read-write"), (2, "b", "read-write"), (1, "c", "read-only"))
@@ -166,16 +166,16 @@ class Fronts(Played):
 
 
 class Opened(Played):
-    """How windows are opened."""
+    """Opening windows."""
 
     def test_first(self):
-        """The first has no size and no client: who launches the session sees to that."""
+        """The first window has no size and no client: the launcher of the session provides them."""
         self.assertEqual(self.opened(), [(1, "")])
         self.assertEqual((self.spawned, self.windows.named(), self.made[0][0]), ([(1, SERVER)], {1: ""}, (23, 80)))
         self.assertEqual(os.stat(self.path(1, "")).st_mode & 0o777, 0o700)
 
     def test_sized(self):
-        """Another has its client, to which its size is typed once, and its first command has that size from the beginning."""
+        """Another window has its client, which types its size once, and its first command starts with that size."""
         self.opened()
         self.assertEqual(self.opened((40, 120)), [(2, "")])
         self.assertEqual((self.spawned[1:], self.made[1][0]), ([(2, SERVER), (2, CLIENT)], (39, 120)))
@@ -192,14 +192,14 @@ class Opened(Played):
         self.assertEqual(sizes.call_args[0][1:], (30, 100))
 
     def test_small(self):
-        """No window is opened that is smaller than a session may be."""
+        """No window is opened below the smallest size of a session."""
         self.opened()
         for place, (size, least) in enumerate((((1, 120), (4, 120)), ((40, 1), (40, 8))), 2):
             self.opened(size)
             self.assertEqual(self.taken(self.servers[place, "terminals"]).recv(100), "size {} {}\n".format(*least).encode())
 
     def test_seen_size(self):
-        """The host knows a window's size by its panes, while it follows them."""
+        """The host knows a window's size from its panes, while it follows them."""
         self.opened()
         zoom = self.windows.windows[1].host.channel.zoom
         self.assertEqual(zoom.size, (24, 80))
@@ -213,7 +213,7 @@ class Opened(Played):
         self.assertIsNone(zoom.size)
 
     def test_untold_size(self):
-        """A size that isn't had goes by what is told."""
+        """A size that is never reached gives way to the reported one."""
         self.opened()
         self.opened((40, 120))
         sizes = self.patch_of(host_pane.tty, "set_size")
@@ -222,7 +222,7 @@ class Opened(Played):
         self.assertEqual(sizes.call_args[0][1:], (23, 80))
 
     def test_smallest(self):
-        """A window has the smallest number that is free, and there are 99 at most."""
+        """A window has the smallest free number, and there are 99 at most."""
         for _ in range(3):
             self.opened()
         self.windows.shut(2)
@@ -239,19 +239,19 @@ class Opened(Played):
         self.assertEqual(told[1:], [(0, OVER)])
 
     def test_fails(self):
-        """What can't be spawned, ends, doesn't come up or can't be reached is told, and leaves nothing."""
+        """A process that fails to start, ends, is late or is unreachable is reported, and leaves nothing."""
         self.opened()
 
         def never(number):
-            """Nothing comes up in time."""
+            """Do nothing: no process is ready in time."""
             self.now += OPENS
 
         def ends(number):
-            """The server ends."""
+            """End the server."""
             self.alive &= {1000}
 
         def client_ends(number):
-            """The client ends, once the server is there."""
+            """End the client, once the server is there."""
             for name in ("panes", "p1"):
                 self.listening(self.path(number, name))
             self.path(number, "session").touch()
@@ -281,21 +281,21 @@ class Opened(Played):
         self.assertEqual(told, [(0, "Too many open files")])
 
     def opened_by(self, told):
-        """Has one opened, of a size."""
+        """Open a window of a size."""
         self.windows.open((24, 80), 0, lambda *words: told.append(words))
 
     def test_no_first(self):
-        """A session whose first window can't be opened is none."""
+        """A session whose first window fails to open is none."""
         with mock.patch.object(WindowProcesses, "make_folder", side_effect=OSError(28, "No space left on device")):
             with self.assertRaisesRegex(Fault, "^cannot open a window: No space left on device$"):
                 self.windows.run()
 
 
 class Ready(Played):
-    """The server that stands ready for the next window."""
+    """The spare server for the next window."""
 
     def spare(self):
-        """Has one stand ready, since somebody asked for windows."""
+        """Create a spare server by a subscription to windows."""
         self.opened()
         one = self.asker(1)
         self.now += windows.READY
@@ -303,7 +303,9 @@ class Ready(Played):
         return one
 
     def test_taken(self):
-        """It is spawned once somebody asks for windows, is told nowhere, and has no client; the next window has it, and another follows."""
+        """It is spawned after the first subscription to windows, is reported to nobody, and has no client; the next window takes it, and
+        another follows.
+        """
         self.opened()
         self.now += windows.READY
         self.turns(2)
@@ -322,7 +324,7 @@ class Ready(Played):
         self.assertEqual(self.spawned[3:], [(3, SERVER)])
 
     def test_broken(self):
-        """One that has ended, or whose files a cleaner had, isn't used."""
+        """A spare that has ended, or whose files a cleaner removed, isn't used."""
         self.spare()
         told = []
         self.now += OPENS
@@ -339,13 +341,13 @@ class Ready(Played):
         self.assertEqual(self.spawned[-2:], [(3, SERVER), (3, SERVER)])
 
     def test_smaller(self):
-        """A number that is free below it goes first, and has none."""
+        """A smaller free number goes first, and has no spare."""
         self.spare()
         self.assertIsNone(self.windows.taken_spare(1))
         self.assertEqual((self.windows.spare.number, self.windows.free_number()), (2, 2))
 
     def test_ended(self):
-        """It ends with the session, and the next host takes none over."""
+        """It ends with the session, and the next host adopts none."""
         self.spare()
         self.windows.end_spare()
         self.turns(3)
@@ -361,10 +363,10 @@ class Ready(Played):
 
 
 class Told(Played):
-    """What is said and told at the sockets."""
+    """Input and output at the sockets."""
 
     def test_lines(self):
-        """Windows are told in order, and each change; who only watches changes none."""
+        """Windows are reported in order, with each change; a read-only peer can't change any."""
         self.opened()
         one = self.asker(1)
         self.assertEqual(read_now(one), b"window 1 -\nwindows 1\n")
@@ -384,7 +386,7 @@ class Told(Played):
         self.assertEqual(self.said_by(watcher, b"open 24 80\n"), b"opened none a read-only terminal opens none\n")
 
     def test_opened(self):
-        """Who asks is answered once a window is there, behind what is told of it, and may ask for four at once."""
+        """The peer is answered once a window is open, after the report of it, and may request four at once."""
         self.opened()
         one = self.asker(1, b"windows\nopen 30 90\n")
         read_now(one)
@@ -397,8 +399,9 @@ class Told(Played):
         self.assertIn(3, self.windows.named())
 
     def test_begins(self):
-        """A window begins with what was handed over for it, by its name: a command in its first pane alone, a folder and a name; of a name
-        by which nothing was it isn't opened."""
+        """A window gets the uploaded start options of its name: a command in its first pane alone, a folder and a name. With an unknown
+        name it isn't opened.
+        """
         self.opened()
         name, data = "0123456789abcdef", Begins(["htop", "-d"], "/", "logs").packed()
         one = self.asker(1, b"windows\n")
@@ -410,7 +413,7 @@ class Told(Played):
         panes = self.windows.windows[2].host.panes
         self.assertEqual([(pane.state.command, pane.state.folder) for pane in panes.values()], [(["htop", "-d"], "/")])
         self.assertEqual(self.windows.windows[2].host.handed_to(Rect(1, 1, 9, 9)), None)
-        # It may be handed over by another, at another window.
+        # Another peer may upload it, at another window.
         self.asker(2, b"").end.send(f"2 run {'a' * 16} window {len(data)}\n".encode() + data)
         self.turns(3)
         one.send(f"open 30 90 {'a' * 16}\n".encode())
@@ -422,7 +425,8 @@ class Told(Played):
                          b"opened none its command is missing\n")
 
     def asks_again(self, size):
-        """What a front end is told that asks for a window of a size as its connection before was cut, and how many servers were spawned."""
+        """Return the answers to a front end that repeats its request for a window of a size after a cut, and the number of spawned servers.
+        """
         one = self.asker(1, b"windows\n")
         read_now(one)
         told = self.said_by(one, b"open %d %d\n" % size)
@@ -431,8 +435,9 @@ class Told(Played):
         return told, sum(role == SERVER for _, role in self.spawned)
 
     def test_asked_again(self):
-        """A front end whose connection is cut before it goes to a window that it asked for, told of it or not, asks again and is told of
-        the same, for five seconds; not one who asks for another size, or elsewhere."""
+        """A front end that lost its connection before it went to its window repeats the request and gets the same window, for five seconds.
+        Another size, or another window, gets its own.
+        """
         self.opened()
         self.patch_of(windows.Windows, "prepare")
         self.assertEqual([self.asks_again((30, 90)) for _ in range(3)], [(b"", 2)] * 3)
@@ -450,7 +455,7 @@ class Told(Played):
         self.assertEqual(self.asks_again((20, 90)), (b"", 6))
 
     def test_asked_once(self):
-        """A command that asks, and ends once it is told, has nobody told of its window; neither has one that can't be opened."""
+        """A command that requests a window and ends after the answer claims it for nobody; neither does a failed one."""
         self.opened()
         self.patch_of(windows.Windows, "prepare")
         self.assertEqual(self.said_by(self.asker(1, b""), b"open 30 90\n"), b"")
@@ -461,7 +466,7 @@ class Told(Played):
         self.assertEqual(self.asks_again((30, 90)), (b"", 4))
 
     def test_clients(self):
-        """Terminals are told of all windows, each with the window where it is; one is told to leave, or all others are."""
+        """Terminals of all windows are reported, each with its window; one, or all others, are asked to detach."""
         self.opened()
         self.opened((24, 80))
         self.patch_of(self.common.socket.attended, "clock", lambda: 1000.5)
@@ -472,7 +477,7 @@ class Told(Played):
         self.assertEqual((self.said_by(one, b"leave 2\n"), read_now(two)), (b"left 2\n", b"leave\n"))
         self.assertEqual(self.said_by(one, b"leave 9\n"), b"left none\n")
         self.assertEqual((self.said_by(one, b"leave others\n"), read_now(two)), (b"left 1\n", b"leave\n"))
-        # One that goes to another window stays since when it was there; one that comes later is there anew.
+        # A terminal that goes to another window keeps its arrival; one that comes later gets a new one.
         one.close()
         self.turns()
         self.patch_of(self.common.socket.attended, "clock", lambda: 1060.5)
@@ -485,7 +490,7 @@ class Told(Played):
         self.assertIn(b" 24 80 2 1060 read-write\n", self.said_by(later, b"clients\n"))
 
     def test_news(self):
-        """What is written where nobody is is told once a second at most; bells are as the server tells them."""
+        """Output without a terminal there is reported once a second at most; bells are reported as the server sends them."""
         self.opened()
         self.opened((24, 80))
         one = self.asker(1)
@@ -507,7 +512,7 @@ class Told(Played):
         self.assertEqual(read_now(one), b"")
 
     def test_common(self):
-        """Texts, buffers and what was brought are one for all windows; panes and rows are those of the window where they are asked for."""
+        """Texts, buffers and the environment are shared by all windows; panes and rows belong to the window of the request."""
         self.opened()
         self.opened((24, 80))
         one, two = self.asker(1, b""), self.asker(2, b"")
@@ -531,7 +536,7 @@ class Told(Played):
                          f"{self.folder}/w/2:3")
 
     def test_numbers(self):
-        """A line is about the window that it names; one about a window that isn't there is bad, and so is one without a number."""
+        """A line is about the window that it names; one about a missing window is bad, and so is one without a number."""
         self.opened()
         self.opened((24, 80))
         one = self.asker(2, b"")
@@ -543,7 +548,7 @@ class Told(Played):
         self.assertEqual(self.common.socket.clients(), ["clients 0"])
 
     def test_moves(self):
-        """A terminal is at one window, that which it said last; those at each are told of it, with the number that they named."""
+        """A terminal is at the window that it reported last; those at each are informed, with the window's number."""
         self.opened()
         self.opened((24, 80))
         mover = self.asker(1, b"here a:/dev/pts/1 24 80 read-write\n")
@@ -558,7 +563,7 @@ class Told(Played):
                          (b"1 gone %d\n1 others 0\n" % number, b"2 there %d a:/dev/pts/1 24 80 read-write\n2 others 1\n" % number))
         self.assertTrue(aids.read_now(mover).endswith(b"2 others 0\n"))
         self.assertEqual(self.windows.state.last_window, 2)
-        # What is said of another window doesn't move it.
+        # A line about another window doesn't move it.
         mover.number = 1
         mover.send(b"zoom 24 80 48 160\n")
         self.turns(2)
@@ -569,7 +574,7 @@ class Told(Played):
                          (b"1 zoomed 0 24 80 48 160\n1 others 0\n", b"2 gone %d\n2 others 0\n" % number))
 
     def test_comes_before(self):
-        """Who is at a window before that is there is so once it is; who names none is at the one where somebody was last."""
+        """A terminal that comes before its window is there once that opens; without a number it goes to the one used last."""
         self.opened()
         early = self.asker(2, b"here a:/dev/pts/1 24 80 read-write\nwho\n")
         self.assertEqual(aids.read_now(early), f"0 host {self.common.socket.name}\n".encode())
@@ -582,7 +587,7 @@ class Told(Played):
         self.assertEqual(aids.read_now(nameless), b"0 say well\n")
 
     def test_joined(self):
-        """A window's note tells that it is one; that of a server that stands ready doesn't."""
+        """A window's note says that it is one; that of a spare server doesn't."""
         self.opened()
         self.asker(1)
         self.now += windows.READY
@@ -603,10 +608,10 @@ class Told(Played):
 
 
 class Ended(Played):
-    """How windows end."""
+    """Closing windows."""
 
     def test_shut(self):
-        """Its shells are hung up, its server ended, and nothing of it is left; the end is noted as one on purpose."""
+        """Its shells get a hangup, its server is ended, and nothing of it remains; the end is recorded as intended."""
         self.opened()
         self.opened((24, 80))
         self.assertTrue(self.windows.shut(2))
@@ -621,7 +626,7 @@ class Ended(Played):
         self.assertFalse(self.common.is_over)
 
     def test_by_force(self):
-        """What doesn't end is ended by force a second later."""
+        """A process that doesn't end is killed a second later."""
         self.opened()
         self.opened((24, 80))
         self.stubborn = {2000, 2001}
@@ -653,7 +658,7 @@ class Ended(Played):
         self.assertEqual((self.folder / "ended").read_text(encoding="ascii"), "2000 1\n1000 1\n")
 
     def test_server_gone(self):
-        """A server's end is its window's, and isn't noted as one on purpose."""
+        """A server's end is its window's, and isn't recorded as intended."""
         self.opened()
         self.opened((24, 80))
         one = self.asker(1)
@@ -667,7 +672,7 @@ class Ended(Played):
         self.assertIn("window 2: its server was killed, or has failed\n", self.said.getvalue())
 
     def test_all(self):
-        """Where the host is told to end all windows do, and no folder of one is left."""
+        """A request to end the host ends all windows, and removes their folders."""
         self.opened()
         self.opened((24, 80))
         self.common.is_over = True
@@ -683,10 +688,10 @@ class Ended(Played):
 
 
 class TakenOver(Played):
-    """What another host left."""
+    """The windows of an earlier host."""
 
     def test_taken_over(self):
-        """Windows whose servers run are gone on with, by their names, with new shells; what is left of others is removed."""
+        """Windows whose servers run are adopted, by name, with new shells; the rest of others is removed."""
         for number in (2, 5, 7):
             os.makedirs(self.path(number, ""), 0o700)
             processes = WindowProcesses(str(self.folder), WindowState(number=number))
@@ -712,7 +717,7 @@ class TakenOver(Played):
         self.assertEqual(len(self.made), 1)
 
     def test_unnoted(self):
-        """Where the note is lost who listens at its socket is known."""
+        """If the note is lost the listener at the socket identifies the process."""
         os.makedirs(self.path(3, ""), 0o700)
         self.path(3, "state.json").write_text("[", encoding="ascii")
         self.listening(self.path(3, "clients"))
@@ -721,15 +726,15 @@ class TakenOver(Played):
         self.assertEqual(processes.noted, {SERVER: (os.getpid(), begun(os.getpid()))})
 
     def test_state(self):
-        """A window that is taken over is there at once, also where its client isn't."""
+        """An adopted window is open at once, even without a client here."""
         self.assertEqual((windows.OPENING, THERE, ENDING), ("opening", "there", "ending"))
 
 
 class Noted(Case):
-    """What is noted of windows."""
+    """The notes about windows."""
 
     def test_ends(self):
-        """The last 128 processes that are ended on purpose are noted, each once; where that can't be, nothing is said."""
+        """The last 128 intended ends are recorded, each once; an error there is silent."""
         folder = self.made_folder()
         note_ends(str(folder), [])
         self.assertEqual(os.listdir(folder), [])
@@ -741,7 +746,7 @@ class Noted(Case):
         note_ends(str(folder / "none"), ["1 1"])
 
     def test_spawned(self):
-        """A process notes itself before it runs its words, has a session of its own, and no name of a pane."""
+        """A process records itself before it executes its words, has a session of its own, and no pane's name."""
         folder = self.made_folder()
         self.environment(ROAM_PANE="/x:1")
         processes = WindowProcesses(str(folder), WindowState(number=4))
@@ -758,7 +763,7 @@ class Noted(Case):
         self.assertFalse(is_spare_server(process))
 
     def test_stands_ready(self):
-        """A server that only stands ready is known by its environment too, which no other process has of it."""
+        """A spare server is known by its environment too, which no other process inherits."""
         self.environment(ROAM_SPARE="1")
         processes = WindowProcesses(str(self.made_folder()), WindowState(number=4))
         processes.make_folder()
@@ -775,7 +780,7 @@ class Noted(Case):
         self.assertFalse(is_spare_server(None))
 
     def test_ended_at_once(self):
-        """One that is told to end before it runs its words does, and the host isn't told of that by its own signals."""
+        """A process that is ended before it executes its words does end, and the host's own signals do not report it."""
         reader, writer = self.pipe()
         before = signal.signal(signal.SIGTERM, lambda number, frame: None), signal.set_wakeup_fd(writer, warn_on_full_buffer=False)
         self.addCleanup(lambda: (signal.set_wakeup_fd(before[1]), signal.signal(signal.SIGTERM, before[0])))
@@ -787,7 +792,7 @@ class Noted(Case):
 
 
 class Mended(Played):
-    """What a cleaner of old files removed is restored."""
+    """Files that a cleaner of old files removed are restored."""
 
     def setUp(self):
         super().setUp()
@@ -799,7 +804,7 @@ class Mended(Played):
         read_now(self.one)
 
     def clean(self, everything=False):
-        """Removes the sockets, or all that lies in the folder, with it."""
+        """Remove the sockets, or the whole folder with its contents."""
         if everything:
             shutil.rmtree(self.folder)
         else:
@@ -807,17 +812,17 @@ class Mended(Played):
                 path.unlink()
 
     def minutes(self, count=1):
-        """Lets so many minutes pass."""
+        """Let so many minutes pass."""
         for _ in range(count):
             self.now += 60
             self.turns(3)
 
     def names(self):
-        """Who is found at the sockets of the windows, by who asks there."""
+        """Return the processes found at the sockets of the windows."""
         return [self.said_by(self.asker(number, b""), b"windows\n") for number in (1, 2)]
 
     def test_sockets(self):
-        """The sockets are there again a minute later; who is connected stays."""
+        """The sockets are back a minute later; connected peers stay."""
         told = b"window 1 -\nwindow 2 74776f\nwindows 2\n"
         self.clean()
         self.minutes()
@@ -845,7 +850,7 @@ class Mended(Played):
         self.windows.windows[1].host.lasting.demand()
 
     def test_server(self):
-        """A server whose own socket was removed is had to take two turns each minute, in which it binds that anew; else it isn't asked."""
+        """A server whose own socket was removed has to take two turns a minute, in which it restores that; otherwise it gets no request."""
         for number in (1, 2):
             self.path(number, "clients").touch()
         self.minutes()
@@ -861,7 +866,7 @@ class Mended(Played):
         self.assertEqual((set(self.windows.windows), self.common.faults.count), ({1, 2}, 0))
 
     def test_locked(self):
-        """While somebody launches something there nothing is done."""
+        """While another process has the lock nothing is done."""
         self.clean()
         lock = os.open(self.folder / "lock", os.O_RDWR | os.O_CREAT)
         fcntl.flock(lock, fcntl.LOCK_EX)
@@ -872,7 +877,7 @@ class Mended(Played):
         self.assertEqual(len(self.names()), 2)
 
     def test_taken(self):
-        """Where another session has the name it is called otherwise, and is found and ended by that; the other's is left alone."""
+        """If another session has the name it gets another one, by which it is found and ended; the other session is left alone."""
         person = self.asker(2, b"here a:/dev/pts/1 24 80 read-write\n")
         other, more = (self.folder.with_name(f"{self.folder.name[:30]}-{number}") for number in (2, 3))
         for path in (other, more):
@@ -900,7 +905,7 @@ class Mended(Played):
         self.assertEqual(self.said.getvalue().count("is now called"), 1)
 
     def test_refused(self):
-        """Where it can't be made anew that is told once, and tried again."""
+        """A failure to restore them is reported once, and retried."""
         self.clean()
         with mock.patch("roam_live.common.unix_socket.listening", side_effect=OSError(28, "No space left on device")):
             self.minutes(3)
@@ -909,7 +914,7 @@ class Mended(Played):
         self.assertEqual(len(self.names()), 2)
 
     def test_removed(self):
-        """Nor where the files of roam were removed; all goes on, and it is made anew once they are there."""
+        """Nor if the files of roam were removed; all continues, and they are restored once those are back."""
         self.clean()
         with mock.patch.dict(sys.modules, {"roam_live.session.local": None}):
             self.minutes(3)
@@ -918,6 +923,6 @@ class Mended(Played):
         self.assertEqual(len(self.names()), 2)
 
     def test_names(self):
-        """The names of one whose own another has are names."""
+        """The alternative names of a session are valid names."""
         names = repair.names_beside("x" * 32)
         self.assertEqual((names[0], names[-1], len(names)), ("x" * 30 + "-2", "x" * 28 + "-999", 998))

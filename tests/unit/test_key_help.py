@@ -1,4 +1,4 @@
-"""The keys as they are bound, and how they scroll where they have no room."""
+"""The list of bound keys, and its scrolling if it does not fit."""
 import unittest
 
 from aids import Case
@@ -15,7 +15,7 @@ OWN = {
 
 
 def keys_under(text, title):
-    """The lines under a title, by what stands in their first columns."""
+    """Return the lines with a title, by their first columns."""
     lines = text.split("\n")
     begin = lines.index(title) + 1
     found = {}
@@ -33,7 +33,7 @@ class Texts(unittest.TestCase):
         self.assertEqual(help_of("C-a", {}), help_with("C-a"))
 
     def test_own(self):
-        """What the file binds stands first, and no key of it stands among the others."""
+        """The bindings of the file come first, and none of their keys is among the others."""
         text = help_of("C-a", OWN)
         self.assertEqual(keys_under(text, "C-a and then, by roam.conf:"),
                          {"r": "display-message 'my own'", "|": "split-window -h", "x": "nothing",
@@ -51,11 +51,11 @@ class Texts(unittest.TestCase):
         self.assertIn("  :          command-prompt: ask for a command\n", others)
 
     def test_typed(self):
-        """Where a key is bound by a command that was typed that is told too."""
+        """Bindings by typed commands are listed too."""
         self.assertIn("C-b and then, by roam.conf or C-b :bind:\n", help_of("C-b", OWN, True))
 
     def test_all(self):
-        """Where all keys are unbound there are no others."""
+        """If all keys are unbound there are no others."""
         text = help_of("C-b", {("prefix", "all"): None, ("prefix", "c"): Binding([["new-window"]], False)})
         self.assertEqual(text, "C-b and then, by roam.conf:\n  all others nothing\n  c          new-window")
 
@@ -67,12 +67,12 @@ class Shown(Case):
         self.stop_clock()
 
     def shown(self, person):
-        """What was written last."""
+        """Return the last output."""
         text, person.display.outer.waiting = bytes(person.display.outer.waiting), bytearray()
         return text.decode()
 
     def test_scrolls(self):
-        """On a small terminal it scrolls, and another key leaves; the last row tells so."""
+        """On a small terminal it scrolls, and another key leaves; the last row says so."""
         person = Person(10, 80)
         person.keyboard.fed(b"\x02?")
         text = self.shown(person)
@@ -94,7 +94,7 @@ class Shown(Case):
         self.assertEqual(person.display.notice, "")
 
     def test_fits(self):
-        """Where it has room any key leaves."""
+        """If it fits any key leaves."""
         for key in (b"\x1b[B", b" ", b"q"):
             person = Person(24, 80)
             person.keyboard.fed(b"\x02?")

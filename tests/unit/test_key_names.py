@@ -1,4 +1,4 @@
-"""Keys by tmux's names: what each types, by the sequences of xterm and the VT220."""
+"""Keys by tmux's names, and the sequences of xterm and the VT220 that they type."""
 import unittest
 
 from roam_live.input.key_names import acts_named, named_key, spelled
@@ -6,7 +6,7 @@ from roam_live.input.keys import Key, keys_in
 
 
 def characters(text):
-    """The acts of characters."""
+    """Return the acts of characters."""
     return [f"char {ord(letter):x}" for letter in text]
 
 
@@ -29,12 +29,12 @@ TYPED = {
     "S-Left": characters("\x1b[1;2D"), "C-S-Right": characters("\x1b[1;6C"), "M-Down": characters("\x1b[1;3B"),
     "C-Home": characters("\x1b[1;5H"), "S-F3": characters("\x1b[1;2R"), "C-DC": characters("\x1b[3;5~"),
     "S-PPage": characters("\x1b[5;2~"), "M-IC": characters("\x1b[2;3~"), "C-NPage": characters("\x1b[6;5~"),
-    # As xterm numbers them, and a VT220 those above 12.
+    # The numbers are xterm's, and above 12 a VT220's.
     **{f"S-F{number}": characters(f"\x1b[{code};2~")
        for number, code in zip(range(5, 21), (15, 17, 18, 19, 20, 21, 23, 24, 25, 26, 28, 29, 31, 32, 33, 34))},
 }
 
-# What is no key, or one that sends nothing of its own.
+# Words that are no key, or one that sends nothing distinct.
 NONE = ("", "C-", "Foo", "F0", "F21", "KP", "key up", "char 61", "close", "next", "\x1b", "\n", "ab", "C-C-", "C-1", "C-;", "S-a",
         "C-Enter", "S-Enter", "C-Tab", "S-KP0", "X-a", "^ab", "C-é")
 
@@ -55,7 +55,7 @@ class Names(unittest.TestCase):
             self.assertEqual(named_key(one), named_key(other))
 
     def test_spelled(self):
-        """A key is told of by the name that a person knows, also one that most terminals don't tell from another."""
+        """A key is shown by its familiar name, also one that most terminals don't distinguish."""
         for text, told in (("\x02", "C-b"), ("\x1a", "C-z"), ("\x1c", "C-\\"), ("Z", "Z"), ("-", "-"), ("\x1b[A", "Up"), ("\x1b", "Escape"),
                            ("\x7f", "BSpace"), ("\r", "Enter"), (" ", "Space"), ("\0", "C-Space"), ("\x1b[5~", "PageUp"),
                            ("\x1b[15~", "F5"), ("\x1b[Z", "S-Tab"), ("\x1b[1;7D", "C-M-Left"), ("\x1b[27;5;9~", "C-Tab"), ("\x1bOp", "KP0"),

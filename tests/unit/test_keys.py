@@ -27,7 +27,7 @@ class Spelled(unittest.TestCase):
     """Bytes as keys."""
 
     def test_acts(self):
-        """Each spelling has its acts, also where it comes byte by byte."""
+        """Each spelling has its acts, also byte by byte."""
         for text, acts in KEYS:
             keys = Keys()
             bytewise = [key for byte in text for key in keys.fed(bytes([byte]))] + keys.ended()
@@ -35,7 +35,7 @@ class Spelled(unittest.TestCase):
             self.assertEqual(found, (acts, acts), text)
 
     def test_cut(self):
-        """A stream of all spellings has the same keys, wherever it is cut; but an escape that nothing follows is the key."""
+        """A stream of all spellings has the same keys, wherever it is cut; but an escape without a successor is the key."""
         known = [(text, acts) for text, acts in KEYS if text not in (b"\x1b", b"\x1b[")]
         stream = b"".join(text for text, _ in known)
         wanted = [act for _, acts in known for act in acts.split(", ")]
@@ -45,7 +45,7 @@ class Spelled(unittest.TestCase):
             self.assertEqual((found, keys.waits()), (wanted, False), cut)
 
     def test_waits(self):
-        """What may begin a sequence waits; what waited in vain is the keys of its letters."""
+        """A possible start of a sequence waits; one without an end becomes the keys of its letters."""
         for text, waits in ((b"\x1b", True), (b"\x1b[", True), (b"\x1b[1", True), (b"\x1b[1;5", True), (b"\x1bO", True), (b"\x1b[[", True),
                             (b"\x1b[A", False), (b"x", False), (b"\x1bx", False), (b"\x1b[200~", False), (b"a\x1b", True)):
             keys = Keys()
@@ -55,8 +55,7 @@ class Spelled(unittest.TestCase):
             self.assertEqual((keys.waits(), keys.ended()), (False, []))
 
     def test_pasted(self):
-        """What is pasted is text as it is, with sequences in it, until its end, wherever the stream is cut; an escape in it isn't waited
-        for."""
+        """A paste is text, with sequences in it, until its end, wherever the stream is cut; an escape in it does not wait."""
         inside = "a\x1b[A\x1b[20\x1b[200~\r\x02\u00e9\x1b[201\x1b[201"
         stream = f"x\x1b\x1b[200~{inside}\x1b[201~\x1b[Ay\x1b[200~\x1b[201~z".encode()
         for cut in range(len(stream) + 1):
@@ -69,19 +68,19 @@ class Spelled(unittest.TestCase):
         self.assertEqual((keys.fed(b"\x1b[200~\x1b"), keys.waits(), keys.fed(b"x")[0].text), ([Key("paste", "\x1b[200~")], False, "\x1bx"))
 
     def test_many_pastes(self):
-        """Many pastes in one read cost as much each as one."""
+        """Each of many pastes in one read costs as much as a single one."""
         keys = Keys()
         found = keys.fed(b"\x1b[200~a\x1b[201~" * 20000)
         self.assertEqual((len(found), {key.name for key in found}, keys.rest), (60000, {"paste", "text", "pasted"}, ""))
 
     def test_long(self):
-        """A sequence that doesn't end in 32 letters isn't waited for."""
+        """A sequence without an end in 32 letters does not wait."""
         keys = Keys()
         self.assertEqual(len(keys.fed(b"\x1b[" + b"1" * 40)), 42)
         self.assertFalse(keys.waits())
 
     def test_every_number(self):
-        """The keys F6 to F20 have the numbers of the VT220, which leaves 22, 27 and 30 out."""
+        """The keys F6 to F20 have the numbers of the VT220, which omits 22, 27 and 30."""
         numbers = [number for number in range(17, 35) if number not in (22, 27, 30)]
         for key, number in zip(range(6, 21), numbers):
             self.assertEqual(acts_of_bytes(f"\x1b[{number}~".encode()), [f"key f{key}"])

@@ -1,4 +1,4 @@
-"""What stands in the last row and in a notice, as functions of values."""
+"""The contents of the last row and of a notice, as functions of values."""
 import unittest
 
 from roam_live.config.styled_text import ROW_STYLE, Styled
@@ -14,7 +14,9 @@ class Labels(unittest.TestCase):
     """The labels of panes and windows."""
 
     def test_parts(self):
-        """What a settings file has is cut to a third at the left and to half at the right, where it gives way to the key that fits."""
+        """The status texts of a settings file are cut to a third at the left and to half at the right, which gives way to the key that
+        fits.
+        """
         left, right = [Styled("0;7", "left" * 9)], [Styled("0;7", "right" * 9)]
         for labels, ends, width, parts in (
             (("[1]", ([], 0), "", ""), ([], []), 9, ("", "[1]      ", "")),
@@ -29,7 +31,7 @@ class Labels(unittest.TestCase):
             self.assertEqual(sum(map(len, (said(found[0]), found[1], said(found[2])))), width)
 
     def test_row_cells(self):
-        """The row's own parts keep their styles; another line is reversed, and behind one that is typed there is the cursor's place."""
+        """The row's own parts keep their styles; another line is reversed, and a typed one is followed by the cursor's cell."""
         parts = [Styled("0;7;31", "a ")], "[1]  ", [Styled("0;7;32", " z")]
         for given, text, is_typed, cells in (
             (parts, "a [1]   z", False, [Styled("0;7;31", "a "), Styled(ROW_STYLE, "[1]  "), Styled("0;7;32", " z")]),
@@ -46,7 +48,7 @@ class Notices(unittest.TestCase):
     """Lines in place of a session."""
 
     def test_page(self):
-        """What has no room is cut, or scrolls above a foot; no control character is shown."""
+        """Text that does not fit is cut, or scrolls above a foot; no control character is shown."""
         text, foot = "\n".join("abcde"), "{} to {} of {}"
         for size, first, foot, page in (
             ((9, 9), 0, foot, (list("abcde"), 0, 0)), ((5, 9), 3, foot, (list("abcde"), 0, 0)),

@@ -64,7 +64,9 @@ def modules_imported_by(text: str) -> "list[tuple[int, str]]":
 
 
 def owners_in(name: str, text: str) -> "list[str]":
-    """Return where an object gives itself to another: a call of a class has `self` among its arguments, or a field of another is set."""
+    """Return the lines at which an object passes itself to another: `self` among a class call's arguments, or an assignment to another's
+    field.
+    """
     faults = []
     for node in nodes_of(text):
         if isinstance(node, ast.Assign) and any(isinstance(one, ast.Attribute) for one in node.targets):
@@ -109,7 +111,7 @@ def owners_among(given: "list[str]") -> "list[str]":
 
 
 def faults_in(name: str, text: str) -> "list[str]":
-    """Return what is wrong with the imports of a module, given by its path below live/."""
+    """Return the errors in the imports of a module, given by its path below live/."""
     package, faults = package_of(name.removesuffix(".py").replace("/", ".")), []
     for line, module in imports_in(text) + modules_named_in(text):
         other = package_of(module)
@@ -150,14 +152,14 @@ class Layers(Case):
         self.assertEqual((order[0], order[-1], sorted(order)), ("common", "cli", sorted(LAYER)))
 
     def test_no_module_cycle(self):
-        """The modules of the packages that a person sees and types at have such an order too, types and late imports counted."""
+        """The modules of the packages for a user's display and input have such an order too, with types and late imports."""
         known = {name.removesuffix(".py").replace("/", "."): text for name, text in texts().items()}
         known = {name: text for name, text in known.items() if package_of(name) in ACYCLIC}
         graph = {name: {module for _, module in modules_imported_by(text) if module in known} for name, text in known.items()}
         list(graphlib.TopologicalSorter(graph).static_order())
 
     def test_no_owner(self):
-        """No object there gives itself to another, and no part has a field for the object that made it."""
+        """No object there passes itself to another, and no part has a field for the object that made it."""
         found = {name: text for name, text in texts().items() if name.split("/")[1] in ACYCLIC}
         self.assertEqual([fault for name, text in found.items() for fault in owners_in(name, text)], [])
         self.assertEqual(owners_among(list(found.values())), [])
@@ -178,7 +180,7 @@ class Layers(Case):
                         self.assertLessEqual(methods, MOST_METHODS, f"{name}: {node.name}")
 
     def test_owner_found(self):
-        """An object that gives itself to a part is found, and so is a part that knows its maker; a call of its own isn't."""
+        """An object that passes itself to a part is found, and so is a part that knows its maker; a call of its own isn't."""
         made = "class A:\n    def __init__(self):\n        self.b = B(1)\n"
         for part, faults in (("    def __init__(self, one: int, owner: A | None = None):\n        pass\n", ["B knows A, which makes it"]),
                              ("    def __init__(self, one: int):\n        self.owner: 'A | None' = None\n", ["B knows A, which makes it"]),

@@ -1,4 +1,4 @@
-"""What stands in for modules of the standard library that take long to load does what those do."""
+"""The replacements of slow standard modules behave like those."""
 import collections
 import json
 import pathlib
@@ -13,7 +13,7 @@ from roam_live.common.suppress import suppress
 
 
 class Point(NamedFields):
-    """Two numbers, and a name that may be left out."""
+    """Two numbers, and an optional name."""
 
     row: int
     col: int = 1
@@ -27,7 +27,7 @@ class Fields(Case):
     """`NamedFields`."""
 
     def test_made(self):
-        """Fields are given by place or name, as to a namedtuple."""
+        """Fields are set by position or name, like a namedtuple's."""
         for words, named in (((1, 2, "a"), {}), ((1,), {}), ((1, 2), {}), ((), {"row": 3}), ((1,), {"names": "x"}), ((1, 2), {"names": "x"})):
             one, other = Point(*words, **named), Named(*words, **named)
             self.assertEqual((one.row, one.col, one.names, one, repr(one)), (*other, other, repr(other)))
@@ -38,7 +38,7 @@ class Fields(Case):
         self.assertEqual((row, more, Point(4) < Point(5), {Point(4): 1}[Point(4)]), (4, [1, ()], True, 1))
 
     def test_refused(self):
-        """What a namedtuple refuses is refused."""
+        """Errors of a namedtuple are errors here."""
         for words, named in (((), {}), ((1, 2, 3, 4), {}), ((1,), {"row": 2}), ((1,), {"other": 2}), ((1, 2, 3), {"row": 1})):
             for kind in (Point, Named):
                 self.assertRaises(TypeError, kind, *words, **named)
@@ -51,7 +51,7 @@ class Patterns(Case):
     """`LazyPattern`."""
 
     def test_used(self):
-        """It is compiled at its first use, by which its methods are those of the pattern."""
+        """It is compiled at its first use, and then has the pattern's methods."""
         compiles = self.patch("re.compile", wraps=re.compile)
         found = LazyPattern(r"(?a)(\d+)-x")
         compiles.assert_not_called()
@@ -65,7 +65,7 @@ class Json(Case):
     """`read_json`."""
 
     def test_read(self):
-        """Values are those that `json` reads, and what it refuses is refused."""
+        """Values are the same as from `json`, and invalid input is refused."""
         texts = ["{}", ' {"a": [1, null, true, "x\\u00e9\\n"]}\n', "[]", "1", "-1.5e3", '"x"', "null", '{"a": {"b": []}}', "NaN", "[1, 2]"]
         texts += ["", " ", "{", "[1,]", '{"a"}', "tru", "1 2", "{} x", '"\n"', "\ufeff{}", "'x'", "nul", '{"a": 1,}', "[" * 50, "--1", '"\\x"']
         for text in texts:
@@ -82,7 +82,7 @@ class Paths(Case):
     """`FilePath`."""
 
     def test_paths(self):
-        """A path has the parts and files that one of pathlib has."""
+        """A path has the same parts and files as one of pathlib."""
         folder = self.made_folder()
         one, other = FilePath(folder), pathlib.Path(folder)
         self.assertEqual((str(one / "a/b"), (one / "a/b").name, str((one / "a/b").parent)), (str(other / "a/b"), "b", str(other / "a")))

@@ -1,5 +1,7 @@
-"""Whatever is told of pane metadata, a person's terminal is written nothing of it but a title that is printable, a
-shape of the cursor, a text for the clipboard, the modes that it is asked for, a bell, how the keypad is, and the last row."""
+"""Whatever pane metadata is reported, only a few forms reach the user's terminal.
+
+Those are a printable title, a cursor shape, a clipboard text, requested modes, a bell, the keypad mode, and the last row.
+"""
 import base64
 import itertools
 import random
@@ -12,7 +14,7 @@ from aids import closed, read_now, record
 from control_strings import chunks, controls
 from test_app import Fronts, made_front
 
-# What may be written, by name. In each the text of a group has to be printable.
+# The permitted output, by name. In each the text of a group has to be printable.
 FORMS = {
     "last row": r"\x1b7\x1b\[\?7l\x1b\[2[34];1H\x1b\[0;7m([^\x1b]{1,80})\x1b\[0m\x1b\[\?7h\x1b8", "title kept": r"\x1b\[22;2t",
     "title back": r"\x1b\[23;2t", "title": r"\x1b\]2;([^\x07\x1b]{0,200})\x07", "shape": r"\x1b\[[0-6] q",
@@ -22,12 +24,12 @@ FORMS = {
 }
 ANY = re.compile("|".join(f"(?P<n{number}>{form})" for number, form in enumerate(FORMS.values())))
 
-# What is told in a run is made by chance from its number; one that ever failed is kept.
+# The random seeds of the reports in each run; one that ever failed stays in the list.
 SEEDS = range(30)
 
 
 def pane_lines(chance):
-    """Lines by which panes 1 and 2, or one of them, are where they may be, in one life or another."""
+    """Return lines that place panes 1 and 2, or one of them, at possible positions, in some generation."""
     generation = chance.randint(1, 2)
     lines = (f"1 1 1 23 39 {generation}\n2 1 41 23 40 1\n", f"1 1 1 23 80 {generation}\n2 gone\nfocus 1\n",
              f"focus {chance.randint(1, 3)}\n",
@@ -36,7 +38,7 @@ def pane_lines(chance):
 
 
 def beside_line(chance):
-    """A line of pane metadata, as it has to be or not."""
+    """Return a line of pane metadata, valid or not."""
     hostile, place = controls(chance), f"{chance.randint(1, 2)} {chance.randint(1, 2)} ".encode()
     modes = chance.sample(("buttons", "drags", "motion", "sgr", "paste", "other", "focus", "keypad", "keys1"), chance.randint(0, 4))
     encoded = base64.b64encode(hostile)
@@ -49,15 +51,15 @@ def beside_line(chance):
 
 
 def notice_line(chance):
-    """A notice at the socket `host`, as it has to be or not."""
+    """Return a notice at the socket `host`, valid or not."""
     hostile = controls(chance)
     line = chance.choice((b"say it is well", b"say " + hostile, hostile))
-    # A line that is led by no number would end the connection.
+    # A line without a number would end the connection.
     return b"0 " + line.replace(b"\n", b"") + b"\n"
 
 
 class Written(Fronts):
-    """A front end that is told all of that."""
+    """A front end that gets all these reports."""
 
     def setUp(self):
         self.environment(TERM="xterm")
@@ -66,7 +68,7 @@ class Written(Fronts):
         self.tells = {name: self.listening(self.place.folder / name) for name in ("panes", "host")}
 
     def begin(self):
-        """A front end that sets the clipboard, at sockets at which panes and notices are told."""
+        """Return a front end that sets the clipboard, at sockets that report panes and notices."""
         self.front = made_front(self.place, has_clips=True)
         self.addCleanup(lambda outer=self.front.display.outer: closed(outer.end))
         self.addCleanup(self.front.views.link.close)
@@ -77,7 +79,7 @@ class Written(Fronts):
         return ends
 
     def forms(self, text):
-        """The names of the forms of which a text is made; what is none, or has a text that isn't printable, fails."""
+        """Return the names of the forms in a text. An unknown form, or an unprintable text, fails."""
         found, place = set(), 0
         while place < len(text):
             form = ANY.match(text, place)
@@ -89,7 +91,7 @@ class Written(Fronts):
         return found
 
     def run_one(self, seed):
-        """A run by chance, and the names of the forms that were written in it."""
+        """Return a random run, and the names of the forms in its output."""
         chance = random.Random(seed)
         panes, host = self.begin()
         self.turn(4)
@@ -112,6 +114,6 @@ class Written(Fronts):
         return self.forms(shown.decode("utf-8"))
 
     def test_forms(self):
-        """Nothing but these forms comes to the terminal, and each of them does."""
+        """Only these forms reach the terminal, and each of them does."""
         found = set(itertools.chain.from_iterable(self.run_one(seed) for seed in SEEDS))
         self.assertEqual(set(FORMS) - found, set())

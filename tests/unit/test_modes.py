@@ -1,4 +1,4 @@
-"""What keys mean, as tables: mode, key, effects. No front end, terminal or session stands behind them."""
+"""The meanings of keys, as tables: mode, key, effects, without a front end, terminal or session."""
 import pathlib
 import re
 import unittest
@@ -19,7 +19,7 @@ from roam_live.input.keys import Key, Keys
 MAN = pathlib.Path(__file__).resolve().parents[2] / "docs/man/roam-mux.1"
 UP, DOWN, RIGHT, LEFT, PAGE_UP, PAGE_DOWN = "\x1b[A", "\x1b[B", "\x1b[C", "\x1b[D", "\x1b[5~", "\x1b[6~"
 
-# The keys of the man page under KEYS, as they stand there, what is typed for each, and what it asks for behind the prefix.
+# The keys of the man page under KEYS, literally, their input, and their effects after the prefix.
 PREFIXED = (
     ("c", "c", Perform("window new")), ("n, p, l", "n", Perform("go next")), ("n, p, l", "p", Perform("go previous")),
     ("n, p, l", "l", Perform("go last")), *((("1 to 9, 0"), str(number % 10), Perform(f"go {number}")) for number in range(1, 11)),
@@ -37,7 +37,7 @@ PREFIXED = (
     ("?", "?", Perform("help")), ("C-b", "\x02", SendLiteral(Key("\x02", "\x02"))),
 )
 
-# What is typed from the plain mode on, and what its last key asks for.
+# Input from the plain mode on, and the effects of its last key.
 LAST = (
     ("a", [TypeKey(["char 61"], Key("a", "a"))]), ("\r", [TypeKey(["key return"], Key("\r", "\r"))]), ("\x02", []),
     ("\x02\x02", [TypeKey(["char 2"], Key("\x02", "\x02"))]), ("\x02o", [TypeActs("next")]), ("\x02Z", [TellUnbound(Key("Z", "Z"))]),
@@ -57,13 +57,13 @@ LAST = (
 
 
 def key_in(text):
-    """The key of a text."""
+    """Return the key of a text."""
     keys = Keys()
     return (keys.fed(text.encode()) + keys.ended())[0]
 
 
 def kinds(found):
-    """Effects, of which one that pushes a mode is told as what it pushes."""
+    """Return effects, with a pushed mode in place of the one that pushes it."""
     return [type(effect.mode) if isinstance(effect, PushMode) else effect for effect in found]
 
 
@@ -79,17 +79,17 @@ class Pages(unittest.TestCase):
         self.assertEqual(sorted({re.sub(r"\s+", " ", line).strip() for line in plain}), sorted({name for name, _, _ in PREFIXED}))
 
     def test_prefixed(self):
-        """Each key asks for that behind the prefix, whose mode ends."""
+        """Each key has this effect after the prefix, whose mode ends."""
         for name, text, effect in PREFIXED:
             self.assertEqual(PrefixMode(Keymap()).takes(key_in(text), 1.0), [PopMode(), effect], name)
 
     def test_last(self):
-        """What the last of several keys asks for."""
+        """Check the effects of the last of several keys."""
         for text, found in LAST:
             self.assertEqual(PlayedModes().asked(text.encode())[-1], found, text)
 
     def test_prefixes(self):
-        """Thirty keys may be the prefix, which typed twice is itself, and the help names that one alone."""
+        """Thirty keys may be the prefix, which typed twice is itself, and the help names only that one."""
         self.assertEqual(len(PREFIXES), 30)
         for name, letter in PREFIXES.items():
             own = TypeKey(["key return"] if letter == "\r" else [f"char {ord(letter):x}"], Key(letter, letter))
@@ -99,7 +99,7 @@ class Pages(unittest.TestCase):
         self.assertNotIn("C-z", [line.split()[0] for line in help_with("C-z").split("\n") if "suspend" in line])
 
     def test_chosen(self):
-        """Another prefix is chosen, and what may be repeated is forgotten."""
+        """Another prefix is chosen, and pending repeats are forgotten."""
         played = PlayedModes()
         played.asked(b"\x02\x1b[1;5C")
         played.stack.keymap.choose("C-a")
@@ -112,7 +112,7 @@ class Each(unittest.TestCase):
     """Each mode alone: a key, and its effects."""
 
     def check(self, mode, rows, now=1.0):
-        """Holds a mode, as a call makes it, against rows of a key and effects."""
+        """Check a mode, made by a call, against rows of a key and effects."""
         for text, found in rows:
             key = text if isinstance(text, Key) else key_in(text)
             self.assertEqual(kinds(mode().takes(key, now)), found, (mode(), key))
@@ -126,7 +126,7 @@ class Each(unittest.TestCase):
         self.assertEqual(ModeStack(keymap).literal(Key("\x02", "\x02"), False), [TypeKey(["char 2"], Key("\x02", "\x02"))])
 
     def test_repeats(self):
-        """For half a second the next move of a border needs no prefix; each move begins that anew."""
+        """For half a second the next move of a border needs no prefix; each move restarts that time."""
         played, key = PlayedModes(), key_in("\x1b[1;5B")
         typed = TypeKey([f"char {ord(letter):x}" for letter in "\x1b[1;5B"], key)
         for text, now, found in (("\x02\x1b[1;5C", 10.0, Perform("border right")), ("\x1b[1;5D", 10.4, Perform("border left")),
@@ -135,7 +135,7 @@ class Each(unittest.TestCase):
             self.assertEqual(played.asked(text.encode(), now)[-1], [found], text)
 
     def test_picking(self):
-        """A digit is a pane's for three seconds; another key means what it always does."""
+        """A digit selects a pane for three seconds; another key has its usual meaning."""
         for text, now, found in (("1", 1.0, [PopMode(), TypeActs("focus 1"), ClearStatus()]),
                                  ("9", 3.9, [PopMode(), TypeActs("focus 9"), ClearStatus()]),
                                  ("9", 4.0, [PopMode(), ClearStatus(), PassKey(Key("9", "9"))]),
@@ -144,12 +144,12 @@ class Each(unittest.TestCase):
             self.check(lambda: PickingMode(1.0), ((text, found),), now)
 
     def test_pasting(self):
-        """All is pasted up to the end."""
+        """Everything is pasted up to the end."""
         self.check(PastingMode, ((Key("text", "\x02d"), [AddPaste("\x02d")]), (Key("paste", "\x1b[200~"), [AddPaste("\x1b[200~")]),
                                  (Key("pasted", "\x1b[201~"), [PopMode(), EndPaste()])))
 
     def test_confirm(self):
-        """y answers with yes, any other key with no, and a paste is none."""
+        """y confirms, any other key declines, and a paste declines too."""
         yes = ClosePane(3), SendRequest("shut 3")
         self.check(lambda: ConfirmMode(*yes), (
             *((text, [PopMode(), HidePrompt(), *yes]) for text in "yY"),
@@ -157,7 +157,7 @@ class Each(unittest.TestCase):
             (Key("paste", ""), [PopMode(), HidePrompt(), PastingMode, BeginPaste(modes.NO_ANSWER)])))
 
     def test_line(self):
-        """A line is edited, entered for its purpose, or left; of a paste the first line is typed."""
+        """A line is edited, entered for its purpose, or cancelled; the first line of a paste is typed."""
         def mode():
             return LineMode(AskedLine("name", "ab cd"), "name 3")
         self.check(mode, (
@@ -169,7 +169,7 @@ class Each(unittest.TestCase):
             *((text, [PopMode(), HidePrompt()]) for text in ("\x1b", "\x03", "\x07"))))
 
     def test_scroll(self):
-        """A view goes back 500 rows at most, and half a terminal's rows by a page."""
+        """A view scrolls back 500 rows at most, and by half a terminal's rows a page."""
         keymap = Keymap()
         mode = ScrollMode(keymap)
         for text, rows, act, view in (("k", 24, "view 1", 1), (UP, 24, "view 1", 2), ("j", 24, "view -1", 1), ("j", 24, "view -1", 0),
@@ -184,7 +184,7 @@ class Each(unittest.TestCase):
                                   ("\x02", [*ends, PassKey(Key("\x02", "\x02"))]), ("\x1b[200~", [*ends, PassKey(key_in("\x1b[200~"))])))
 
     def test_help(self):
-        """The list of keys scrolls, and another key ends it, which means something else only if it begins something."""
+        """The list of keys scrolls, and another key ends it, with another effect only if it begins something."""
         over = [PopMode(), CloseHelp()]
         self.check(lambda: HelpMode(Keymap()), (
             *((text, [ScrollHelp(*by)]) for text, by in ((UP, (-1, 0)), ("k", (-1, 0)), ("\x10", (-1, 0)), (DOWN, (1, 0)), ("j", (1, 0)),
@@ -195,7 +195,7 @@ class Each(unittest.TestCase):
             ("\x1b[200~", [PopMode(), CloseHelp(key_in("\x1b[200~"))])))
 
     def test_list(self):
-        """A line is chosen, left or gone to; the prefix and a paste end the list, and keep their meanings."""
+        """A line is chosen, left or visited; the prefix and a paste end the list, and keep their meanings."""
         def mode():
             lines = [ListLine(f"line {number}", f"status {number}", Perform(f"go {number}")) for number in range(1, 31)]
             return ListMode(Keymap(), lines, 14, {"3": Perform("go 3")})
@@ -226,7 +226,7 @@ class Each(unittest.TestCase):
                          [[PassKey(key_in("\x1b[1;5A"))], [CopyKey(key_in("\x1b[1;5A"))]])
 
     def test_hold(self):
-        """Each key waits, whatever it means elsewhere."""
+        """Each key waits, whatever its usual meaning is."""
         self.check(HoldMode, [(key, [HoldKey(key)]) for key in map(key_in, ("x", "\x02", "\x1b", "\x03", "\x1b[200~", UP))])
 
     def test_copy_paste(self):
@@ -235,10 +235,10 @@ class Each(unittest.TestCase):
 
 
 class Stack(unittest.TestCase):
-    """Modes above one another."""
+    """Stacked modes."""
 
     def test_drawn(self):
-        """What is drawn over panes takes keys below prompts, and none while something stands in place of the panes."""
+        """A popup over panes takes keys below prompts, and none while a notice covers the panes."""
         stack = ModeStack(Keymap())
         stack.drawn = CopyKeysMode(stack.keymap)
         x = Key("x", "x")
@@ -262,13 +262,13 @@ class Stack(unittest.TestCase):
         self.assertEqual([stack.takes(prefix, 1.0) for _ in range(2)], [[], [CopyKey(prefix)]])
 
     def test_passed(self):
-        """A list that ends by the prefix gives it to the plain mode below."""
+        """A list that the prefix ends passes it to the plain mode below."""
         stack = ModeStack(Keymap())
         stack.drawn = ListMode(stack.keymap, [ListLine("one", "")])
         self.assertEqual((stack.takes(Key("\x02", "\x02"), 1.0), stack.has(PrefixMode)), ([CloseList()], True))
 
     def test_prompts(self):
-        """A prompt replaces another, and a mode below goes on once it has ended."""
+        """A prompt replaces another, and a mode below continues once it has ended."""
         stack = ModeStack(Keymap())
         scroll = stack.scroll_mode()
         self.assertIs(stack.scroll_mode(), scroll)
@@ -278,7 +278,7 @@ class Stack(unittest.TestCase):
         self.assertEqual((stack.takes(Key("n", "n"), 1.0), stack.pushed), ([HidePrompt()], [scroll]))
 
     def test_typing(self):
-        """Keys go to the pane in focus, or will, in these modes."""
+        """In these modes keys go to the focused pane, or will."""
         for mode, is_typing in ((None, True), (PrefixMode(Keymap()), True), (PickingMode(1.0), True), (PastingMode(), False),
                                 (ConfirmMode(), False),
                                 (LineMode(AskedLine(""), ""), False), (ScrollMode(Keymap()), False), (HelpMode(Keymap()), False)):
@@ -287,14 +287,14 @@ class Stack(unittest.TestCase):
             self.assertIs(stack.is_typing(), is_typing, mode)
 
     def test_scrolled(self):
-        """A mouse scrolls from the newest rows on, to which it ends."""
+        """A mouse scrolls from the newest rows on, and ends there."""
         stack = ModeStack(Keymap())
         for rows, act, view in ((3, "view 3", 3), (3, "view 3", 6), (-3, "view -3", 3), (600, "view 600", 500)):
             self.assertEqual((stack.scroll_by(rows), stack.scroll_mode().view), ((act, modes.SCROLLED.format(view)), view))
         self.assertEqual((stack.scroll_by(-600), stack.pushed), ((NEWEST, ""), []))
 
     def test_below(self):
-        """The scroll mode begins below a prompt, and gives the prefix to the plain mode; keys that come late are for it."""
+        """The scroll mode begins below a prompt, and passes the prefix to the plain mode; late keys are for it."""
         stack = ModeStack(Keymap())
         stack.push(LineMode(AskedLine("name"), "name 3"))
         self.assertIs(stack.lowest(), stack.plain)
@@ -305,7 +305,7 @@ class Stack(unittest.TestCase):
         self.assertEqual(list(map(type, stack.pushed)), [LineMode, PrefixMode])
 
     def test_whole(self):
-        """Behind the prefix an escape and the next key are one."""
+        """After the prefix an escape and the next key are one."""
         stack = ModeStack(Keymap())
         keys = [Key("\x1b", "\x1b"), Key("x", "x")]
         self.assertEqual(stack.whole(keys, 0), (keys[0], 1))
@@ -316,7 +316,7 @@ class Stack(unittest.TestCase):
 
 
 class Covered(unittest.TestCase):
-    """What is carried out while something stands in place of the session."""
+    """The requests that work while a notice covers the session."""
 
     ALL = [TypeKey(["char 78"], Key("x", "x")), TypeActs("next"), TypeActs(NEWEST), ClosePane(1), SendRequest("shut 1"), BeginPaste(),
            AddPaste("x"), EndPaste(),
@@ -327,7 +327,7 @@ class Covered(unittest.TestCase):
            HoldKey(Key("x", "x"))]
 
     def test_notice(self):
-        """Nothing is typed, nor changed."""
+        """Nothing is typed or changed."""
         self.assertEqual(modes.under_notice(self.ALL),
                          [TypeActs(NEWEST), BeginPaste(), AddPaste("x"), EndPaste(),
                           *(Perform(wish) for wish in ("detach", "suspend", "repaint", "help", "go 3")),
@@ -335,12 +335,12 @@ class Covered(unittest.TestCase):
                           CopyText("x"), HoldKey(Key("x", "x"))])
 
     def test_paused(self):
-        """Without a connection a paste goes on, a question ends, and another window may be gone to."""
+        """Without a connection a paste continues, a question ends, and another window may be visited."""
         self.assertEqual(modes.while_paused(self.ALL), [BeginPaste(), AddPaste("x"), EndPaste(), Perform("go 3"), ClearStatus(),
                                                         HidePrompt(), HoldKey(Key("x", "x"))])
 
     def test_leaves(self):
-        """C-c, q and the command detach; what is pasted or waits doesn't."""
+        """C-c, q and the command detach; a paste or waiting input doesn't."""
         for name, asked, leaves in (("q", [], True), ("\x03", [], True), ("x", [], False), ("x", [Perform("detach")], True),
                                     ("q", [AddPaste("q")], False),
                                     ("q", [EndPaste()], False), ("q", [HoldKey(Key("q", "q"))], False), ("x", [Perform("zoom")], False)):
@@ -358,7 +358,7 @@ class Values(unittest.TestCase):
         self.assertEqual(repr(EnterLine("window", "3")), "EnterLine(purpose='window', text='3')")
 
     def test_all_done(self):
-        """The interpreter carries out each effect that a stack lets through."""
+        """The interpreter carries out each effect that a stack returns."""
         from roam_live.frontend.interpreter import Interpreter
         known = {effect for effect in vars(effects).values() if isinstance(effect, type) and issubclass(effect, effects.Effect)
                  and not effect.__subclasses__()}

@@ -1,21 +1,21 @@
-"""What a person points at: reports as acts for the programs in panes, on a terminal that shows a part of the session."""
+"""The mouse: reports as acts for the programs in panes, on a terminal that shows a part of the session."""
 from aids import Case
 from roam_live.input.mouse_reports import report_of
 from roam_live.protocol.display_records import DisplayRecord
 from roam_live.protocol.panes import Places, Rect
 from test_display import Person
 
-# A pane to the left over all rows, and two beside it, one above the other; 1 is in focus.
+# A pane to the left over all rows, and two at its right, one above the other; 1 is focused.
 PANES = Places({1: Rect(1, 1, 23, 39), 2: Rect(1, 41, 11, 40), 3: Rect(13, 41, 11, 40)}, 1, 1)
 
 
 def report(button, row, col, is_release=False):
-    """A report of the outer terminal."""
+    """Return a report of the outer terminal."""
     return f"\x1b[<{button};{col};{row}{'m' if is_release else 'M'}".encode()
 
 
 def typed(lines):
-    """What is typed by lines of acts: for each the acts that are no characters, and the text of those that are."""
+    """Return for each line its acts without characters, and the text of its characters."""
     found = []
     for line in lines:
         acts = line.split(" ; ")
@@ -25,13 +25,13 @@ def typed(lines):
 
 
 class Pointed(Case):
-    """A person at a terminal of 24 by 80, with panes that are known."""
+    """A user at a terminal of 24 by 80, with known panes."""
 
     def setUp(self):
         self.stop_clock()
 
     def person(self, modes, told=PANES, size=(24, 80), **more):
-        """A person who is shown the session, whose panes have modes."""
+        """Return a user who sees the session, whose panes have modes."""
         person = Person(*size, told=told, **more)
         person.panes.modes_of = modes
         person.commands.panes_changed()
@@ -39,7 +39,7 @@ class Pointed(Case):
         return person
 
     def points(self, person, *reports):
-        """What is typed for reports, each 20 ms after the one before."""
+        """Return the input typed for reports, each 20 ms after the one before."""
         for one in reports:
             person.keyboard.fed(report(*one) if isinstance(one, tuple) else one)
             self.now += 0.02
@@ -48,10 +48,10 @@ class Pointed(Case):
 
 
 class Programs(Pointed):
-    """Reports for the program in the pane in focus."""
+    """Reports for the focused pane's program."""
 
     def test_asked(self):
-        """The terminal is asked for reports while the program in focus has asked for them, and for all motion where it has for that."""
+        """The terminal reports the mouse while the focused program wants that, and all motion if the program wants it."""
         person = self.person({2: "buttons sgr", 3: "motion"})
         for focus, modes, asked in ((1, {}, ""), (2, {}, "drags"), (3, {}, "motion"), (1, {}, ""), (2, {2: "sgr paste"}, ""),
                                     (2, {2: "drags"}, "drags")):
@@ -63,20 +63,20 @@ class Programs(Pointed):
         self.assertEqual(self.points(watcher, (0, 1, 1), (0, 1, 1, True)), [])
 
     def test_corner(self):
-        """A report counts from the pane's corner, named with the pane in one line of acts, in the form that its program has."""
+        """A report counts from the pane's corner, and names the pane in one line of acts, in the form of its program."""
         for modes, press, release in (("buttons sgr", "\x1b[<0;1;1M", "\x1b[<0;40;11m"), ("buttons", "\x1b[M !!", "\x1b[M#H+")):
             person = self.person({2: modes}, PANES._replace(focus=2))
             self.assertEqual(self.points(person, (0, 1, 41), (0, 11, 80, True)), [("focus 2", press), ("focus 2", release)])
 
     def test_own(self):
-        """What is in another pane, on a border, in the last row or outside is nobody's, and so is what is let go and wasn't pressed."""
+        """Events in another pane, on a border, in the last row or outside go to nobody, and so does a release without a press."""
         person = self.person({1: "motion sgr", 2: "motion sgr"}, PANES._replace(focus=2))
         for place in ((1, 39), (1, 40), (12, 41), (13, 41), (24, 41), (25, 41), (1, 81), (0, 41), (1, 0), (99999, 99999)):
             self.assertEqual(self.points(person, (0, *place), (0, *place, True), (35, *place), (64, *place)), [], place)
         self.assertEqual(self.points(person, (0, 1, 41, True), (32, 1, 42), b"\x1b[<0;41M"), [])
 
     def test_kinds(self):
-        """A program gets the kinds that its mode has."""
+        """A program gets the kinds of its mode."""
         for modes, kinds in (("buttons", 3), ("drags", 4), ("motion", 5)):
             person = self.person({1: f"{modes} sgr"})
             found = self.points(person, (35, 2, 2), (0, 2, 3), (32, 2, 4), (0, 2, 4, True), (65, 3, 3))
@@ -84,7 +84,7 @@ class Programs(Pointed):
             self.assertEqual(found[-2:], [("focus 1", "\x1b[<0;4;2m"), ("focus 1", "\x1b[<65;3;3M")])
 
     def test_old(self):
-        """Beyond column 95 the old form has no report, also where the press had one."""
+        """Beyond column 95 the old form has no report, even after a press that had one."""
         wide = Places({1: Rect(1, 1, 23, 200)}, 1, 1)
         person = self.person({1: "drags"}, wide, (24, 200))
         found = self.points(person, (0, 1, 96), (0, 1, 96, True), (0, 2, 95), (32, 2, 96), (0, 2, 96, True))
@@ -93,7 +93,7 @@ class Programs(Pointed):
         self.assertEqual(self.points(person, (0, 1, 200)), [("focus 1", "\x1b[<0;200;1M")])
 
     def test_dragged_out(self):
-        """What is dragged out of a pane stays its program's, at the nearest place; what it was told is held it is told is let go."""
+        """A drag out of a pane stays its program's, at the nearest position; a program that got a press gets the release."""
         person = self.person({2: "drags sgr"}, PANES._replace(focus=2))
         found = self.points(person, (0, 5, 50), (32, 5, 10), (32, 20, 10), (32, 20, 5), (0, 1, 1, True), (0, 1, 1, True))
         self.assertEqual([text for _, text in found], ["\x1b[<0;10;5M", "\x1b[<32;1;5M", "\x1b[<32;1;11M", "\x1b[<0;1;1m"])
@@ -101,7 +101,7 @@ class Programs(Pointed):
         self.assertEqual([text for _, text in found], ["\x1b[<0;10;5M", "\x1b[<32;40;11M", "\x1b[<0;40;11m"])
 
     def test_forgets(self):
-        """A program that has the mouse no more gets nothing of a button that is held, and neither does another pane's."""
+        """A program that gave up the mouse gets no more events of a pressed button, and neither does another pane's."""
         person = self.person({1: "drags sgr", 2: "drags sgr"})
         self.assertEqual(len(self.points(person, (0, 1, 1))), 1)
         person.panes.modes_of[1] = "sgr"
@@ -115,7 +115,7 @@ class Programs(Pointed):
         self.assertEqual(self.points(person, (0, 1, 2, True)), [])
 
     def test_thinned(self):
-        """Motion goes each 20 ms, the newest, and before what follows it; the same place isn't told twice. Nothing else waits."""
+        """Motion is reported every 20 ms, the newest, and before later input; the same position isn't repeated. Nothing else waits."""
         person = self.person({1: "motion sgr"})
         person.keyboard.fed(b"".join(report(35, 1, col) for col in range(1, 10)))
         self.assertEqual(typed(person.said()), [("focus 1", "\x1b[<35;1;1M")])
@@ -136,7 +136,7 @@ class Programs(Pointed):
         self.assertEqual((person.said(), [name for name in person.loop.due if name == "motion"]), ([], []))
 
     def test_slow(self):
-        """While what was typed is on its way motion waits, and the newest goes then; the focus that goes meanwhile takes it along."""
+        """While input is in flight motion waits, and then the newest is sent; a move of the focus takes it along."""
         person = self.person({1: "motion sgr"})
         person.link.has_taken = False
         self.assertEqual(self.points(person, (35, 1, 1), (35, 1, 2), (35, 1, 3)), [])
@@ -153,7 +153,7 @@ class Programs(Pointed):
         self.assertEqual(self.points(person, b""), [])
 
     def test_part(self):
-        """On a terminal that shows a part of the session places are those of that part, and the last row is nobody's."""
+        """On a terminal that shows a part of the session positions refer to that part, and the last row belongs to nobody."""
         person = self.person({2: "buttons sgr"}, PANES._replace(focus=2), (12, 40))
         person.display.take(DisplayRecord("part", (0, 30)))
         person.answers()
@@ -167,14 +167,15 @@ class Programs(Pointed):
                          [("focus 3", "\x1b[<0;1;1M"), ("focus 3", "\x1b[<0;40;11M")])
 
     def test_whole(self):
-        """Where the session is shown whole, its own status row is nobody's either."""
+        """If the session is shown whole, its own status row belongs to nobody either."""
         person = self.person({1: "buttons sgr"}, Places({1: Rect(1, 1, 9, 30)}, 1, 1), is_whole=True)
         person.paints(10, 30)
         self.assertEqual(self.points(person, (0, 9, 30), (0, 10, 1), (0, 11, 1), (0, 1, 31)), [("focus 1", "\x1b[<0;30;9M")])
 
     def test_nothing_shown(self):
-        """Under the help, in the scroll mode, at a question and while nothing is painted there are no reports; the help stays, and so does
-        the question."""
+        """Under the help, in the scroll mode, at a question and before the first painting there are no reports; the help and the question
+        stay.
+        """
         person = self.person({1: "drags sgr"})
         person.types(b"\x02?")
         self.assertEqual(self.points(person, (0, 1, 1), (0, 1, 1, True)), [])
@@ -195,21 +196,21 @@ class Programs(Pointed):
         self.assertEqual(self.points(person, (0, 1, 1)), [])
 
     def test_prefix(self):
-        """A report comes between the prefix and its key, and isn't one."""
+        """A report between the prefix and its key is no key."""
         person = self.person({1: "drags sgr"})
         person.types(b"\x02")
         self.assertEqual(len(self.points(person, (0, 1, 1))), 1)
         self.assertEqual(person.types(b"o"), ["next"])
 
     def test_pasted(self):
-        """What looks like one in a paste is pasted, but for its escape where that isn't."""
+        """A report inside a paste is pasted, without its escape if that isn't pasted."""
         person = self.person({1: "drags sgr"})
         acts = person.types(b"\x1b[200~\x1b[<0;1;1M\x1b[201~")
         self.assertTrue("".join(chr(int(act.split()[1], 16)) for act in acts).endswith("[<0;1;1M"))
         self.assertEqual(person.said(), [])
 
     def test_own_focus(self):
-        """Where this person put the focus elsewhere, and that isn't told yet, the pane before has no reports."""
+        """If this user moved the focus, and that isn't reported yet, the previous pane gets no reports."""
         person = self.person({1: "drags sgr", 2: "drags sgr"})
         person.types(b"\x02q2")
         self.assertEqual(self.points(person, (0, 1, 1)), [])
@@ -217,7 +218,7 @@ class Programs(Pointed):
         self.assertEqual(report_of(report(0, 1, 41).decode()).col, 41)
 
     def test_own_focus_kept(self):
-        """The size of a pane, which may come of what was typed before, doesn't tell where the focus is that this person put elsewhere."""
+        """The size of a pane may come from earlier input, so it does not confirm the focus that this user moved."""
         person = self.person({})
         person.types(b"\x02q2")
         person.tell(PANES._replace(rects={**PANES.rects, 1: PANES.rects[1]._replace(rows=5)}))
@@ -227,17 +228,17 @@ class Programs(Pointed):
 
 
 class Own(Pointed):
-    """What is pointed at where roam has the mouse itself."""
+    """Mouse events if roam itself uses the mouse."""
 
     def having(self, modes=None, told=PANES, **more):
-        """A person who has it."""
+        """Return a user with roam's mouse on."""
         person = self.person(modes or {}, told, **more)
         person.types(b"\x02m")
         person.said()
         return person
 
     def test_switched(self):
-        """C-b m has the terminal asked for reports whatever programs ask for, and again for theirs alone; a line tells it."""
+        """C-b m makes the terminal report the mouse, whatever programs want, and again only for theirs; a message says so."""
         person = self.person({2: "motion"})
         self.assertEqual(self.points(person, (0, 1, 50), (64, 1, 1), (0, 1, 40)), [])
         for asked, line in (("drags", "roam has the mouse: click, wheel, drag; C-b m gives it back"),
@@ -255,7 +256,7 @@ class Own(Pointed):
         self.assertEqual(unknown.display.outer.reports, "")
 
     def test_click(self):
-        """A click focuses the pane there, whose program has it where it asked for that; what follows it is that pane's."""
+        """A click focuses the pane there, whose program gets it if it wants it; later events go to that pane."""
         person = self.having({3: "drags sgr"})
         reports = (0, 3, 3), (0, 3, 3, True), (0, 2, 45), (0, 2, 45, True), (2, 2, 45), (2, 2, 45, True)
         self.assertEqual(self.points(person, *reports), [("focus 2",)])
@@ -271,7 +272,7 @@ class Own(Pointed):
         self.assertEqual(found, [("focus 1", text) for text in ("\x1b[<35;1;1M", "\x1b[<0;1;1M", "\x1b[<32;39;2M", "\x1b[<0;39;2m")])
 
     def test_wheel(self):
-        """The wheel goes to the program under it, which it focuses; on the other screen it is arrows, three a notch."""
+        """The wheel goes to the program under it, which it focuses; on the alternate screen it is arrows, three a notch."""
         person = self.having({2: "buttons sgr other", 3: "other"})
         self.assertEqual(self.points(person, (64, 1, 41), (66, 1, 41)), [("focus 2", "\x1b[<64;1;1M"), ("focus 2", "\x1b[<66;1;1M")])
         self.assertEqual(self.points(person, (64, 13, 41), (65, 13, 41), (66, 13, 41), (128, 13, 41)),
@@ -279,7 +280,7 @@ class Own(Pointed):
         self.assertEqual(person.modes.is_typing(), True)
 
     def test_scrolls(self):
-        """Over a shell's pane the wheel shows the rows that scrolled off, three a notch, until it is back at the newest."""
+        """Over a shell's pane the wheel shows the scrollback, three rows a notch, until it is back at the newest."""
         person = self.having()
         self.assertEqual(self.points(person, (65, 1, 41)), [])
         self.assertEqual(self.points(person, (64, 1, 41), (64, 1, 41), (65, 1, 41)),
@@ -294,8 +295,9 @@ class Own(Pointed):
         self.assertEqual(person.types(b"q"), ["view -500"])
 
     def test_scrolls_by_keys(self):
-        """In the scroll mode of keys the wheel scrolls too, also where a program has the mouse; a click there is nothing, and one in
-        another pane ends it."""
+        """In the scroll mode of keys the wheel scrolls too, even if a program uses the mouse; a click there does nothing, and one in
+        another pane ends it.
+        """
         person = self.person({1: "motion sgr"})
         person.types(b"\x02[")
         found = self.points(person, (64, 1, 1), (0, 1, 1), (0, 1, 1, True), (35, 1, 1), (0, 1, 50), (64, 1, 50))
@@ -307,7 +309,7 @@ class Own(Pointed):
         self.assertEqual((person.link.acts[before:], person.modes.is_typing(), person.display.row.told), (["view -500"], True, ""))
 
     def test_border(self):
-        """A border is dragged with the first button alone; in another pane's place nothing comes of it."""
+        """A border is dragged only with the first button; from inside a pane nothing happens."""
         person = self.having()
         for button in (1, 2, 4, 64, 65):
             self.assertEqual(self.points(person, (button, 5, 40), (32 + button, 5, 45), (button, 5, 45, True)), [], button)

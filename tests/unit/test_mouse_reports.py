@@ -1,4 +1,4 @@
-"""Reports of the mouse: read wherever they are cut, and in the form that a program asked for."""
+"""Mouse reports: parsed wherever they are cut, and in the form that a program requested."""
 import unittest
 from unittest import mock
 
@@ -15,7 +15,7 @@ REPORTS = {
 NO_REPORTS = ("", "\x1b[<0;5M", "\x1b[<0;5;7;1M", "\x1b[<-1;5;7M", "\x1b[<0;5;7", "\x1b[<1000;1;1M", "\x1b[<0;123456;1M", "\x1b[0;5;7M",
               "\x1b[<\u0661;5;7M", "\x1b[<0;5;7M\n")
 
-# A report, whether programs with 1000, 1002 and 1003 are sent it.
+# A report, and flags for programs with 1000, 1002 and 1003 that get it.
 WANTED = ((0, False, (1, 1, 1)), (0, True, (1, 1, 1)), (66, False, (1, 1, 1)), (128, False, (1, 1, 1)), (32, False, (0, 1, 1)),
           (34 + 16, False, (0, 1, 1)), (35, False, (0, 0, 1)), (35 + 4, False, (0, 0, 1)))
 
@@ -28,7 +28,7 @@ OLD = (
 
 
 class Reports(unittest.TestCase):
-    """A report, and what is made of it."""
+    """A report, and its effect."""
 
     def test_read(self):
         for text, report in REPORTS.items():
@@ -37,7 +37,7 @@ class Reports(unittest.TestCase):
             self.assertIsNone(report_of(text), text)
 
     def test_kinds(self):
-        """Buttons, the wheel and motion are told apart, whatever keys are held."""
+        """Buttons, the wheel and motion are distinguished, with any modifiers."""
         for keys in (0, 4, 8, 16, 28):
             kinds = [(report.number(), report.moves(), report.is_wheel(), report.is_held())
                      for report in (MouseReport(button + keys, 1, 1, False) for button in (1, 65, 67, 128, 34, 35))]
@@ -45,7 +45,7 @@ class Reports(unittest.TestCase):
                                      (2, True, False, True), (3, True, False, False)])
 
     def test_wanted(self):
-        """A program is sent the kinds that its mode has, and none without one."""
+        """A program gets the kinds of its mode, and none without one."""
         for button, is_release, wanted in WANTED:
             found = [is_wanted(MouseReport(button, 1, 1, is_release), [word, "sgr"]) for word in ("buttons", "drags", "motion")]
             self.assertEqual(found, [bool(word) for word in wanted], button)
@@ -54,7 +54,7 @@ class Reports(unittest.TestCase):
                          ["", "", "buttons", "drags", "motion"])
 
     def test_sent(self):
-        """In the old form each number is a character below 80, or it is dropped; that of 1006 has all."""
+        """In the old form each number is a character below 80, or the report is dropped; the form of 1006 has all."""
         for *report, text in OLD:
             self.assertEqual(sent(MouseReport(*report), ["buttons"]), text, report)
         for text, report in REPORTS.items():
@@ -65,7 +65,8 @@ class Among(unittest.TestCase):
     """Reports among keys."""
 
     def test_cut(self):
-        """Wherever a stream is cut its reports are taken out, and its keys are what they are without; nothing of a report waits in vain."""
+        """Wherever a stream is cut its reports are extracted, and its keys are the same as without them; no part of a report waits in vain.
+        """
         stream = b"a\x1b[<0;5;7Mb\x1b[A\x1b[<64;80;24M\x1b[<35;500;200m\xc3\xa9"
         wanted = [Key("a", "a"), Key(MOUSE, "\x1b[<0;5;7M"), Key("b", "b"), Key("up", "\x1b[A"), Key(MOUSE, "\x1b[<64;80;24M"),
                   Key(MOUSE, "\x1b[<35;500;200m"), Key("\u00e9", "\u00e9")]
@@ -77,7 +78,7 @@ class Among(unittest.TestCase):
         self.assertEqual([key for byte in stream for key in keys.fed(bytes([byte]))], wanted)
 
     def test_waits(self):
-        """What has begun as a report goes on as long as that takes, where an escape is a key soon; another key ends it."""
+        """A partial report waits as long as that takes, while an escape is soon a key; another key ends it."""
         for begun, waits in ((b"\x1b", True), (b"\x1b[", True), (b"\x1b[<", False), (b"\x1b[<0;5", False)):
             keys = Keys()
             self.assertEqual((keys.fed(begun), keys.waits()), ([], waits))
@@ -85,15 +86,15 @@ class Among(unittest.TestCase):
         self.assertEqual((keys.fed(b"\x1b[<"), [key.name for key in keys.fed(b"x\x1b[<u")]), ([], ["unknown", "unknown"]))
 
     def test_typed(self):
-        """Where it stands in what is pasted or sent it is what it is."""
+        """Inside a paste or sent text it is text."""
         self.assertEqual(acts_of_bytes(b"\x1b[<0M"), [f"char {byte:x}" for byte in b"\x1b[<0M"])
 
 
 class Asked(unittest.TestCase):
-    """What the outer terminal is asked for."""
+    """The mouse modes requested from the outer terminal."""
 
     def test_asked(self):
-        """Each is asked for once, none before another, and none where the terminal is given back."""
+        """Each is requested once, none before another, and none when the terminal is restored."""
         with mock.patch.dict("os.environ", TERM="xterm"):
             modes = OuterModes()
         self.assertEqual((modes.asked(""), modes.taken_back()), (b"", b""))
@@ -102,7 +103,7 @@ class Asked(unittest.TestCase):
         self.assertEqual((modes.taken_back(), modes.taken_back(), modes.asked("motion")), (OFF, b"", ASKED["motion"]))
 
     def test_console(self):
-        """A console of Linux has another form, and isn't asked."""
+        """A Linux console has another form, and gets no request."""
         with mock.patch.dict("os.environ", TERM="linux"):
             modes = OuterModes()
         self.assertEqual((modes.asked("drags"), modes.taken_back()), (b"", b""))

@@ -1,4 +1,4 @@
-"""What the words of mux do, and how they are read."""
+"""The commands of mux, and their parser."""
 import argparse
 import importlib
 import io
@@ -28,7 +28,7 @@ PAGE = pathlib.Path(__file__).resolve().parents[2] / "docs/man/roam-mux.1"
 
 
 class Mux(Case):
-    """A folder of sessions, and a session in it whose parts are told to be there."""
+    """A folder of sessions, and a session in it whose parts count as running."""
 
     def setUp(self):
         self.base = self.made_folder() / "roam"
@@ -41,7 +41,7 @@ class Mux(Case):
         self.follows = self.patch_of(follow, "follow", return_value=7)
         self.is_terminal = True
         self.patch_of(mux.os, "isatty", lambda end: self.is_terminal)
-        # What others left is no matter either.
+        # The clean-up after other sessions does not matter either.
         self.sweeps = self.patch_of(attaching, "sweep")
         self.patch_of(ending, "sweep", self.sweeps)
         self.runs, self.done = set(), []
@@ -53,18 +53,18 @@ class Mux(Case):
         self.patch_each("runs", lambda session, role=None: session.name in self.runs)
         self.patch_each("busy", lambda session: {1: "vi"})
         self.patch_of(LocalSession, "busy_programs", SessionFolder.busy_programs)
-        # Its windows are no matter here: it is as one that has no others.
+        # Its windows do not matter here, so it counts as one without others.
         self.patch_of(LocalSession, "served", "server")
         self.patch_of(LocalSession, "window", lambda session, number=None: session)
         self.patch_of(LocalSession, "windows", lambda session: [session])
 
     def patch_each(self, name, does):
-        """Has a session do something else, whether it has windows or not."""
+        """Patch a session's method, with windows or without."""
         for one in (SessionFolder, LocalSession):
             self.patch_of(one, name, does)
 
     def does(self, name):
-        """What notes that a part of a session was called."""
+        """Return a function that records its call."""
         def called(session, *words):
             self.done.append((name, session.name, *words))
             if name == "end_all":
@@ -72,12 +72,12 @@ class Mux(Case):
         return called
 
     def mux(self, *words):
-        """What mux does with words."""
+        """Run mux with these words."""
         self.words("mux", *words)
         return mux.main()
 
     def refuses(self, told, *words):
-        """Has mux refuse words with a text."""
+        """Check that mux refuses words with a text."""
         with self.assertRaises(Fault) as fault:
             self.mux(*words)
         self.assertEqual(str(fault.exception), told)
@@ -87,7 +87,7 @@ class Attaches(Mux):
     """Words that attach."""
 
     def test_new(self):
-        """A session that isn't running is started, and is new; `main` where none is named."""
+        """A session that isn't running is started, and is new; `main` by default."""
         for words, name in (((), "main"), (("work",), "work"), (("--", "send"), "send")):
             self.done.clear()
             self.assertEqual(self.mux(*words), 7)
@@ -96,7 +96,7 @@ class Attaches(Mux):
             self.assertEqual((session.name, is_read_only, prefix, prediction, is_new(None)), (name, False, "C-b", "adaptive", True))
 
     def test_history(self):
-        """A session isn't begun that is to keep what can't be; one that runs is attached to."""
+        """A session with an invalid history limit isn't started; a running one is attached to."""
         self.environment(ROAM_HISTORY="many")
         for words in ((), ("new", "-d", "work")):
             self.refuses("ROAM_HISTORY is 'many'; it may be 0 to 1000000", *words)
@@ -105,7 +105,7 @@ class Attaches(Mux):
         self.assertEqual(self.mux("attach", "main"), 7)
 
     def test_running(self):
-        """One that is running is attached to, its missing parts are started, and it is not new."""
+        """A running one is attached to, its missing parts are started, and it is not new."""
         self.runs.add("main")
         for words in (("attach",), ("main",), ("attach", "main"), ("attach", "--predict", "never", "main")):
             self.done.clear()
@@ -131,14 +131,14 @@ class Attaches(Mux):
         self.assertEqual((self.done, list(self.base.iterdir())), ([], []))
 
     def test_dumb(self):
-        """Nor on one that can't place its cursor."""
+        """Nor on one that can't position its cursor."""
         self.environment(TERM="dumb")
         for words in ((), ("new", "x"), ("ssh", "there")):
             self.refuses("TERM is dumb: this terminal cannot place its cursor; set TERM to its real type, such as xterm-256color", *words)
         self.assertEqual((self.done, list(self.base.iterdir())), ([], []))
 
     def test_each_end(self):
-        """Both ends have to be one."""
+        """Standard input and output both have to be one."""
         for ends, told in (({0}, True), ({1, 2}, True), ({0, 1}, False)):
             self.patch_of(mux.os, "isatty", lambda end, ends=ends: end in ends)
             if told:
@@ -147,7 +147,7 @@ class Attaches(Mux):
                 self.assertEqual(self.mux(), 7)
 
     def test_inside(self):
-        """A session isn't shown in a pane of its own."""
+        """A session isn't shown in one of its own panes."""
         self.environment(ROAM_PANE=f"{self.base}/main:3")
         self.refuses("this is a pane of session main; a session cannot show itself")
         self.assertEqual(self.mux("other"), 7)
@@ -175,7 +175,7 @@ class Attaches(Mux):
 
 
     def test_alone(self):
-        """With -d all others are told to leave before; of those that don't it is told."""
+        """With -d all others are asked to detach first; the ones that stay are reported."""
         self.runs.add("main")
         with mock.patch.object(windows, "detach_others", side_effect=[0, 2]) as others:
             self.assertEqual((self.mux("attach", "-d", "main"), self.said.getvalue()), (7, ""))
@@ -187,7 +187,7 @@ class Attaches(Mux):
                          (2, "mux: session main: 2 of its terminals did not detach; they may be stopped\n"))
 
     def test_settings(self):
-        """It is told where the settings are looked for, and each line of them that isn't done, with status 1."""
+        """It prints the path of the settings, and each unsupported line, with status 1."""
         self.environment(XDG_CONFIG_HOME=str(self.base), HOME=str(self.base))
         self.addCleanup(config_environment.choose_by_file, {})
         self.patch_of(OWN, "found", None)
@@ -216,7 +216,7 @@ class Starts(Mux):
         self.refuses("'a b' is not a valid name: use at most 32 letters, digits, - and _", "new", "-d", "a b")
 
     def test_kill(self):
-        """It asks where something else than a shell runs, but with -f."""
+        """It asks if a program other than a shell runs, except with -f."""
         self.runs.add("main")
         self.is_terminal = False
         self.refuses("session main runs vi in pane 1; `mux kill -f main` ends it", "kill", "main")
@@ -232,7 +232,7 @@ class Starts(Mux):
         self.assertEqual(self.mux("kill", "-f", "main"), 0)
 
     def test_window(self):
-        """A window is shut in the same way."""
+        """A window is closed in the same way."""
         self.runs.add("main")
         with mock.patch.object(windows, "shut", return_value=5) as shuts:
             self.is_terminal = False
@@ -247,7 +247,7 @@ class Starts(Mux):
         self.assertEqual(self.done, [])
 
     def test_asked_of_windows(self):
-        """What is asked of a session's windows, or done there by a command, has the session and the words."""
+        """Requests about a session's windows, and commands there, get the session and the words."""
         self.runs.add("main")
         for words, does, behind in ((("list-windows", "main"), "list_windows", ()), (("clients", "main"), "list_clients", ()),
                                     (("new-window", "main"), "new_window", ("",)),
@@ -265,7 +265,7 @@ class Starts(Mux):
             self.refuses("session main did not end", "kill", "-f", "main")
 
     def test_ready(self):
-        """What types and what looks needs a client process alone."""
+        """Typing and viewing need only a client process."""
         self.runs.add("main")
         with mock.patch.object(send, "send", return_value=3) as sends, mock.patch.object(capture, "capture", return_value=4) as takes:
             self.assertEqual(self.mux("send", "-a", "main", "char 61", "key up"), 3)
@@ -277,8 +277,7 @@ class Starts(Mux):
         self.assertEqual([one[0] for one in self.done[:2]], ["note_found", "demand_client"])
 
     def test_rows(self):
-        """Rows that scrolled off, where some are named, or how they are printed; of the pane in focus where none is named. They aren't
-        drawn."""
+        """Scrollback rows are printed for a range or a form of rows, by default of the focused pane. They aren't drawn."""
         self.runs.add("main")
         with mock.patch.object(scrollback, "capture_rows", return_value=4) as takes, \
                 mock.patch.object(scrollback, "log_rows", return_value=5) as logs:
@@ -293,7 +292,7 @@ class Starts(Mux):
         self.assertEqual(self.done, [])
 
     def test_buffers(self):
-        """Buffers are listed, printed and set, and pasted into a pane; they are of no pane."""
+        """Buffers are listed, printed and set, and pasted into a pane; they belong to no pane."""
         self.runs.add("main")
         names = ("list_buffers", "show_buffer", "set_buffer", "put_buffer")
         does = [self.patch_of(scrollback, name, return_value=place) for place, name in enumerate(names)]
@@ -309,7 +308,7 @@ class Starts(Mux):
                 self.mux("buffer", *words)
 
     def test_texts(self):
-        """Words are sent as characters by -l, and standard input pasted, in one piece."""
+        """Words are sent as characters by -l, and standard input is pasted, in one piece."""
         self.runs.add("main")
         with mock.patch.object(paste, "type_text", return_value=3) as types, \
                 mock.patch.object(paste, "read_text", lambda is_raw: f"raw {is_raw}"):
@@ -321,7 +320,7 @@ class Starts(Mux):
             self.assertEqual(types.call_args[0][1:], ("raw True", 9))
 
     def test_sent(self):
-        """What each way of `send` types: keys by their names, texts, both, characters alone by -l, and acts by -a alone."""
+        """The input of each way of `send`: keys by name, texts, both, characters alone by -l, and acts by -a alone."""
         self.runs.add("main")
         letters = {letter: f"char {ord(letter):x}" for letter in "abcdefghijklmnopqrstuvwxyz-: \u00e9"}
         spelled = lambda text: [letters[letter] for letter in text]  # noqa: E731
@@ -353,7 +352,7 @@ class Starts(Mux):
             self.refuses(told, "send", *words)
 
     def test_panes(self):
-        """NAME.P is a pane: what is sent and captured there, and closed, where something else than a shell runs once that is confirmed."""
+        """NAME.P is a pane, to send to, to capture, and to close; if a program other than a shell runs there, after a confirmation."""
         self.runs.add("main")
         with mock.patch.object(send, "send", return_value=3) as sends, mock.patch.object(capture, "capture", return_value=4) as takes:
             self.assertEqual((self.mux("send", "-a", "main.3", "char 61"), sends.call_args[0][1:]), (3, (["char 61"], 3)))
@@ -373,7 +372,7 @@ class Starts(Mux):
         self.assertFalse([one for one in self.done if one[0] == "end_all"])
 
     def test_started(self):
-        """Whether it ran before is told; what is left of one that doesn't run goes."""
+        """It returns True for a session that already ran; the rest of an ended one is removed."""
         session = Window(self.base / "main")
         self.assertEqual((attaching.launched(session), self.done), (False, [("kill", "main")]))
         self.runs.add("main")
@@ -406,7 +405,7 @@ class Far(Mux):
     """Sessions of other machines."""
 
     def test_ssh(self):
-        """A relay is started where none runs, and its status is that of one that didn't answer."""
+        """A relay is started if none runs, and a relay without an answer gives the exit status."""
         clients = self.patch_of(RemoteSession, "launch_relay", return_value=0)
         self.patch_of(ssh, "host_of", side_effect=lambda asked: f"host of {asked.host}")
         self.assertEqual(self.mux("ssh", "-p", "22", "me@there", "work"), 7)
@@ -424,7 +423,7 @@ class Far(Mux):
         self.refuses("'a b' is not a valid name: use at most 32 letters, digits, - and _", "ssh", "there", "a b")
 
     def test_host(self):
-        """ssh tells where it would go, in a moment, and is told its own options; where it doesn't, its word has the host."""
+        """ssh reports its destination in a moment, and gets its own options; otherwise its word has the host."""
         self.environment(ROAM_UDP=None)
         folder = self.made_folder()
         stand_in = folder / "ssh"
@@ -447,7 +446,7 @@ class Far(Mux):
             self.assertEqual(ssh.host_of(asked), "")
 
     def test_options(self):
-        """The options before the host are for ssh, but those of mux; a letter may have its word at once, and stand behind others."""
+        """The options before the host are for ssh, except those of mux; a letter may include its value, and follow others."""
         for words, own, options in (
             ("there", "there", ""), ("-p 22 there work", "there work", "-p 22"), ("-p22 there", "there", "-p22"),
             ("-v -4C there", "there", "-v -4C"), ("-vp 22 there -x", "there -x", "-vp 22"), ("--ssh x there", "--ssh x there", ""),
@@ -458,11 +457,11 @@ class Far(Mux):
             self.assertEqual(ssh.parted_options(words.split()), (own.split(), options.split()), words)
 
     def test_pairs(self):
-        """The letters that have a word behind them are those of ssh(1)."""
+        """The letters with a value are those of ssh(1)."""
         self.assertEqual(sorted(ssh.SSH_PAIRS), sorted("BbcDEeFIiJLlmOopQRSWw" + "P"))
 
     def test_near(self):
-        """One folder a host, a session and a way to get there; a host's odd letters don't leave the folder."""
+        """There is one folder for each host, session, and ssh command; odd letters of a host do not escape the folder."""
         asked = argparse.Namespace(ssh="ssh", far="roam-mux", options=[], host="there", name="main")
         names = [ssh.near_session(asked, ssh.command_of(asked)).folder.name]
         asked.options = ["-p", "22"]
@@ -478,13 +477,13 @@ class Far(Mux):
         self.assertEqual(ssh.near_session(asked, ["x"]).name, "main")
 
     def test_first_client(self):
-        """A session is new here where its server has had one client at most, as far as is known."""
+        """A session is new here if its server has had one client at most, as far as is known."""
         for clients, is_first in ((None, False), (1, True), (2, False)):
             places = None if clients is None else Places({1: Rect(1, 1, 2, 3)}, 1, clients)
             self.assertEqual(ssh.is_first_client(places), is_first)
 
     def test_carry(self):
-        """What `mux ssh` runs there starts the session where the other end knows none, and becomes a relay."""
+        """The remote command of `mux ssh` starts the session if the other end knows none, and becomes a relay."""
         becomes, writes = self.patch_of(ssh.os, "execv"), self.patch_of(ssh.os, "write")
         greets = self.patch_of(ssh, "read_greeting", return_value="-")
         self.refuses("standard input is a terminal; `mux ssh` on another machine starts this end", "far", "main")
@@ -502,7 +501,7 @@ class Far(Mux):
         writes.assert_not_called()
 
     def test_carry_known(self):
-        """One that the other end knew and that has ended isn't started anew."""
+        """An ended one that the other end knew isn't started anew."""
         becomes, writes = self.patch_of(ssh.os, "execv"), self.patch_of(ssh.os, "write")
         self.patch_of(ssh, "read_greeting", return_value="5e55")
         self.is_terminal = False
@@ -520,10 +519,10 @@ class Far(Mux):
 
 
 class Environment(Mux):
-    """What `mux env` prints."""
+    """The output of `mux env`."""
 
     def test_printed(self):
-        """The lines for a shell, byte by byte; a session that isn't there, and one of another machine, is refused."""
+        """It prints the lines for a shell, byte by byte; a missing session, and a remote one, is refused."""
         out = io.TextIOWrapper(io.BytesIO(), encoding="ascii")
         self.patch_of(mux.sys, "stdout", out)
         lines = self.patch_of(session_environment, "shell_lines", return_value=["export DISPLAY=:0", "export SSH_AUTH_SOCK='/a\udcff b'"])
@@ -539,10 +538,10 @@ class Environment(Mux):
 
 
 class Words(Mux):
-    """How words are read."""
+    """The parser of words."""
 
     def test_plain(self):
-        """What argparse would make of words with a name at most."""
+        """Words with a name at most give the same result as argparse."""
         for word, rest in (("attach", []), ("attach", ["x"]), ("new", ["x"]), ("ls", []), ("watch", ["x"]), ("kill", ["x"]),
                            ("capture", ["x"]), ("env", ["x"]), ("far", ["x"]), ("help", []), ("help", ["ls"]), ("detach", []),
                            ("send", ["a", "b"]), ("send", ["a", "b", "-l"]), ("send", ["a"]), ("new", []), ("new", ["a", "top", "-d"]),
@@ -555,7 +554,7 @@ class Words(Mux):
             self.assertIsNone(mux.plain_words(word, rest), (word, rest))
 
     def test_refused(self):
-        """Words that name no session: a slip is told of, the rest gets the usage; all with status 2."""
+        """Words that name no session: a typing error gets a hint, the rest the usage; all with status 2."""
         hint = "mux: 'atach' is not a command of mux; did you mean attach?"
         for words, told in ((("atach",), f"{hint} (`mux new atach` starts a session of that name)\n"), (("atach", "x"), f"{hint}\n")):
             self.assertEqual(self.mux(*words), 2)
@@ -569,8 +568,9 @@ class Words(Mux):
         self.assertEqual(self.mux("--"), 7)
 
     def test_words_of_tmux(self):
-        """No word of tmux launches a session of that name: what roam has is told, which is a word of mux, or that it has nothing. One that
-        runs is attached to, and `new` takes any."""
+        """No word of tmux launches a session of that name: a hint names roam's equivalent, a word of mux, or says that there is none. A
+        running one is attached to, and `new` takes any.
+        """
         for word, here in TMUX_WORDS.items():
             if here.startswith("mux "):
                 self.assertIn(here.split()[1], mux.WORDS, word)
@@ -594,12 +594,12 @@ class Words(Mux):
         self.assertEqual(self.mux("split-window"), 7)
 
     def test_none_listed(self):
-        """Where no session runs `ls` says so, and ends well."""
+        """Without a running session `ls` says so, with status 0."""
         self.assertEqual(self.mux("ls"), 0)
         self.assertEqual((self.text.getvalue(), self.said.getvalue()[-22:]), ("", "no session is running\n"))
 
     def test_help(self):
-        """`help` explains all words, or one; --help behind one does too."""
+        """`help` explains all words, or one; --help after one does too."""
         for words in (("help",), ("-h",), ("--help",)):
             before = len(self.text.getvalue())
             self.assertEqual(self.mux(*words), 0)
@@ -614,7 +614,7 @@ class Words(Mux):
         self.assertIn("End a session, a window or a pane, and the programs in it", self.text.getvalue())
 
     def test_help_of_words(self):
-        """The help of a word has the text that argparse would print of the same arguments, at any width; and it is no wider."""
+        """The help of a word has the text that argparse would print for the same arguments, at any width; and it is no wider."""
         for columns in ("48", "61", "80", "132"):
             self.environment(COLUMNS=columns)
             for word in mux.WORDS:
@@ -631,7 +631,7 @@ class Words(Mux):
             self.assertTrue(self.text.getvalue()[before:].startswith("usage: mux ls [-h]\n\nList the sessions.\n"))
 
     def test_unknown_variables(self):
-        """An unknown variable is named in one printable line on standard error, with the one that it is near to; up to four are."""
+        """An unknown variable is named in one printable line on standard error, with the nearest known one; up to four are."""
         hint = " (did you mean ROAM_PREDICT?)"
         for name, line in (("ROAM_GUES", f"ROAM_GUES{hint}"), ("ROAM_PREDICTS", f"ROAM_PREDICTS{hint}"),
                            ("ROAM_PREDCIT", f"ROAM_PREDCIT{hint}"),
@@ -643,7 +643,7 @@ class Words(Mux):
         self.assertEqual([*lines[3:], len(lines)], ["roam: unknown variable ROAM_X3", "roam: unknown variables: 5 more", 5])
 
     def test_unknown_ignored(self):
-        """What was asked for is done; a far end says nothing of variables."""
+        """The request is carried out; a far end prints nothing about variables."""
         self.environment(ROAM_GUES="never")
         self.assertEqual(self.mux("help", "ls"), 0)
         self.assertEqual(self.said.getvalue(), "roam: unknown variable ROAM_GUES (did you mean ROAM_PREDICT?)\n")
@@ -653,14 +653,14 @@ class Words(Mux):
         self.assertEqual(self.said.getvalue().count("ROAM_GUES"), 1)
 
     def test_variables(self):
-        """Each variable that stands in live/ is listed, and each that is listed stands there otherwise too."""
+        """Each variable in live/ is listed, and each listed one is used there."""
         owner = pathlib.Path(TOOLS) / "roam_live/config/environment.py"
         files = [path for path in pathlib.Path(TOOLS).rglob("*") if path.is_file() and "__pycache__" not in path.parts and path != owner]
         found = {name for path in files for name in re.findall(r"\bROAM_[A-Z]+\b", path.read_text(encoding="utf-8", errors="replace"))}
         self.assertEqual(found, {*config_environment.VARIABLES, *config_environment.INTERNAL_VARIABLES})
 
     def test_called(self):
-        """It is called as it was named."""
+        """Messages have the name by which it was called."""
         with mock.patch.object(mux, "CALLED", "roam mux"):
             self.assertEqual(self.mux("help"), 0)
             self.assertTrue(self.text.getvalue().startswith("roam mux [NAME] | COMMAND"))
@@ -681,7 +681,7 @@ class Words(Mux):
         self.assertEqual(mux.asked_by("send", ["-l", "x", "--", "b"]).words, ["--", "b"])
 
     def test_functions(self):
-        """What each word does is there."""
+        """The function of each word exists."""
         for name, word in mux.WORDS.items():
             module, _, function = word.function.partition(".")
             self.assertTrue(callable(getattr(importlib.import_module(f"roam_live.cli.{module}"), function)), name)

@@ -1,4 +1,4 @@
-"""The sockets of a near folder that stand for those at the other machine: who connects there is carried, and panes are followed once."""
+"""The sockets of a near folder that replace those at the other machine: connections are forwarded, and panes are subscribed to once."""
 import os
 import socket
 import unittest
@@ -12,7 +12,7 @@ LINES = b"1 1 1 23 39 1\n2 1 41 23 39 1\nfocus 1\nclients 1 of 64\nwatchers 0 of
 
 
 class Sockets(Case):
-    """A near folder, and a far one whose sockets are played."""
+    """A near folder, and a far one with simulated sockets."""
 
     def setUp(self):
         self.stop_clock()
@@ -27,13 +27,13 @@ class Sockets(Case):
         self.sockets.open()
 
     def make(self):
-        """Both ends of what forwards connections."""
+        """Return both ends of the forwarding transport."""
         self.going = [], []
         self.near = PipeStreams(self.loop, lambda text, _: self.going[0].append(text))
         self.far = PipeStreams(self.loop, lambda text, _: self.going[1].append(text), self.opens)
 
     def opens(self, name):
-        """A connection to a socket of the far folder."""
+        """Return a connection to a socket of the far folder."""
         self.names.append(name)
         if self.is_refused:
             raise ConnectionRefusedError("nobody is there")
@@ -42,7 +42,7 @@ class Sockets(Case):
         return ours
 
     def turn(self, count=1):
-        """Carries what there is, so often."""
+        """Pass all data on, so many times."""
         for _ in range(count):
             self.sockets.wake()
             self.loop.turn()
@@ -52,7 +52,7 @@ class Sockets(Case):
                     other.take(texts.pop(0))
 
     def connect(self, name="panes"):
-        """One who connects there."""
+        """Connect there."""
         one = socket.socket(socket.AF_UNIX, socket.SOCK_STREAM)
         self.addCleanup(one.close)
         one.connect(str(self.folder / name))
@@ -61,20 +61,20 @@ class Sockets(Case):
         return one
 
     def panes(self):
-        """The other machine's end of the connection that follows."""
+        """Return the other machine's end of the subscription."""
         return self.servers["panes"][-1]
 
     def tell(self, text):
-        """Has the other machine's server tell of its panes."""
+        """Send lines about panes from the other machine's server."""
         self.panes().send(text)
         self.turn(4)
 
 
 class Panes(Sockets):
-    """Who follows the panes here."""
+    """The local subscribers to panes."""
 
     def test_once(self):
-        """They are followed there once, and told to all here, who come when they come."""
+        """There is one subscription there, whose lines go to all subscribers here, whenever they come."""
         self.turn(3)
         first = self.connect()
         self.assertEqual((self.names, read_now(first)), (["panes"], b""))
@@ -89,7 +89,7 @@ class Panes(Sockets):
         self.assertEqual(self.names, ["panes"])
 
     def test_nonsense(self):
-        """What can't be told isn't passed on, in whatever chunks it comes, and takes no memory."""
+        """Invalid lines aren't passed on, in whatever chunks they come, and take no memory."""
         self.turn(3)
         one = self.connect()
         self.tell(b"\x1b[2Jfocus 9\nfocus 12\n1 1 1 23 80 1 \n" + b"x" * 30000)
@@ -103,7 +103,7 @@ class Panes(Sockets):
         self.assertLess(len(self.sockets.panes.following.lines.kept), 1 << 16)
 
     def test_lost(self):
-        """Where the connection breaks those here end too; who comes waits, and is told what is so once it is there again."""
+        """If the connection breaks the subscribers here are disconnected too; new ones wait, and get the state once it is back."""
         self.turn(3)
         self.tell(LINES)
         one = self.connect()
@@ -122,7 +122,7 @@ class Panes(Sockets):
         self.assertEqual(read_now(waits), b"3 1 1 23 80 1\nfocus 3\n")
 
     def test_refused(self):
-        """Where the server there takes nobody who comes here is let go, and it is tried again after pauses."""
+        """If the server there accepts nobody, subscribers here are disconnected, and it is retried after pauses."""
         self.is_refused = True
         self.turn(6)
         self.assertEqual(self.names, ["panes"])
@@ -138,7 +138,7 @@ class Panes(Sockets):
         self.assertEqual(read_now(one) or read_now(self.connect()), LINES)
 
     def test_asks(self):
-        """Who asks for something has a connection of its own there, which is told all and answered alone."""
+        """A subscriber with another request gets a connection of its own there, with the whole state and its answers."""
         self.turn(3)
         self.tell(LINES)
         one, other = self.connect(), self.connect()
@@ -156,12 +156,12 @@ class Panes(Sockets):
         self.assertEqual(self.sockets.panes.peers, [])
 
     def asks(self, one, text=b"metadata\n"):
-        """Has one ask for something here."""
+        """Let a peer send a request here."""
         one.send(text)
         self.turn(4)
 
     def test_beside(self):
-        """Pane metadata is asked for there once, and told here to who asks for it: as it is, and what is new."""
+        """Pane metadata has one subscription there, and goes to its subscribers here: the state, and then the changes."""
         self.turn(3)
         self.tell(LINES)
         first, other = self.connect(), self.connect()
@@ -183,7 +183,7 @@ class Panes(Sockets):
         self.assertTrue(read_now(third).endswith(b"of 16\nmodes 1 1 paste\n"))
 
     def test_beside_again(self):
-        """It is asked for again where the connection was lost, and who asks for something else asks for it there too."""
+        """The subscription is repeated after a lost connection, and a subscriber with another request repeats it there too."""
         self.turn(3)
         self.tell(LINES)
         one = self.connect()
@@ -203,7 +203,7 @@ class Panes(Sockets):
         self.assertEqual((self.names, read_now(self.panes())), (["panes"] * 3, b"metadata\nclose 2 1\n"))
 
     def test_clips(self):
-        """Texts for a clipboard are told to who asks for them, the newest once he reads, and to nobody who comes later."""
+        """Texts for a clipboard go to their subscribers, the newest once they read, and to no later ones."""
         self.turn(3)
         self.tell(LINES)
         first, other, slow = self.connect(), self.connect(), self.connect()
@@ -231,7 +231,7 @@ class Panes(Sockets):
         self.assertEqual(read_now(late), LINES.replace(b"focus 1", b"focus 2") + b"modes 1 1 paste\n")
 
     def test_beside_slow(self):
-        """What stands beside lets nobody go: who reads nothing is told the newest once he does, and where the panes are before it."""
+        """Metadata disconnects nobody: a subscriber that reads nothing gets the newest once it does, after the pane positions."""
         self.turn(3)
         self.tell(LINES)
         slow = self.connect()
@@ -250,7 +250,7 @@ class Panes(Sockets):
         self.assertLess(got.index(b"focus 2\n"), got.index(b"title 1 1 000199"))
 
     def test_slow(self):
-        """One who reads nothing is let go once 65,536 bytes wait, and the others are told all the same."""
+        """A subscriber that reads nothing is disconnected once 65,536 bytes wait, and the others still get their lines."""
         self.turn(3)
         self.tell(LINES)
         slow, other = self.connect(), self.connect()
@@ -267,7 +267,7 @@ class Panes(Sockets):
         self.assertTrue(slow)
 
     def test_most(self):
-        """64 follow here, and the 65th is let go."""
+        """64 subscribers are accepted here, and the 65th is disconnected."""
         self.turn(3)
         self.tell(LINES)
         held = [self.connect() for _ in range(MOST_SUBSCRIBERS)]
@@ -276,10 +276,10 @@ class Panes(Sockets):
 
 
 class Others(Sockets):
-    """The sockets from which each connection is carried."""
+    """The sockets with separately forwarded connections."""
 
     def test_carried(self):
-        """Each goes to the socket of its name at the other machine; who comes while nothing carries waits."""
+        """Each connection goes to the socket of its name at the other machine; without a transport it waits."""
         self.turn(2)
         self.carrying = None
         one = self.connect("host")
@@ -291,7 +291,7 @@ class Others(Sockets):
         self.assertEqual((read_now(one), self.names[-1]), (b"others 0\n", "host"))
 
     def test_used(self):
-        """A front end is there while it is connected, or waits until something carries it; one at another socket is none."""
+        """A front end counts while it is connected, or waits for a transport; one at another socket doesn't."""
         self.turn(2)
         panes = self.connect("panes")
         self.assertFalse(self.sockets.is_used())
@@ -310,7 +310,7 @@ class Others(Sockets):
         self.assertEqual((panes.recv(1), one.recv(1), last.recv(1)), (b"",) * 3)
 
     def test_many_wait(self):
-        """So many wait here at most, and others at the socket; all are forwarded once something carries them."""
+        """So many wait here at most, and others at the socket; all are forwarded once there is a transport."""
         self.turn(2)
         self.carrying = None
         held = [self.connect("host") for _ in range(near_sockets.MOST_SUBSCRIBERS + 3)]
@@ -321,7 +321,7 @@ class Others(Sockets):
         self.assertEqual((self.sockets.host.waiting, self.names.count("host")), ([], 63))
 
     def test_most(self):
-        """Whom there is no room for is let go."""
+        """A connection without room is closed."""
         held = []
         for _ in range(62):
             held.append(self.connect("host"))
@@ -330,7 +330,7 @@ class Others(Sockets):
         self.assertEqual(self.connect("host").recv(1), b"")
 
     def test_close(self):
-        """The sockets go, and come again."""
+        """The sockets are removed, and created again."""
         self.turn(3)
         one = self.connect()
         self.sockets.close()
@@ -341,7 +341,7 @@ class Others(Sockets):
         self.assertEqual(sorted(os.listdir(self.folder)), ["host", "panes"])
 
     def test_taken(self):
-        """Where somebody listens there already that is told, and the rest goes on."""
+        """If another process listens there that is reported, and the rest continues."""
         said = self.heard()
         self.sockets.close()
         self.listening(self.folder / "host")

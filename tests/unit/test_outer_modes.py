@@ -1,4 +1,4 @@
-"""What a person's terminal is given beside what is painted there, and has back."""
+"""The modes of a user's terminal beside the painting, and their restoration."""
 import os
 import unittest
 from unittest import mock
@@ -16,7 +16,7 @@ class Given(unittest.TestCase):
         self.addCleanup(patched.stop)
 
     def test_new(self):
-        """What is new is given, the terminal's own title kept before; and all is taken back once."""
+        """Changes are written, after the terminal's own title is saved; everything is restored once."""
         modes = OuterModes()
         self.assertEqual((modes.update("", 0), modes.taken_back()), (b"", b""))
         self.assertEqual(modes.update("vi", 6), TITLE_KEPT + b"\x1b]2;vi\x07\x1b[6 q")
@@ -31,14 +31,14 @@ class Given(unittest.TestCase):
         self.assertEqual(modes.taken_back(), TITLE_BACK + shaped(0))
 
     def test_hostile(self):
-        """Nothing of a title is a control, and none is long."""
+        """A title contains no control, and is short."""
         for title in ("\x1b]52;c;YQ==\x07", "\x07\x1b[c", "\x9b6n\x9c", "\n\r\x7f\x00", "\u202egnp.exe", "a" * 5000, "\ud800"):
             text = titled(title)
             self.assertTrue(text.startswith(b"\x1b]2;") and text.endswith(b"\x07"), text)
             self.assertTrue(text[4:-1].decode().isprintable() and len(text) < 900, text)
 
     def test_console(self):
-        """A console of Linux is given nothing."""
+        """A Linux console gets nothing."""
         with mock.patch.dict(os.environ, TERM="linux"):
             modes = OuterModes()
         self.assertEqual((modes.update("vi", 6), modes.taken_back()), (b"", b""))
@@ -48,7 +48,7 @@ class Clips(Case):
     """Texts for the clipboard."""
 
     def test_whole(self):
-        """One goes whole, however little is taken at once, and the newest of those that came meanwhile behind it."""
+        """A text is written whole, however little is accepted at once, and then the newest later one."""
         reads, writes = self.pipe()
         clip, got = ClipboardWriter(), b""
         clip.set_text("A" * 131072)
@@ -62,7 +62,7 @@ class Clips(Case):
         self.assertEqual((clip.has_begun, clip.taken_back()), (False, b""))
 
     def test_taken_back(self):
-        """Where the terminal is given back one that has begun is ended, and no other begins."""
+        """At the terminal's restoration a begun one is completed, and no other begins."""
         reads, writes = self.pipe()
         clip = ClipboardWriter()
         clip.set_text("YQ==")

@@ -1,4 +1,4 @@
-"""The packages: their lists of files, what they depend on, that two builds are equal, and an installation in a home and its removal."""
+"""The packages: their lists of files, their dependencies, equal builds, and an installation in a home with its removal."""
 import importlib.machinery
 import importlib.util
 import os
@@ -15,13 +15,13 @@ from roam_live.common.process import TOOLS
 TOP = pathlib.Path(TOOLS.parent)
 PACKAGE, NEEDS, VERSION = (str(TOP / "tools" / name) for name in ("package", "needs", "version"))
 
-# A program that is there in any case stands for roam's.
+# A program that always exists replaces roam's.
 PROGRAM = os.path.realpath("/bin/true")
 MOMENT = "1700000000"
 
 
 def loaded_tool(name):
-    """A tool of tools/ as a module."""
+    """Return a tool of tools/ as a module."""
     loader = importlib.machinery.SourceFileLoader(f"tool_{name}", str(TOP / "tools" / name))
     module = importlib.util.module_from_spec(importlib.util.spec_from_loader(loader.name, loader))
     loader.exec_module(module)
@@ -29,12 +29,12 @@ def loaded_tool(name):
 
 
 def printed(*words, **more):
-    """What a command prints."""
+    """Return the output of a command."""
     return subprocess.run(words, stdout=subprocess.PIPE, check=True, text=True, **more).stdout
 
 
 def tree(folder):
-    """The files and folders below a folder, with what is in each."""
+    """Return the files and folders below a folder, with their contents."""
     paths = sorted(pathlib.Path(folder).rglob("*"))
     return {str(path.relative_to(folder)): path.read_bytes() if path.is_file() else b"" for path in paths}
 
@@ -43,7 +43,7 @@ class Packed(Case):
     """Both packages, built here."""
 
     def build(self, kind, umask, program=PROGRAM):
-        """Builds a package with a umask, in a folder of its own, and tells where it is."""
+        """Build a package with a umask, in a folder of its own, and return its path."""
         folder = self.made_folder()
         line = printed("sh", "-c", f"umask {umask}; cd /; exec \"$@\"", "sh", PACKAGE, kind, "--program", program, "--gate", "7 passed, 0 failed",
                        str(folder), env={**os.environ, "SOURCE_DATE_EPOCH": MOMENT})
@@ -54,7 +54,7 @@ class Packed(Case):
         self.assertEqual(printed(PACKAGE, "list"), (TOP / "packaging/files").read_text(encoding="utf-8"))
 
     def test_tarball(self):
-        """Two tarballs are equal, whatever the umask and the moment; each file has its mode, no owner and one moment."""
+        """Two tarballs are equal, whatever the umask and the time; each file has its mode, no owner and one time."""
         one, other = self.build("dist", "022"), self.build("dist", "077")
         self.assertEqual(one.read_bytes(), other.read_bytes())
         with tarfile.open(one) as tar:
@@ -66,7 +66,7 @@ class Packed(Case):
 
     @unittest.skipUnless(shutil.which("dpkg-deb"), "dpkg-deb isn't installed")
     def test_debian(self):
-        """So are two Debian packages; what one depends on is found in the program."""
+        """So are two Debian packages; the dependencies come from the program."""
         one, other = self.build("deb", "022"), self.build("deb", "077")
         self.assertEqual(one.read_bytes(), other.read_bytes())
         fields = printed("dpkg-deb", "-f", str(one))
@@ -80,7 +80,7 @@ class Packed(Case):
         self.assertEqual((folder / "usr/lib/roam/roam").read_bytes(), pathlib.Path(PROGRAM).read_bytes())
 
     def test_home(self):
-        """The tarball is installed into a home, over itself too, and its removal leaves what the user made and nothing else."""
+        """The tarball is installed into a home, also over itself, and its removal leaves the user's files and nothing else."""
         made = self.made_folder()
         with tarfile.open(self.build("dist", "022")) as tar:
             tar.extractall(made)
@@ -97,7 +97,7 @@ class Packed(Case):
         self.assertRegex(printed(str(home / ".local/bin/roam-mux"), "--version", env=known), r"^roam \S+ \(commit ")
         self.assertTrue(list(home.rglob("*.pyc")))
         self.assertEqual([path for path in home.rglob("*.new")], [])
-        # A newer build drops the files that it has no more.
+        # A newer build removes obsolete files.
         gone = home / ".local/lib/roam/roam_live/gone/old.py"
         gone.parent.mkdir()
         gone.write_text("", encoding="ascii")
@@ -110,7 +110,7 @@ class Packed(Case):
         self.assertEqual(tree(home), before)
 
     def test_refused(self):
-        """The installer says why it can't go on: no list, no roam to remove, or a program that doesn't run."""
+        """The installer gives the reason of a failure: no list, no roam to remove, or a program that doesn't run."""
         made = self.made_folder()
         with tarfile.open(self.build("dist", "022", os.path.realpath("/bin/false"))) as tar:
             tar.extractall(made)
@@ -135,10 +135,10 @@ class Packed(Case):
 
 
 class Pages(Case):
-    """What packages rest on in the tree."""
+    """The files of the tree that packages need."""
 
     def test_versions(self):
-        """One version stands in the man pages and in the list of changes."""
+        """The man pages and the list of changes have the same version."""
         self.assertEqual(printed(VERSION, "--check"), "")
 
     def test_copyright(self):
@@ -156,14 +156,14 @@ class Pages(Case):
 
     @unittest.skipUnless(shutil.which("man"), "man isn't installed")
     def test_pages(self):
-        """man has nothing to say of the pages."""
+        """man has no complaints about the pages."""
         for page in sorted((TOP / "docs/man").glob("*.[15]")):
             run = subprocess.run(["man", "--warnings", "-l", str(page)], env={**os.environ, "MANWIDTH": "80"}, stdout=subprocess.DEVNULL,
                                  stderr=subprocess.PIPE, check=True)
             self.assertEqual(run.stderr.decode(), "", page.name)
 
     def test_needs(self):
-        """What is no program is refused."""
+        """A file that is no program is refused."""
         run = subprocess.run([NEEDS, __file__], stdout=subprocess.PIPE, stderr=subprocess.PIPE, check=False)
         self.assertEqual((run.returncode, run.stdout), (1, b""))
         self.assertIn("this is no ELF file for x86-64", run.stderr.decode())

@@ -1,4 +1,4 @@
-"""Where panes are: which one is on a side, which one can be split, and what is told of them."""
+"""Pane positions: neighbours, possible splits, and their reports."""
 import fcntl
 import struct
 import termios
@@ -10,22 +10,22 @@ from aids import Case, comes
 from roam_live.protocol import panes
 from roam_live.protocol.panes import PanesState, Places, Rect
 
-# What is no text for the clipboard.
+# Invalid texts for the clipboard.
 NO_CLIPS = ("Y", "YQ", "YQ=", "YQ===", "=", "====", "YQ==YQ==", "Y-==", "YQ==\n", "YQ==\x07", "\x1b\\\\\\", "?", "\u00e9AAA",
             "A" * 131076, "A" * 131071)
 
-# A pane to the left over all rows, and two beside it, one above the other; their borders lie between.
+# A pane to the left over all rows, and two at its right, one above the other, with borders in between.
 THREE = {1: Rect(1, 1, 23, 39), 2: Rect(1, 41, 11, 40), 3: Rect(13, 41, 11, 40)}
 
-# Four in a square, of which the middle line is lower to the left.
+# Four in a square, with a lower middle line on the left.
 FOUR = {1: Rect(1, 1, 15, 39), 2: Rect(1, 41, 7, 40), 3: Rect(17, 1, 7, 39), 4: Rect(9, 41, 15, 40)}
 
 
 class Labels(Case):
-    """The panes' numbers, as a session's status row has them."""
+    """The panes' numbers in the form of a session's status row."""
 
     def test_labels(self):
-        """In the order of the layout's tree: by the first cut through all of them, and so on in each part."""
+        """They are in the order of the layout's tree: by the first cut through all of them, and so on in each part."""
         beside = {1: Rect(1, 1, 11, 39), 4: Rect(13, 1, 11, 39), 2: Rect(1, 41, 11, 40), 3: Rect(13, 41, 11, 40)}
         above = {1: Rect(1, 1, 11, 80), 2: Rect(13, 1, 11, 20), 4: Rect(13, 22, 11, 20), 3: Rect(13, 43, 11, 38)}
         within = {3: Rect(1, 1, 23, 10), 1: Rect(1, 12, 5, 69), 2: Rect(7, 12, 17, 30), 9: Rect(7, 43, 17, 38)}
@@ -35,16 +35,16 @@ class Labels(Case):
             self.assertEqual(Places(rects, focus).labels(), labels)
 
     def test_none(self):
-        """Rectangles through which no cut goes, as none of a session are, are in the order of their numbers."""
+        """Rectangles without such a cut, which no session has, are in the order of their numbers."""
         pinwheel = {2: Rect(1, 1, 3, 6), 1: Rect(1, 7, 6, 3), 3: Rect(4, 4, 3, 3), 5: Rect(4, 1, 6, 3), 4: Rect(7, 4, 3, 6)}
         self.assertEqual(panes.in_order(pinwheel), [1, 2, 3, 4, 5])
 
 
 class Modes(Case):
-    """Which modes a pane's program has set."""
+    """The modes that a pane's program has set."""
 
     def test_set(self):
-        """It is the newest that is told of this making of the pane, whatever came before it."""
+        """The newest report of this pane generation counts, whatever came before it."""
         told = PanesState()
         steps = [("modes 1 1 sgr paste", False), ("1 1 1 23 80 1", True), ("focus 1", True), ("modes 1 1 sgr", False),
                  ("modes 1 1 paste", True), ("1 1 1 23 40 1", True), ("1 1 1 23 40 2", False), ("modes 1 1 paste", False),
@@ -55,7 +55,7 @@ class Modes(Case):
         self.assertFalse(told.has_set(2, "paste"))
 
     def test_title_and_shape(self):
-        """A title and a shape are the newest that are told of this making of the pane."""
+        """A title and a shape are the newest ones of this pane generation."""
         told = PanesState()
         steps = [("shape 1 1 4", ("", 0)), ("title 1 1 e697a5", ("", 0)), ("1 1 1 23 80 1", ("\u65e5", 4)), ("focus 1", ("\u65e5", 4)),
                  ("shape 1 1 0", ("\u65e5", 0)), ("title 1 1 ff41", ("\ufffdA", 0)), ("title 1 1 ", ("", 0)),
@@ -65,14 +65,14 @@ class Modes(Case):
             self.assertEqual(told.title_and_shape(1), title_and_shape, line)
 
     def test_bells(self):
-        """Each pane that rang is taken once; another making of a pane didn't ring."""
+        """Each pane with a bell is taken once; a bell of another generation doesn't count."""
         told = PanesState()
         for line in ("bell 2 1", "1 1 1 23 39 7", "2 1 41 23 39 1", "focus 1", "bell 2 1", "bell 1 7", "bell 1 7", "bell 1 6"):
             self.assertTrue(told.take(line), line)
         self.assertEqual((told.taken_bells(), told.taken_bells()), ([1, 2], []))
 
     def test_malformed(self):
-        """What is no line of metadata is refused."""
+        """Lines that are no metadata are refused."""
         told = PanesState()
         clips = [f"clip 1 1 {text}" for text in NO_CLIPS] + ["clip 1 1", "clip 1 YQ==", "clip 1 1 YQ== YQ==", "clip 0 1 YQ=="]
         for line in ("modes", "modes 1", "modes 0 1", "modes 1 1  paste", "modes 1 1 " + "a" * 17, "title 1 1 xyz", "title 1 1 4",
@@ -82,7 +82,7 @@ class Modes(Case):
 
 
     def test_clip(self):
-        """A text for the clipboard is base64, of 131,072 characters at most, and taken once; of another making of a pane it is nothing."""
+        """A text for the clipboard is base64, of 131,072 characters at most, and taken once; one of another generation is ignored."""
         told = PanesState()
         for line in ("1 1 1 23 80 1", "focus 1", "clip 1 2 YQ==", "clip 2 1 YQ=="):
             self.assertTrue(told.take(line), line)
@@ -103,7 +103,7 @@ class Sides(Case):
             self.assertEqual(Places(THREE, focus).neighbour(way), pane, (focus, way))
 
     def test_nearest(self):
-        """Of two that touch it is the one nearest to the middle."""
+        """Of two adjacent ones it is the nearest to the middle."""
         steps = {(1, "right"): 2, (1, "down"): 3, (2, "down"): 4, (2, "left"): 1, (3, "right"): 4, (3, "up"): 1, (4, "left"): 1,
                  (4, "up"): 2}
         for (focus, way), pane in steps.items():
@@ -116,7 +116,7 @@ class Sides(Case):
         self.assertEqual(Places(wide, 1).neighbour("down"), 3)
 
     def test_touches(self):
-        """One that lies farther off isn't beside it."""
+        """One at a distance is no neighbour."""
         row = {1: Rect(1, 1, 23, 20), 2: Rect(1, 22, 23, 20), 3: Rect(1, 43, 23, 38)}
         self.assertEqual([Places(row, pane).neighbour("right") for pane in row], [2, 3, None])
         self.assertEqual([Places(row, pane).neighbour("left") for pane in row], [None, 1, 2])
@@ -130,7 +130,7 @@ class Sides(Case):
 
 
 class Splits(Case):
-    """Which pane can be split: each part has two rows, or four columns, and the border lies between."""
+    """Possible splits: each part has two rows, or four columns, with the border in between."""
 
     def test_room(self):
         for rows, cols, way, is_had in ((5, 8, "down", True), (4, 80, "down", False), (2, 9, "right", True), (23, 8, "right", False)):
@@ -145,18 +145,18 @@ class Splits(Case):
 
 
 class Told(Case):
-    """What is told at a socket `panes`."""
+    """The lines at a socket `panes`."""
 
     LINES = ["1 1 1 23 39 1", "2 1 41 23 40 7", "focus 2", "clients 3 of 64", "watchers 2 of 16"]
 
     def told(self, *lines):
-        """What is known after some lines."""
+        """Return the state after some lines."""
         known = PanesState()
         self.taken_lines = [known.take(line) for line in lines]
         return known
 
     def test_lines(self):
-        """Panes come before the focus, and counts behind it; who is told the lines of who knows knows as much."""
+        """Panes come before the focus, and counts after it; the lines of a known state give the same state."""
         known = self.told(*self.LINES)
         wanted = Places({1: Rect(1, 1, 23, 39), 2: Rect(1, 41, 23, 40)}, 2, 3, 2)
         self.assertEqual((known.places(), known.is_whole(), known.lines(), self.taken_lines), (wanted, True, self.LINES, [True] * 5))
@@ -172,14 +172,14 @@ class Told(Case):
         self.assertTrue(known.take("9 gone"))
 
     def test_forged(self):
-        """What can't be told is nothing: another pane, a number that is large or none, more or fewer, an answer."""
+        """Invalid lines change nothing: another pane, a number that is large or none, more or fewer, an answer."""
         for line in ("", "0 1 1 23 80 1", "10 1 1 23 80 1", "1 1 1 23 80", "1 1 1 23 80 1 1", "1 1 1 23 12345 1", "1 1 1 23 x 1",
                      "1 1 1 23 80 " + "1" * 20, "focus 0", "focus 10", "focus", "clients 12345 of 64", "clients", "bad line", "last pane",
                      "1 gone ", " 1 gone", "1  1 1 23 80 1", "focus \u0662", "focus 1\x1b[2J"):
             self.assertEqual((self.told(line).lines(), self.taken_lines), ([], [False]), line)
 
     def asked(self, *chunks, ends=False, seconds=5.0):
-        """What is asked of a server that says so much, chunk by chunk."""
+        """Query a server that sends these chunks."""
         folder = self.made_folder()
         listener = self.listening(folder / "panes")
         listener.settimeout(5)
@@ -188,7 +188,7 @@ class Told(Case):
             with listener.accept()[0] as peer:
                 for chunk in chunks:
                     peer.send(chunk)
-                    # The next one comes once this one was read.
+                    # The next one comes after this one was read.
                     comes(lambda: struct.unpack("i", fcntl.ioctl(peer, termios.TIOCOUTQ, bytes(4))) == (0,), 1.0)
                 while not ends and peer.recv(64):
                     pass
@@ -200,7 +200,7 @@ class Told(Case):
         return found
 
     def test_asked(self):
-        """It is asked once, whatever chunks the answer comes in; a count that isn't told is waited for a moment."""
+        """A single query works, whatever chunks the answer comes in; an unreported count is awaited for a moment."""
         text = "".join(f"{line}\n" for line in self.LINES).encode()
         wanted = Places({1: Rect(1, 1, 23, 39), 2: Rect(1, 41, 23, 40)}, 2, 3, 2)
         self.assertEqual(self.asked(text), wanted)
@@ -210,14 +210,14 @@ class Told(Case):
         self.assertLess(time.monotonic(), begun + 3)
 
     def test_not_told(self):
-        """One that tells nothing, lets go, or isn't there tells nothing in time."""
+        """One that reports nothing, closes, or isn't there gives nothing in time."""
         self.assertIsNone(self.asked(seconds=0.05))
         self.assertIsNone(self.asked(b"1 1 1 23 80 1\n", ends=True))
         self.assertIsNone(self.asked(b"x" * 4096, seconds=0.05))
         self.assertIsNone(panes.asked_places(self.made_folder() / "panes", 0.05))
 
     def test_limits(self):
-        """A server knows 64 clients that edit, and a session has nine panes."""
+        """A server knows 64 read-write clients, and a window has nine panes."""
         self.assertEqual((panes.MOST_CLIENTS, panes.MOST_PANES), (64, 9))
 
 

@@ -1,4 +1,4 @@
-"""Who follows the panes of a server: a connection that the server ends is had again after pauses, and that is told."""
+"""Subscribers of a server's panes: they reconnect after pauses if the server ends the connection, and report that."""
 import contextlib
 import io
 import os
@@ -16,7 +16,7 @@ from roam_live.protocol.panes_client import (AWAITED, LET_GO, NO_PANES, NO_PLACE
 
 
 class Played(unittest.TestCase):
-    """A server of the panes in a folder of its own, and a clock that is set by hand."""
+    """A server of panes in a folder of its own, with a manual clock."""
 
     def setUp(self):
         made = tempfile.TemporaryDirectory()
@@ -34,11 +34,11 @@ class Played(unittest.TestCase):
         self.server = self.taken()
 
     def follows(self):
-        """One who follows, as the pty host does."""
+        """Return a subscriber like the pty host's."""
         return HostSubscription(str(self.path), self.loop, self.heard.extend, self.lose)
 
     def listens(self):
-        """One who listens."""
+        """Return a listening socket."""
         one = socket.socket(socket.AF_UNIX, socket.SOCK_STREAM)
         one.bind(str(self.path))
         one.listen()
@@ -47,33 +47,33 @@ class Played(unittest.TestCase):
         return one
 
     def taken(self):
-        """The server's end of the next connection."""
+        """Return the server's end of the next connection."""
         one = self.listener.accept()[0]
         self.addCleanup(one.close)
         return one
 
     def lose(self):
-        """Takes note that the connection is lost."""
+        """Record a lost connection."""
         self.losses += 1
 
     def turn(self):
-        """The lines of a turn."""
+        """Return the lines of a turn."""
         self.heard.clear()
         self.loop.turn()
         return list(self.heard)
 
     def wait_again(self):
-        """Waits until it is connected to again; how long."""
+        """Wait for the reconnection, and return the delay."""
         wait = self.loop.due["follow panes"][0] - self.now
         self.now = self.loop.due["follow panes"][0]
         return round(wait, 3)
 
 
 class Follows(Played):
-    """The pty host follows."""
+    """The pty host's subscription."""
 
     def test_lines(self):
-        """Lines come in any chunks, and what is asked goes."""
+        """Lines come in any chunks, and requests are sent."""
         self.server.send(b"1 1 1 23 80 1\nfoc")
         self.assertEqual(self.turn(), ["1 1 1 23 80 1"])
         self.server.send(b"us 1\n")
@@ -83,7 +83,7 @@ class Follows(Played):
         self.assertEqual(self.loop.due, {})
 
     def test_quiet(self):
-        """A server that takes the connection and tells nothing is told of once, and that it is over."""
+        """A server that accepts the connection and reports nothing is reported once, and so is its recovery."""
         self.assertEqual([moment for moment, _ in self.loop.due.values()], [self.now + QUIET])
         self.now += QUIET
         for _ in range(3):
@@ -95,7 +95,7 @@ class Follows(Played):
         self.assertEqual((self.subscription.told, self.said.getvalue().count("the server reports its panes again\n")), ("", 1))
 
     def test_let_go(self):
-        """A server that ends each connection is tried after pauses that grow, and that is told once, and that it is over."""
+        """A server that ends each connection is retried after growing pauses, and that is reported once, and so is its recovery."""
         tried = []
         for number in range(9):
             self.server.close()
@@ -117,7 +117,7 @@ class Follows(Played):
         self.assertEqual(self.subscription.faults, 0)
 
     def test_once(self):
-        """One end of a connection that was of use is made good without a word."""
+        """A single end of a good connection causes no message."""
         self.server.send(b"focus 1\n")
         self.turn()
         self.server.close()
@@ -129,7 +129,7 @@ class Follows(Played):
         self.assertEqual(self.said.getvalue(), "")
 
     def test_gone(self):
-        """A server that is gone is known to be; one that takes none now, or for which no descriptor is left, isn't gone."""
+        """A server that is gone is known; a busy one, or one without a free descriptor, isn't gone."""
         self.server.close()
         self.turn()
         for fault, is_gone in ((BlockingIOError(11, "full"), False), (OSError(24, "Too many open files"), False), (None, True)):
@@ -151,7 +151,7 @@ class Follows(Played):
         self.assertFalse(self.subscription.is_gone)
 
     def test_put_out(self):
-        """One that was told something and ended soon is had again after pauses that grow: another host may have ended it."""
+        """A subscriber whose connection ended soon after some lines reconnects after growing pauses: another host may have displaced it."""
         waits = []
         for seconds in (0, 1, 2, 6, 0):
             self.server.send(b"focus 1\n")
@@ -165,7 +165,7 @@ class Follows(Played):
         self.assertEqual(waits, [0.1, 1, 2, 0.1, 1])
 
     def test_host(self):
-        """The server is told that this is the pty host at each connection, before all else."""
+        """The pty host announces itself on each connection, before everything else."""
         self.turn()
         self.server.setblocking(False)
         self.assertEqual(self.server.recv(64), b"host\nmetadata\nqueries\n")
@@ -180,26 +180,26 @@ class Follows(Played):
 
 
 class FrontEnds(Played):
-    """What a front end knows of the panes."""
+    """A front end's knowledge of the panes."""
 
     def follows(self):
-        """A front end's, which says what it can't know."""
+        """Return a front end's subscriber, which reports missing knowledge."""
         self.words, self.changes = [], 0
         self.panes = PanesSubscriber(self.path.parent, self.loop, self.change, self.words.append)
         return self.panes.subscription
 
     def change(self):
-        """Takes note of news."""
+        """Record news."""
         self.changes += 1
 
     def told(self, text):
-        """What is known once the server said this."""
+        """Return the state after the server's text."""
         self.server.send(text)
         self.loop.turns(2)
         return self.panes.places
 
     def test_probed(self):
-        """A refused probe is an answer; one that is lost with its connection has none."""
+        """A refused probe is an answer; one that is lost with its connection gets none."""
         answers = []
         self.told(b"1 1 23 80 1\nfocus 1\n")
         self.panes.probe(lambda: answers.append(1))
@@ -214,7 +214,7 @@ class FrontEnds(Played):
         self.assertEqual(len(self.panes.probes), 4)
 
     def lose_again(self, words=()):
-        """The server ends the connection, by which so much was said, and it is had again."""
+        """Let the server end the connection after these words, and wait for the next one."""
         self.server.close()
         self.loop.turns(2)
         self.assertEqual(self.words, list(words))
@@ -223,7 +223,7 @@ class FrontEnds(Played):
         self.server = self.taken()
 
     def test_lines(self):
-        """Places are known once the focus is, and each that is new is a change; the server is asked for what stands beside, and no more."""
+        """Positions are known once the focus is, and each new one is a change; the front end subscribes to metadata, and no more."""
         self.assertTrue(self.panes.is_awaited())
         self.loop.turns(1)
         self.assertEqual(self.server.recv(64), b"metadata\n")
@@ -239,7 +239,7 @@ class FrontEnds(Played):
         self.assertEqual(self.words, [])
 
     def test_beside(self):
-        """A server is asked for pane metadata, each time; by it a paste has brackets."""
+        """A front end subscribes to pane metadata on each connection, which determines the brackets of a paste."""
         self.lose_again()
         self.loop.turns(2)
         self.assertEqual(self.server.recv(64), b"metadata\n")
@@ -259,7 +259,7 @@ class FrontEnds(Played):
         self.assertTrue(self.panes.knows_modes())
 
     def follow_clips(self):
-        """Has texts for the clipboard be followed, over a connection that is had anew."""
+        """Subscribe to clipboard texts, over a new connection."""
         self.clips = []
         self.panes.follow_clips(lambda text, making: self.clips.append((text, making)))
         self.lose_again()
@@ -267,7 +267,9 @@ class FrontEnds(Played):
         return self.server.recv(64)
 
     def test_clips(self):
-        """Who sets a clipboard asks for texts too, at each connection; one of the pane in focus is told on, with its making, once."""
+        """A front end that sets a clipboard subscribes to texts too, on each connection; one of the focused pane is passed on once, with
+        its generation.
+        """
         self.panes.subscription.ask("before")
         self.assertEqual(self.follow_clips(), b"metadata\nclipboard\n")
         self.told(b"1 1 1 23 40 7\n2 1 42 23 39 1\nfocus 1\nclip 1 7 YQ==\n")
@@ -288,7 +290,7 @@ class FrontEnds(Played):
         self.assertEqual((self.server.recv(64), self.panes.making(1)), (b"metadata\nclipboard\n", ""))
 
     def test_clips_refused(self):
-        """One that lets go who asks for texts is followed without, and asked again a minute later."""
+        """If clipboard texts cause disconnects, they are left out, and requested again a minute later."""
         self.follow_clips()
         self.lose_again()
         self.loop.turns(1)
@@ -299,7 +301,7 @@ class FrontEnds(Played):
         self.assertEqual(self.server.recv(64), b"clipboard\n")
 
     def test_bells(self):
-        """Each pane that rang is told on, whether or not it has the focus; a bell of another making isn't."""
+        """Each pane with a bell is passed on, focused or not; a bell of another generation isn't."""
         rung = []
         self.panes.rings = rung.append
         self.told(b"1 1 1 23 40 7\n2 1 42 23 39 1\nfocus 1\nbell 1 7\nbell 2 1\nbell 2 2\n")
@@ -308,7 +310,7 @@ class FrontEnds(Played):
         self.assertEqual(rung, [1, 2, 2])
 
     def test_let_go(self):
-        """While nobody tells them the places aren't known; what comes next is told all anew."""
+        """Without reports the positions are unknown; the next connection reports everything anew."""
         self.told(b"1 1 1 23 80 1\nfocus 1\n")
         self.lose_again()
         self.assertEqual((self.panes.places, self.changes, self.panes.is_full()), (None, 2, False))
@@ -316,7 +318,7 @@ class FrontEnds(Played):
         self.assertEqual(self.words, [])
 
     def test_quiet(self):
-        """A server that tells nothing is waited for without a word; for ten seconds it is taken that it will."""
+        """A server without reports is awaited silently; for ten seconds a report is expected."""
         self.now += AWAITED - 0.1
         self.assertTrue(self.panes.is_awaited())
         self.now += 0.2
@@ -324,7 +326,7 @@ class FrontEnds(Played):
         self.assertEqual((self.panes.is_awaited(), self.words, self.loop.due), (False, [], {}))
 
     def test_once(self):
-        """Who isn't let in is told so once, and tried for after pauses."""
+        """A refused subscriber reports that once, and retries after pauses."""
         for number in range(6):
             self.lose_again([NO_PLACE] * (number >= 2))
         self.assertFalse(self.panes.is_awaited())
@@ -334,7 +336,7 @@ class FrontEnds(Played):
         self.assertIsNotNone(self.panes.places)
 
     def test_told_and_let_go(self):
-        """A server without a place tells all and lets go then: who met that goes by it once the connection has stood for a second."""
+        """A full server sends everything and then disconnects: after that a connection is trusted once it has lasted for a second."""
         for number in range(5):
             self.server.send(b"1 1 1 23 80 1\nfocus 1\n")
             self.loop.turns(1)
@@ -349,7 +351,7 @@ class FrontEnds(Played):
         self.assertEqual(len(self.panes.places.rects), 2)
 
     def test_gone(self):
-        """Where nobody tells the panes that is said once; also where what is told can't be read."""
+        """If nobody reports the panes that is reported once; the same for unreadable reports."""
         self.listener.close()
         self.server.close()
         self.loop.turns(2)
@@ -365,6 +367,6 @@ class FrontEnds(Played):
         self.assertEqual((self.words, self.panes.places), ([], None))
 
     def test_nowhere(self):
-        """Without a folder nothing is followed, and nothing awaited."""
+        """Without a folder there is no subscription, and nothing is awaited."""
         alone = PanesSubscriber(None, self.loop, self.change, self.words.append)
         self.assertEqual((alone.is_awaited(), alone.places, alone.subscription.peer, self.words), (False, None, None, []))

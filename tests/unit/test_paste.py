@@ -1,4 +1,4 @@
-"""What a person pastes: as acts where it is short, and else handed to the pty host, with a placeholder typed in its place."""
+"""Pastes: as acts if short, else stored at the pty host, with a placeholder typed in their place."""
 import unittest
 from unittest import mock
 
@@ -18,38 +18,38 @@ LONG = "x" * (SHORT + 1)
 
 
 class Line(ClientLink):
-    """What is typed, a line each time."""
+    """Records the typed lines."""
 
     def type(self, *acts, is_pasted=False):
-        """Keeps acts, and whether they were pasted."""
+        """Record acts, with the flag for pasted ones."""
         self.lines.append(("paste ; " if is_pasted else "") + " ; ".join(acts))
 
 
 class PlayedHost:
-    """What the host is asked for, and what it tells is told by hand."""
+    """Records requests to the host, whose answers are sent by hand."""
 
     def __init__(self):
         self.takes, self.stored, self.cancelled, self.answers, self.room = True, {}, [], None, None
 
     def takes_texts(self):
-        """Whether it takes texts."""
+        """Return True if it accepts texts."""
         return self.takes
 
     def store(self, name, data):
-        """Keeps what is given."""
+        """Record a stored text."""
         self.stored[name] = data
 
     def has_room(self, length):
-        """Whether so many bytes more may wait."""
+        """Return True if so many more bytes may wait."""
         return self.room is None or length <= self.room
 
     def cancel(self, name):
-        """Keeps what isn't given any more."""
+        """Record a cancelled text."""
         self.cancelled.append(name)
 
 
 class Handed(Case):
-    """Pastes with a host that is played."""
+    """Pastes with a simulated host."""
 
     def setUp(self):
         self.loop, self.link, self.host, self.said = StillLoop(lambda: self.now), Line(), PlayedHost(), []
@@ -61,26 +61,26 @@ class Handed(Case):
         self.patch_of(paste, "random_name", side_effect=lambda: next(self.names))
 
     def paste(self, text, why=""):
-        """Pastes a text."""
+        """Paste a text."""
         self.intake.begin(why)
         self.intake.add(text[:3])
         self.intake.add(text[3:])
         self.intake.end()
 
     def tell(self, number, word, more=""):
-        """Has the host tell of a text."""
+        """Report about a text."""
         self.host.answers(f"{number:016x}", word, more)
 
     def placeholder(self, number):
-        """The line that types a placeholder."""
+        """Return the line that types a placeholder."""
         return " ; ".join(["paste", *placeholder_acts(f"{number:016x}")])
 
     def spread_line(self, number, pane):
-        """The line that types a placeholder in another pane than the third."""
+        """Return the line that types a placeholder in another pane than the third."""
         return " ; ".join(["paste", f"focus {pane}", *placeholder_acts(f"{number:016x}"), "focus 3"])
 
     def test_spread(self):
-        """What is pasted in several panes is handed over for each, and each has a placeholder of its own; a C-c drops what waits of it."""
+        """A paste in several panes is stored for each, with a placeholder of its own; C-c drops the waiting ones."""
         self.intake.spreads = lambda: [3, 1, 2]
         self.paste("ab")
         self.assertEqual(self.host.stored, {f"{number:016x}": b"ab" for number in (1, 2, 3)})
@@ -95,7 +95,7 @@ class Handed(Case):
         self.assertEqual(self.said, [DROPPED])
 
     def test_unspread(self):
-        """Where the pty host takes no texts, or not so many, the pane in focus has it alone, which is told."""
+        """If the pty host accepts no texts, or not so many, only the focused pane gets it, with a message."""
         self.intake.spreads = lambda: [3, 1]
         for takes, room, why in ((False, None, paste.NO_TEXTS), (True, 3, NO_ROOM)):
             self.host.takes, self.host.room = takes, room
@@ -108,7 +108,7 @@ class Handed(Case):
         self.assertEqual((self.link.lines, self.said), (["paste ; char 61 ; char 62"], [paste.ALONE.format(paste.NO_TEXTS)]))
 
     def test_short(self):
-        """Up to 40 characters go as acts, between brackets where the program wants them; one more is handed over."""
+        """Up to 40 characters are typed as acts, bracketed if the program wants that; a longer paste is stored."""
         self.paste("a\r\nb\x1b\tc")
         self.panes.brackets = True
         self.paste("ab")
@@ -120,7 +120,7 @@ class Handed(Case):
         self.assertEqual((SHORT, HANDING, ENDS), (40, 60.0, 5.0))
 
     def test_modes_unknown(self):
-        """Where it isn't told here whether the program wants brackets, as of another machine's, a short one is handed over too."""
+        """If bracketed paste is unknown here, as for a remote session, a short one is stored too."""
         self.panes.knows = False
         self.paste("ab")
         self.assertEqual((self.link.lines, list(self.host.stored.values())), ([], [b"ab"]))
@@ -131,7 +131,7 @@ class Handed(Case):
         self.assertEqual(self.link.lines, ["paste ; char 61 ; char 62", "paste ; char 63 ; char 64"])
 
     def test_held(self):
-        """The placeholder is typed once the text is held, and what was typed behind it after that; other pastes in their order."""
+        """The placeholder is typed once the text is stored, and later input after that; other pastes in order."""
         self.paste(LONG)
         self.pastes.type("char 61")
         self.paste(LONG)
@@ -149,7 +149,7 @@ class Handed(Case):
         self.assertEqual(self.said, [LOST_WORDS])
 
     def test_together(self):
-        """What is typed together stays so, and behind a paste that waits."""
+        """Acts typed together stay together, also after a waiting paste."""
         self.pastes.type_together("focus 2", "char 61")
         self.paste(LONG)
         self.pastes.type("char 62")
@@ -159,7 +159,7 @@ class Handed(Case):
         self.assertEqual(self.link.lines[1:], [self.placeholder(1), "char 62", "focus 1 ; char 63"])
 
     def test_lost_before_stored(self):
-        """One that is lost before it is held is told of, and nothing is typed of it."""
+        """A text lost before it is stored is reported, and nothing of it is typed."""
         self.paste(LONG)
         self.pastes.type("char 61")
         self.tell(1, "lost")
@@ -168,8 +168,9 @@ class Handed(Case):
         self.assertEqual(len(self.said), 1)
 
     def test_refused(self):
-        """What is refused is told in words, and what was typed behind it is dropped, since it may mean something else alone: keys, and
-        pastes, up to the act that moves the focus, and no other acts."""
+        """A refusal is reported with its reason, and later input is dropped, since it may mean something else alone: keys, and pastes, up
+        to the act that moves the focus. Other acts stay.
+        """
         self.paste(LONG)
         self.pastes.type("char 61")
         self.pastes.type_together("size 24 80")
@@ -185,12 +186,12 @@ class Handed(Case):
                                                             [f"{1:016x}", f"{2:016x}"]))
         self.tell(3, "stored")
         self.assertEqual(self.link.lines[4:], [self.placeholder(3)])
-        # The focus is elsewhere since.
+        # The focus has moved meanwhile.
         self.pastes.type("char 64")
         self.assertEqual((self.link.lines[5:], self.pastes.behind), (["char 64"], 0))
 
     def test_refused_just_now(self):
-        """So are keys for a second after that was told; not C-c, nor what follows it, a paste, or an act that moves the focus."""
+        """So are keys for a second after that report; not C-c and its successors, a paste, or an act that moves the focus."""
         why = "not pasted: it is lost"
         for acts, typed in ((["char 3"], ["char 3"]), (["next"], ["next"]), (["focus 1", "char 66"], ["focus 1 ; char 66"]),
                             (["view 3", "char 66"], ["view 3"])):
@@ -209,7 +210,7 @@ class Handed(Case):
             self.link.lines.clear(), self.said.clear()
 
     def test_outage(self):
-        """The time of an outage doesn't count, nor that in which this process was stopped."""
+        """The time of an outage doesn't count, nor that of a stop of this process."""
         self.paste(LONG)
         self.pastes.type("char 61")
         for is_cut, seconds in ((False, 50), (True, 3600), (False, 9)):
@@ -220,14 +221,13 @@ class Handed(Case):
         self.assertEqual((self.link.lines, self.said), ([], [BEHIND_IT.format(NOT_TAKEN)]))
 
     def wait(self, seconds):
-        """Lets seconds pass, one by one."""
+        """Let seconds pass, one by one."""
         for _ in range(seconds):
             self.now += 1
             self.loop.do_due()
 
     def test_later(self):
-        """One for which there is no room yet is waited for, and what was typed behind it too: that is told, and after 60 seconds why
-        nothing came of it."""
+        """A paste without room yet waits, with later input: that is reported, and after 60 seconds the failure is too."""
         for is_stored in (True, False):
             self.link.lines.clear()
             self.said.clear()
@@ -245,7 +245,7 @@ class Handed(Case):
             self.assertEqual((self.link.lines, self.said[1:]), ([], [BEHIND_IT.format("not pasted: 64 texts wait to be pasted")]))
 
     def test_not_taken(self):
-        """A host that takes nothing for 60 seconds is told of, and what was typed behind it is dropped."""
+        """A host that accepts nothing for 60 seconds is reported, and later input is dropped."""
         self.paste(LONG)
         self.pastes.type("char 61")
         self.wait(59)
@@ -256,8 +256,9 @@ class Handed(Case):
         self.assertEqual((self.link.lines, self.loop.due, HANDING), ([], {}, 60.0))
 
     def test_interrupted(self):
-        """A C-c that is typed behind pastes that wait drops them and all keys between and behind them, and is typed itself; one that is
-        pasted drops nothing. What moves the focus, or sizes the session, is done."""
+        """A C-c typed after waiting pastes drops them and all keys between and after them, and is typed itself; a pasted one drops nothing.
+        Acts on the focus or the size are done.
+        """
         self.paste(LONG)
         self.pastes.type("char 61")
         self.pastes.type("next", "char 61")
@@ -272,7 +273,8 @@ class Handed(Case):
         self.assertEqual((self.loop.due, self.host.cancelled), ({}, [f"{1:016x}", f"{2:016x}"]))
 
     def test_interrupted_sent(self):
-        """So goes what of pastes the start hasn't read, and of a text whose placeholder is dropped nothing is awaited any more."""
+        """The same applies to the part of pastes that the client hasn't read, and a text with a dropped placeholder is no longer awaited.
+        """
         self.link.drop_pasted = mock.Mock(return_value=["paste ; char 61", self.spread_line(7, 2), self.placeholder(8), "char 62"])
         self.pastes.type("char 61")
         self.assertEqual((self.link.drop_pasted.call_count, self.said), (0, []))
@@ -280,7 +282,7 @@ class Handed(Case):
         self.assertEqual((self.host.cancelled, self.said, self.link.lines[1:]), ([f"{7:016x}", f"{8:016x}"], [DROPPED], ["char 3"]))
 
     def test_interrupted_stored(self):
-        """That holds too where the host holds a later paste, which the first alone keeps back: nothing of it is typed."""
+        """The same holds if the host has stored a later paste that only waits for the first: nothing of it is typed."""
         self.paste(LONG)
         self.paste(LONG)
         self.pastes.type("char 61")
@@ -296,14 +298,14 @@ class Handed(Case):
         self.assertEqual(self.link.lines[1:], [self.placeholder(4)])
 
     def test_no_host(self):
-        """Where no host takes texts a long one goes as acts too."""
+        """If no host accepts texts a long one is typed as acts too."""
         self.panes.brackets, self.host.takes = True, False
         self.paste(LONG)
         acts = [*BRACKETS[0], *["char 78"] * len(LONG), *BRACKETS[1]]
         self.assertEqual(self.link.lines, ["paste ; " + " ; ".join(acts)])
 
     def test_dropped(self):
-        """Nothing of one is typed where it is told why, as it begins or ends; it takes no memory meanwhile."""
+        """A paste with a reason against it, at its beginning or end, isn't typed; it takes no memory meanwhile."""
         self.intake.begin("not here")
         self.intake.add(LONG)
         self.assertEqual(self.intake.chunks, [])
@@ -317,7 +319,7 @@ class Handed(Case):
         self.assertEqual((self.said, self.link.lines, self.host.stored), (["not here", "not now", "not then"], [], {}))
 
     def test_unended(self):
-        """One of which nothing more comes for five seconds is typed; what comes later is a paste of its own."""
+        """A paste without further input for five seconds is typed; later input is a paste of its own."""
         self.intake.begin()
         self.intake.add("ab")
         self.now += ENDS
@@ -328,7 +330,7 @@ class Handed(Case):
         self.assertEqual(self.link.lines, ["paste ; char 61 ; char 62", "paste ; char 63"])
 
     def test_too_long(self):
-        """More than 16 MB is told of, and not kept; so is what is that long in UTF-8, or with what waits."""
+        """More than 16 MB is reported, and not stored; so is a text that long in UTF-8, or with the waiting ones."""
         self.assertEqual((paste.MOST_BYTES, MOST_UNSENT), (1 << 24, 1 << 25))
         self.patch_of(paste, "MOST_BYTES", 1000)
         for text, before in (("x" * 1001, 0), ("\u4e2d" * 500, 0), ("x" * 990, 1)):
@@ -344,7 +346,7 @@ class Handed(Case):
         self.assertEqual((self.said[3:], len(self.host.stored)), ([TOO_LONG], 2))
 
     def test_full(self):
-        """So many keys are typed behind one before others are dropped, which is told: not C-c, which drops all, nor other acts."""
+        """So many keys wait after a paste before others are dropped, which is reported: not C-c, which drops all, nor other acts."""
         self.paste(LONG)
         self.pastes.type(*["char 61"] * (MOST_BEHIND - 1))
         self.assertFalse(self.pastes.is_full())
@@ -365,7 +367,7 @@ class Handed(Case):
 
 
 class Given(Sockets):
-    """Texts that a front end's connection gives to the host."""
+    """Texts that a front end's connection stores at the host."""
 
     def setUp(self):
         super().setUp()
@@ -376,13 +378,13 @@ class Given(Sockets):
         self.names = [f"{number:016x}" for number in range(5)]
 
     def turn(self, count=16):
-        """Turns of both."""
+        """Take turns of both."""
         for _ in range(count):
             self.made_link.loop.turn()
             self.loop.turn()
 
     def test_given(self):
-        """A text is held, and put; what isn't known here is nothing."""
+        """A text is stored and inserted; reports of unknown texts do nothing."""
         link = self.made_link
         self.assertTrue(link.takes_texts())
         link.store(self.names[0], b"text" * 50000)
@@ -396,7 +398,7 @@ class Given(Sockets):
         self.assertEqual(len(self.told), 2)
 
     def test_refused(self):
-        """One that is refused is told with the words of the host."""
+        """A refusal is reported with the words of the host."""
         self.turn()
         with mock.patch.object(self.socket.uploads.texts, "refusal", return_value="none is taken"):
             self.made_link.store(self.names[0], b"text")
@@ -404,7 +406,7 @@ class Given(Sockets):
         self.assertEqual((self.told, self.made_link.unstored), ([(self.names[0], "refused", "none is taken")], {}))
 
     def test_no_room(self):
-        """Those for which the host has no room are given again, one after the other, until it has."""
+        """Texts without room at the host are sent again, one by one, until there is room."""
         link, names = self.made_link, self.names
         self.turn()
         for refusal in FULL:
@@ -433,7 +435,7 @@ class Given(Sockets):
             self.turn()
 
     def test_no_room_at_the_next(self):
-        """A host that is there again is given all that waits at once; who doesn't want a text any more keeps none back."""
+        """A host that is back gets all waiting texts at once; cancelled texts delay none."""
         link, names = self.made_link, self.names
         self.turn()
         with mock.patch.object(self.socket.uploads.texts, "refusal", return_value=FULL[0]):
@@ -458,7 +460,7 @@ class Given(Sockets):
         self.assertEqual((self.told[6:], link.is_full), ([(names[4], "stored", "")], False))
 
     def test_lost(self):
-        """Where the connection is lost a text is given again until it is held; of one that was held it is asked then."""
+        """After a lost connection a text is sent again until it is stored; for a stored one its status is requested."""
         link = self.made_link
         self.turn()
         link.store(self.names[0], b"one")
@@ -475,7 +477,7 @@ class Given(Sockets):
         self.assertEqual(self.socket.uploads.texts.texts[self.names[1]].data, b"two" * 100000)
 
     def test_another_host(self):
-        """What one before held, or was given, is lost to another host, which isn't given it."""
+        """Texts that an earlier host had are lost to another host, which doesn't get them."""
         self.turn()
         self.made_link.store(self.names[0], b"one")
         self.turn()
@@ -492,7 +494,7 @@ class Given(Sockets):
         self.assertEqual(self.told[3:], [(self.names[2], "stored", "")])
 
     def test_none(self):
-        """A socket that ends the connection before it tells anything takes no text, which is told at once."""
+        """A socket that ends the connection before any report accepts no text, which is reported at once."""
         folder = self.made_folder()
         listener = self.listening(folder / "host")
         link = LinkedClient(folder, StillLoop(lambda: self.now), lambda: (24, 80), False, lambda: None)
@@ -505,7 +507,7 @@ class Given(Sockets):
         self.assertEqual((self.told, link.takes_texts(), link.unstored), ([(self.names[0], NO_HOST, "")], False, {}))
 
     def test_cancelled(self):
-        """One that isn't wanted any more isn't given again, nor at all where nothing of it was sent; what was begun of it goes on."""
+        """A cancelled text isn't sent again, nor at all if nothing of it was sent; a half-sent one continues."""
         link, names = self.made_link, self.names
         self.turn()
         for name, data in zip(names, (b"one", b"two", 7)):
@@ -524,22 +526,22 @@ class Given(Sockets):
 
 
 class Persons(unittest.TestCase):
-    """What a person at a terminal pastes where it means something else."""
+    """Pastes of a user at a terminal in other modes."""
 
     def person(self, **more):
-        """A person who is shown a session."""
+        """Return a user who sees a session."""
         person = Person(24, 80, told=places(24, 80), **more)
         person.answers()
         return person
 
     def test_read_only(self):
-        """At a terminal that watches nothing is pasted, and it says so."""
+        """At a read-only terminal nothing is pasted, with a message."""
         person = self.person(is_read_only=True)
         acts = person.types(b"\x1b[200~ab\x1b[201~")
         self.assertEqual((acts, person.display.row.told), ([], "not pasted: this terminal is read-only"))
 
     def test_asked(self):
-        """At a question a paste is a no, and nothing of it is typed, nor an answer."""
+        """At a question a paste declines, and nothing of it is typed, nor counts as an answer."""
         person = self.person()
         person.commands.acts.ask("close it? y closes it", ClosePane(0))
         self.assertEqual(person.types(b"\x1b[200~y"), [])
@@ -553,7 +555,7 @@ class Persons(unittest.TestCase):
         self.assertEqual((person.types(b"\x1b[201~"), person.display.row.told), (["char 61", "char 62"], ""))
 
     def test_paused(self):
-        """Where no start is there nothing is pasted, which is told; what is in it neither leaves nor is a key."""
+        """Without a client nothing is pasted, which is reported; keys in the paste neither leave nor count."""
         person = self.person()
         person.commands.acts.paused = True
         self.assertEqual(person.types(b"\x1b[200~q\x03\x1b[201~"), [])

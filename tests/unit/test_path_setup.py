@@ -1,4 +1,4 @@
-"""Asking for an encrypted path: names, keys and notes; a process that outlives its command; and where the other end is looked for."""
+"""The setup of an encrypted path: names, keys and notes; a process that outlives its command; and lookups of the other end."""
 import errno
 import gc
 import os
@@ -21,7 +21,7 @@ from test_aead_packets import Foolish
 
 
 class Asks(Case):
-    """What a near end asks for, and what is told of a path."""
+    """A near end's requests, and the answers about a path."""
 
     def setUp(self):
         self.environment(ROAM_UDP=None, SSH_CONNECTION=None)
@@ -30,13 +30,13 @@ class Asks(Case):
         self.folder = self.made_folder()
 
     def end(self):
-        """A UDP socket."""
+        """Return a UDP socket."""
         end = udp_end()
         self.addCleanup(end.close)
         return end
 
     def test_wanted(self):
-        """A path is wanted, but where the environment says never, and where the library lacks."""
+        """A path is wanted unless the environment says never or the library is missing."""
         self.assertTrue(is_wanted())
         for word, wanted in (("never", False), ("", True), ("always", True)):
             self.environment(ROAM_UDP=word)
@@ -50,7 +50,7 @@ class Asks(Case):
         self.assertEqual(end.fileno(), -1)
 
     def test_name(self):
-        """A name is 8 bytes of chance, kept in the folder; one that can't be read is made anew; where none can be written there is one."""
+        """A name is 8 random bytes, stored in the folder; an unreadable one is replaced; if none can be written there still is one."""
         name = kept_name(str(self.folder))
         self.assertEqual((len(name), kept_name(str(self.folder))), (8, name))
         self.assertEqual((self.folder / "name").read_text(encoding="ascii"), name.hex())
@@ -64,14 +64,14 @@ class Asks(Case):
         self.assertNotEqual(kept_name(None), kept_name(None))
 
     def test_wish(self):
-        """What is asked for has a version and a name; another version is no wish."""
+        """A request has a version and a name; another version is no request."""
         self.assertEqual(wish(b"12345678"), b"w\x0112345678")
         self.assertEqual(name_in(wish(b"12345678")), b"12345678".hex())
         for text in (b"w", b"w\x02" + bytes(8), b"w\x01" + bytes(7), b"w\x01" + bytes(9), b"w" + bytes(9)):
             self.assertEqual(name_in(text), "", text)
 
     def test_told(self):
-        """The far end tells version, port, key and the address to which the command came; the near end's path is to there."""
+        """The far end reports version, port, key and the address that the command came to; the near end's path goes there."""
         self.environment(SSH_CONNECTION="10.0.0.1 4000 10.0.0.2 22")
         end = udp_end((60999, 60998, 60997))
         self.addCleanup(end.close)
@@ -88,7 +88,7 @@ class Asks(Case):
         self.assertNotEqual(made_path(end)[1], made_path(end)[1])
 
     def test_told_wrong(self):
-        """A path of another version, of a port that no far end takes, or cut, is none; nor is one where no socket is had."""
+        """A path of another version, of an invalid port, or cut, is none; nor is one without a socket."""
         right = AEAD_HEAD.pack(b"s", 1, 60000, bytes(32))
         for text in (b"s", right[:-1], AEAD_HEAD.pack(b"s", 2, 60000, bytes(32)), AEAD_HEAD.pack(b"s", 1, 53, bytes(32)),
                      AEAD_HEAD.pack(b"s", 1, 61001, bytes(32))):
@@ -100,14 +100,14 @@ class Asks(Case):
         self.assertEqual(near.address, "")
 
     def test_address(self):
-        """An address is one of either family; a name that another machine chose is none."""
+        """An address is one of either family; a name chosen by another machine is none."""
         for word in ("10.0.0.2", "::1", "fe80::1%eth0"):
             self.assertEqual(address_in(word.encode()), word)
         for word in (b"", b"host.example", b"10.0.0", b"\xff\xfe", b"::1 ", b"%eth0"):
             self.assertEqual(address_in(word), "", word)
 
     def test_takes_over(self):
-        """A newer far end of a near end ends the one before, and notes itself; notes of ended ones are removed."""
+        """A newer far end of a near end ends the one before, and records itself; notes of ended ones are removed."""
         notes = self.folder / "relays"
         before, other = self.process(), self.process()
         notes.mkdir()
@@ -125,7 +125,7 @@ class Asks(Case):
         self.assertTrue((notes / "cd").exists())
 
     def test_takes_over_refused(self):
-        """A process that has another begin isn't ended, nor is one that can't be opened; what can't be written is told of."""
+        """A process with another start time isn't ended, nor is one that can't be opened; a failed write is reported."""
         notes = self.folder / "relays"
         other = self.process()
         notes.mkdir()
@@ -143,7 +143,7 @@ class Asks(Case):
         self.assertIn("ab: No space left on device", said.getvalue())
 
 
-# A process that parts from its command, and tells who it is, until it is told to let the command go.
+# A process that detaches from its command, and prints its pid, until it is asked to release the command.
 PARTS = """
 import os, signal, sys
 sys.path.insert(0, sys.argv[1])
@@ -159,10 +159,10 @@ signal.pause()
 
 
 class Parted(Case):
-    """A process that goes on where the command has ended."""
+    """A process that continues after the command's end."""
 
     def test_parted(self):
-        """The other goes on in a session of its own, and the first ends once it is let go, and not before."""
+        """The other one continues in a session of its own, and the first ends once it is released, and not before."""
         first = self.process(sys.executable, "-c", PARTS, str(TOOLS), stdin=subprocess.PIPE, stdout=subprocess.PIPE)
         self.addCleanup(first.stdin.close)
         self.addCleanup(first.stdout.close)
@@ -170,7 +170,7 @@ class Parted(Case):
         self.addCleanup(os.kill, process, signal.SIGKILL)
         self.assertEqual((process, process == first.pid), (session, False))
         self.assertEqual(sorted(os.listdir(f"/proc/{first.pid}/fd"))[:3], ["0", "1", "2"])
-        # The other may tell who it is before the first has closed what it doesn't hold.
+        # The other may print its pid before the first has closed its descriptors.
         self.assertTrue(comes(lambda: len(os.listdir(f"/proc/{first.pid}/fd")) == 4))
         self.assertIsNone(first.poll())
         first.stdin.write(b"x")
@@ -179,7 +179,7 @@ class Parted(Case):
         self.assertTrue(pathlib.Path(f"/proc/{process}").exists())
 
     def test_killed(self):
-        """Where the other is killed the first ends too."""
+        """If the other one is killed the first ends too."""
         first = self.process(sys.executable, "-c", PARTS, str(TOOLS), stdin=subprocess.PIPE, stdout=subprocess.PIPE)
         self.addCleanup(first.stdin.close)
         self.addCleanup(first.stdout.close)
@@ -187,8 +187,8 @@ class Parted(Case):
         self.assertEqual(first.wait(10), 0)
 
     def test_refused(self):
-        """Where the system refuses a pipe or a process, none is made."""
-        # What other tests left is closed before.
+        """If the system refuses a pipe or a process, there is none."""
+        # Leftovers of other tests are closed first.
         gc.collect()
         before = len(os.listdir("/proc/self/fd"))
         with mock.patch("os.pipe", side_effect=OSError(errno.EMFILE, "no")):
@@ -198,7 +198,7 @@ class Parted(Case):
         self.assertEqual(len(os.listdir("/proc/self/fd")), before)
 
     def test_hidden(self):
-        """The memory of a process that has a key isn't its user's other programs' to read."""
+        """The user's other programs can't read the memory of a process with a key."""
         text = "import sys; sys.path.insert(0, sys.argv[1]); from roam_live.relay.path_setup import hide_memory; hide_memory(); " \
                "import ctypes; print(ctypes.CDLL(None).prctl(3, 0, 0, 0, 0))"
         ran = subprocess.run([sys.executable, "-c", text, str(TOOLS)], stdout=subprocess.PIPE, check=True)
@@ -207,7 +207,7 @@ class Parted(Case):
             path_setup.hide_memory()
 
     def test_hidden_where_processes_are(self):
-        """Where /proc hides what a user may not read core files alone are kept from it: its user has to find it there."""
+        """If /proc hides unreadable processes only core files are turned off, since its user has to find it there."""
         mounts = self.made_folder() / "mountinfo"
         for options, hides in (("rw", False), ("rw,hidepid=0", False), ("rw,hidepid=off", False), ("rw,gid=9,hidepid=2", True),
                                ("rw,hidepid=invisible", True)):
@@ -225,7 +225,7 @@ class Parted(Case):
 
 
 class Finds(Case):
-    """Where the other end is looked for."""
+    """Lookups of the other end."""
 
     def setUp(self):
         self.stop_clock()
@@ -236,24 +236,24 @@ class Finds(Case):
         self.finder = Finder("host")
 
     def places_of(self, host, port, family):
-        """Where a host is said to be."""
+        """Return the simulated addresses of a host."""
         self.held.wait(10)
         self.asked.append((host, port, family))
         return [(host, port), ("both", port)]
 
     def path(self, address="10.0.0.2"):
-        """A near end's path."""
+        """Return a near end's path."""
         end = udp_end()
         self.addCleanup(end.close)
         return NearPath(AeadPackets(Foolish(b""), True), end, 60000, address)
 
     def look(self, path):
-        """Looks, and waits for what is found."""
+        """Begin a lookup, and wait for the result."""
         self.finder.look(path)
         self.finder.search.join(10)
 
     def test_found(self):
-        """All places of both words are known, each once; it is looked again each 30 s while the path is silent."""
+        """All addresses of both words are known, each once; the lookup repeats every 30 s while the path is silent."""
         path = self.path()
         self.look(path)
         self.assertEqual(path.places, [("host", 60000), ("both", 60000), ("10.0.0.2", 60000)])
@@ -270,7 +270,7 @@ class Finds(Case):
         self.assertEqual(len(self.asked), 4)
 
     def test_one_at_a_time(self):
-        """While a search goes on no other begins, however many paths another machine tells of; and for each a second passes."""
+        """During a lookup no other begins, however many paths another machine reports; and each costs a second."""
         self.held.clear()
         path = self.path("")
         self.finder.look(path)
@@ -288,7 +288,7 @@ class Finds(Case):
         self.assertEqual(len(self.asked), 2)
 
     def test_refused(self):
-        """Where the system refuses a thread it is tried again."""
+        """If the system refuses a thread it is tried again."""
         with mock.patch("threading.Thread.start", side_effect=RuntimeError("can't start new thread")):
             self.finder.look(self.path())
         self.assertEqual(self.asked, [])
@@ -298,7 +298,7 @@ class Finds(Case):
         self.assertTrue(path.places)
 
     def test_many(self):
-        """Of many places some are called."""
+        """Of many addresses some are called."""
         self.patch_of(path_setup, "places_of", side_effect=lambda host, port, family: [(str(number), port) for number in range(999)])
         path = self.path()
         self.look(path)

@@ -1,10 +1,10 @@
-"""What live/ matches and searches: each use of `re` and of an escape is listed with what it reads, and no other is there."""
+"""Matches and searches in live/: each use of `re` and of an escape is listed with its purpose, and there is no other."""
 import patterns
 from aids import Case
 
 
 class Patterns(Case):
-    """What `tests/unit/list_patterns` lists."""
+    """The list of `tests/unit/list_patterns`."""
 
     def test_listed(self):
         printed = self.printed()
@@ -12,7 +12,7 @@ class Patterns(Case):
         self.assertFalse(any("painted" in reads or "painting" in reads for reads in patterns.KNOWN.values()))
 
     def test_found(self):
-        """What isn't listed is found, however it is written, and what isn't there any more."""
+        """Unlisted uses are found in any spelling, and so are obsolete entries."""
         folder = self.made_folder()
         self.patch_of(patterns, "LIVE", folder)
         texts = {

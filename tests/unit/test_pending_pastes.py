@@ -1,4 +1,4 @@
-"""Texts that are given to the pty host, and put at the places of their placeholders."""
+"""Texts that are stored at the pty host, and inserted at their placeholders."""
 import os
 import random
 import re
@@ -23,15 +23,15 @@ NAME, OTHER = "0123456789abcdef", "fedcba9876543210"
 
 
 def placeholder(name):
-    """The bytes of a placeholder, as its acts type them."""
+    """Return the bytes of a placeholder, as its acts type them."""
     return "".join(chr(int(act.removeprefix("char "), 16)) for act in placeholder_acts(name)).encode()
 
 
 class Texts(unittest.TestCase):
-    """What of a text is typed."""
+    """The typed part of a text."""
 
     def test_cleaned(self):
-        """LF and CR LF become CR; of the other control characters TAB stays alone, and ESC where it is kept."""
+        """LF and CR LF become CR; of the other control characters only TAB stays, and ESC on request."""
         every = "".join(map(chr, range(0x120)))
         kept = "".join(chr(code) for code in range(0x120) if code == 9 or code == 13 or 0x20 <= code < 0x7F or code >= 0xA0)
         self.assertEqual(cleaned(every.replace("\n", "")), kept)
@@ -39,7 +39,7 @@ class Texts(unittest.TestCase):
         self.assertEqual(cleaned("a\r\nb\nc\rd\n\re\r\r\n"), "a\rb\rc\rd\r\re\r\r")
 
     def test_brackets(self):
-        """No bracket is left, in any of its forms, nor one that others were taken out of."""
+        """No bracket remains, in any of its forms, nor one that forms once others are removed."""
         for begin in (b"\x1b[", b"\xc2\x9b", b"\x9b"):
             for kind in (b"200~", b"201~"):
                 one = begin + kind
@@ -52,7 +52,7 @@ class Texts(unittest.TestCase):
             self.assertIsNone(re.search(rb"(\x1b\[|\x9b)20[01]~", without_brackets(text)), text)
 
     def test_placeholder(self):
-        """A placeholder stands in a line that is taken whole, and is one name of 64 bits by chance."""
+        """A placeholder is in a line that is taken whole, and is one random name of 64 bits."""
         self.assertEqual(placeholder(NAME), b"\xc2\x9f0123456789abcdef\xc2\x9c")
         self.assertEqual(placeholder_acts(NAME)[:2] + placeholder_acts(NAME)[-1:], ["char 9f", "char 30", "char 9c"])
         self.assertLessEqual(len(placeholder_acts(NAME)) + 3, 32)
@@ -61,10 +61,10 @@ class Texts(unittest.TestCase):
 
 
 class Found(unittest.TestCase):
-    """Marks in what is typed."""
+    """Placeholders in the input."""
 
     def found(self, chunks):
-        """The bytes and the names of chunks, joined where nothing is between."""
+        """Return the bytes and the names in chunks, with adjacent bytes joined."""
         placeholders, parts = Placeholders(), [b""]
         for chunk in chunks:
             for place, part in enumerate(placeholders.fed(chunk)):
@@ -75,7 +75,7 @@ class Found(unittest.TestCase):
         return parts, placeholders.rest
 
     def test_cut(self):
-        """They are found wherever what is typed is cut, and nothing else is changed."""
+        """They are found wherever the input is cut, and nothing else is changed."""
         text = b"a" + placeholder(NAME) + "\u00e9\u00b0".encode() + placeholder(OTHER) + placeholder(NAME) + b"\xc2\x9fz"
         wanted = [b"a", NAME.encode(), "\u00e9\u00b0".encode(), OTHER.encode(), b"", NAME.encode(), b"\xc2\x9fz"]
         for first in range(len(text) + 1):
@@ -84,7 +84,7 @@ class Found(unittest.TestCase):
         self.assertEqual(self.found([bytes([byte]) for byte in text]), (wanted, b""))
 
     def test_others(self):
-        """C2 9F with anything else behind is handed on as it was typed; what may be a placeholder waits for what follows."""
+        """C2 9F with other successors passes unchanged; a possible placeholder waits for the rest."""
         whole = placeholder(NAME)
         for text in (whole[:5] + b"x", whole[:-2] + b"x", whole[:-1] + b"x", whole[:-2] + b"0" + whole[-2:], whole.upper(), b"\xc2\x9c",
                      b"\x9f" + whole[2:], b"\xc2\x9f\x1b", whole.replace(b"a", b"g")):
@@ -111,7 +111,7 @@ class Unread(Case):
         self.pane.terminal = self.master
 
     def write(self, *names):
-        """Writes what the terminal takes, of texts of these names too."""
+        """Write as much as the terminal accepts, with texts of these names."""
         for name in names:
             self.texts.spent.clear()
             self.texts.take(PendingPaste.of(name, b"line of a text\n" * 4000, False))
@@ -120,7 +120,7 @@ class Unread(Case):
             self.queue.write(self.master)
 
     def test_dropped(self):
-        """What it hasn't read of a text is dropped there, and the interrupt comes at once; what it wrote stays."""
+        """The unread part of a text is dropped there, and the interrupt arrives at once; the written part stays."""
         for change in (lambda modes: modes, tty.raw):
             termios.tcsetattr(self.slave, termios.TCSANOW, change(termios.tcgetattr(self.slave)))
             os.write(self.slave, b"written")
@@ -135,7 +135,7 @@ class Unread(Case):
         self.assertEqual(read_now(self.slave), CLOSES + b"\x03")
 
     def test_ahead(self):
-        """What is typed ahead isn't dropped where no text was, nor once the program has read those that were."""
+        """Input typed ahead isn't dropped without a text, nor once the program has read the texts."""
         termios.tcsetattr(self.slave, termios.TCSANOW, tty.raw(termios.tcgetattr(self.slave)))
         self.queue.take(b"ahead\x03")
         self.write()
@@ -153,7 +153,7 @@ class Unread(Case):
         self.assertEqual(read_now(self.slave), b"ahead\x03")
 
     def test_refused(self):
-        """Where the other end can't be opened the interrupt comes behind what is there."""
+        """If the other end can't be opened the interrupt comes after the existing input."""
         self.write(NAME)
         with mock.patch.object(pane.fcntl, "ioctl", side_effect=OSError(25, "none")):
             self.queue.take(b"\x03")
@@ -161,7 +161,7 @@ class Unread(Case):
 
 
 class Queues(Case):
-    """What waits for a pane's programs, at a pipe."""
+    """The input queue of a pane's programs, at a pipe."""
 
     def setUp(self):
         self.loop, self.told = StillLoop(lambda: self.now), []
@@ -171,11 +171,11 @@ class Queues(Case):
         self.reader, self.writer = self.pipe()
 
     def give(self, name, data, is_plain=False):
-        """Gives a text."""
+        """Store a text."""
         self.texts.take(PendingPaste.of(name, data, is_plain))
 
     def written(self):
-        """What the programs read until nothing waits."""
+        """Return the programs' input until the queue is empty."""
         got = b""
         while self.queue:
             self.queue.write(self.writer)
@@ -183,7 +183,7 @@ class Queues(Case):
         return got
 
     def stuff(self):
-        """Has the programs' input be full."""
+        """Fill the programs' input."""
         os.set_blocking(self.writer, False)
         try:
             while True:
@@ -192,7 +192,7 @@ class Queues(Case):
             pass
 
     def test_put(self):
-        """A text is put at its placeholder, once, between brackets where the program wants them as it begins."""
+        """A text is inserted at its placeholder, once, bracketed if the program wants that at its beginning."""
         self.give(NAME, b"two\rlines")
         self.queue.take(b"a" + placeholder(NAME) + b"b" + placeholder(NAME) + b"c")
         self.assertEqual((self.told, self.texts.state(NAME)), ([(NAME, INSERTED)], INSERTED))
@@ -205,19 +205,19 @@ class Queues(Case):
         self.assertEqual(self.written(), b"text")
 
     def test_plain(self):
-        """A plain one has no brackets, and one between brackets has none in it."""
+        """A plain one has no brackets, and a bracketed one has none inside."""
         self.give(NAME, b"text", True)
         self.give(OTHER, b"\x1b[20\x1b[201~1~\x1b[mtext")
         self.queue.take(placeholder(NAME) + placeholder(OTHER))
         self.assertEqual(self.written(), b"text" + OPENS + b"\x1b[mtext" + CLOSES)
 
     def test_unknown(self):
-        """A placeholder of which no text is known is nothing, and what is typed round it stays."""
+        """The placeholder of an unknown text gives nothing, and the input around it stays."""
         self.queue.take(b"a" + placeholder(NAME) + b"b")
         self.assertEqual((self.written(), self.told), (b"ab", []))
 
     def test_one_after_another(self):
-        """Texts go one after the other, each whole, with what was typed between, whatever is taken at a time."""
+        """Texts come in sequence, each whole, with the input in between, whatever amount is taken at a time."""
         self.give(NAME, b"1" * 200000)
         self.give(OTHER, b"2" * 200000)
         for byte in b"a" + placeholder(NAME) + b"b" + placeholder(OTHER) + b"c":
@@ -225,7 +225,7 @@ class Queues(Case):
         self.assertEqual(self.written(), b"a" + OPENS + b"1" * 200000 + CLOSES + b"b" + OPENS + b"2" * 200000 + CLOSES + b"c")
 
     def test_interrupted(self):
-        """C-c drops the rest of a paste, and the keys between and behind pastes; open brackets are closed, and no character is cut."""
+        """C-c drops the rest of a paste, and the keys between and after pastes; open brackets are closed, and no character is cut."""
         for count in range(40):
             queue, waiting = TypedQueue(self.texts, lambda: True), "\u4e2d\u00e9x".encode() * 5
             for name in (NAME, OTHER):
@@ -248,7 +248,7 @@ class Queues(Case):
             self.assertLessEqual(len(text), 1 + count + 12 + 3 + 6, count)
 
     def test_interrupt_read(self):
-        """Where the programs have read all texts what was typed ahead of it stays, and what was typed before the first that waits."""
+        """If the programs have read all texts, input typed ahead stays, and so does input before the first waiting text."""
         asked = []
         self.queue.drops_unread = lambda behind: bool(asked.append(behind))
         self.queue.take(b"ls\r\x03")
@@ -266,7 +266,7 @@ class Queues(Case):
         self.assertEqual((self.texts.texts, self.queue.typed, bool(self.queue)), ({}, 0, False))
 
     def test_interrupt_unread(self):
-        """Where they haven't all is dropped; a bracket ends one that had some, while the program wants them."""
+        """If the programs haven't read all it is dropped; a bracket closes a partly read one, while the program wants them."""
         for wants, before in ((True, CLOSES), (False, b"")):
             self.wants, self.queue.drops_unread = True, lambda behind: True
             self.texts.spent.clear()
@@ -286,7 +286,7 @@ class Queues(Case):
             self.assertEqual(self.written(), b"\x03")
 
     def test_typed_room(self):
-        """What is typed behind a text waits to 65,536 bytes, as before; the text doesn't count."""
+        """Input after a text waits up to 65,536 bytes, as before; the text doesn't count."""
         self.give(NAME, b"1" * 300000)
         self.assertTrue(self.queue.take(b"x" * 65530 + placeholder(NAME) + b"y" * 6))
         self.assertFalse(self.queue.take(b"z"))
@@ -296,7 +296,7 @@ class Queues(Case):
         self.assertTrue(self.queue.take(b"z"))
 
     def test_gone(self):
-        """Where nobody is there any more nothing waits, and no room is taken."""
+        """Once the pane is gone nothing waits, and no room is taken."""
         self.give(NAME, b"1" * 300000)
         self.queue.take(placeholder(NAME) + b"x")
         self.queue.write(self.writer)
@@ -313,7 +313,7 @@ class Queues(Case):
         self.assertEqual(list(self.queue.parts), [placeholder(OTHER)[5:]])
 
     def test_unread(self):
-        """A text that programs don't read for 60 seconds is dropped, and while they read it isn't; brackets that are open are closed."""
+        """A text that programs don't read for 60 seconds is dropped, but not while they read; open brackets are closed."""
         self.give(NAME, b"1" * 300000)
         self.give(OTHER, b"2")
         self.queue.take(placeholder(NAME) + placeholder(OTHER) + b"x")
@@ -334,21 +334,21 @@ class Queues(Case):
 
 
 def taken(got, waiting, count):
-    """A program that reads so many bytes."""
+    """Simulate a program that reads so many bytes."""
     got += waiting[:count]
     del waiting[:count]
     return True
 
 
 class Waiting(Case):
-    """What waits, and what is spent."""
+    """Waiting texts, and finished ones."""
 
     def setUp(self):
         self.loop, self.told = StillLoop(lambda: self.now), []
         self.texts = PendingPastes(SessionState(), self.loop, lambda name, word: self.told.append((name, word)))
 
     def test_states(self):
-        """A text waits for 60 seconds, and is lost then; a name of which nothing is known is lost."""
+        """A text waits for 60 seconds, and then is lost; an unknown name is lost."""
         self.assertEqual((self.texts.state(NAME), self.loop.wait_time()), (LOST, None))
         self.texts.take(PendingPaste.of(NAME, b"text", False))
         self.assertEqual((self.texts.state(NAME), self.loop.wait_time()), (STORED, KEPT))
@@ -360,7 +360,7 @@ class Waiting(Case):
         self.assertEqual((self.told, self.texts.state(NAME), self.texts.placed(NAME)), ([(NAME, LOST)], LOST, None))
 
     def test_room(self):
-        """16 MB wait together, those that are put too until they are read, and 64 texts; above it that is told in words."""
+        """16 MB wait together, including inserted ones until they are read, and 64 texts; beyond that a message gives the reason."""
         self.assertEqual((MOST_BYTES, MOST_TEXTS, KEPT, MOST_SPENT), (1 << 24, 64, 60.0, 1024))
         self.texts.take(PendingPaste.of(NAME, bytes(MOST_BYTES - 10), False))
         self.assertEqual((self.texts.refusal(10, 0), self.texts.refusal(11, 0)), ("", TOO_LONG))
@@ -381,10 +381,10 @@ class Waiting(Case):
 
 
 class Given(Sockets):
-    """Texts that are given at the socket."""
+    """Texts that are uploaded at the socket."""
 
     def test_given(self):
-        """A text is held once all of it came, however it is cut; what becomes of it is told to who gave it, or asked."""
+        """A text is stored once all of it has arrived, however it is cut; its fate is reported to its senders and to peers that asked."""
         text = f"paste {NAME} 9\ntwo\nlineswho\n".encode()
         for cut in range(len(text)):
             one = self.connect(text[:cut])
@@ -398,7 +398,7 @@ class Given(Sockets):
             self.loop.turns(2)
 
     def test_asked(self):
-        """Who comes again asks; one that isn't known is lost, as to another host."""
+        """A peer that returns asks; an unknown text is lost, as with another host."""
         self.connect(f"paste {NAME} 1 plain\nx".encode()).close()
         one = self.connect(f"status {NAME}\nstatus {OTHER}\n".encode())
         self.assertEqual(read_now(one), f"stored {NAME}\nlost {OTHER}\n".encode())
@@ -407,7 +407,7 @@ class Given(Sockets):
         self.assertEqual(read_now(one), f"inserted {NAME}\n".encode())
 
     def test_again(self):
-        """A text that is given again is held once, and one that was put isn't put again."""
+        """A repeated text is stored once, and an inserted one isn't inserted again."""
         one = self.connect(f"paste {NAME} 1\nxpaste {NAME} 1\nx".encode())
         self.assertEqual((read_now(one), len(self.socket.uploads.texts.texts)), (f"stored {NAME}\n".encode() * 2, 1))
         self.socket.uploads.texts.drop(self.socket.uploads.texts.placed(NAME))
@@ -415,7 +415,7 @@ class Given(Sockets):
         self.assertEqual((read_now(one), self.socket.uploads.texts.texts), (f"inserted {NAME}\ninserted {NAME}\n".encode(), {}))
 
     def test_refused(self):
-        """What has no room is refused in words, its bytes are passed over, and the connection goes on."""
+        """A text without room is refused with a reason, its bytes are skipped, and the connection continues."""
         self.connect(f"paste {OTHER} {MOST_BYTES - 5}\n".encode())
         one = self.connect(f"paste {NAME} 6\n123456paste {NAME} 5\n12345".encode())
         self.assertEqual(read_now(one), f"refused {NAME} 16 MB wait to be pasted\nstored {NAME}\n".encode())
@@ -423,7 +423,7 @@ class Given(Sockets):
         self.assertIsNotNone(self.socket.peers[1].upload)
 
     def test_bad(self):
-        """What is no such line is told so."""
+        """An invalid line is reported as such."""
         one = self.connect()
         for line in (f"paste {NAME} 0", f"paste {NAME}", f"paste {NAME} 1 plainly", f"paste {NAME.upper()} 1", f"paste {NAME[1:]} 1",
                      f"paste {NAME} -1", f"paste {NAME} 1000000000", f"status {NAME}0", "status"):
@@ -431,7 +431,7 @@ class Given(Sockets):
             self.assertEqual(read_now(one), b"bad line\n", line)
 
     def test_stalled(self):
-        """Who gives half of a text, and nothing for 60 seconds, is let go, and takes no room; so is it with who leaves."""
+        """A peer that sends half of a text, and nothing for 60 seconds, is disconnected, and uses no room; the same for one that leaves."""
         one = self.connect(f"paste {NAME} {MOST_BYTES}\nhalf".encode())
         self.assertEqual(self.socket.uploads.coming(False), MOST_BYTES)
         self.now += KEPT - 1
@@ -447,7 +447,7 @@ class Given(Sockets):
         self.assertEqual((self.socket.uploads.coming(False), self.loop.due), (0, {}))
 
     def test_chance(self):
-        """Whatever comes, in whatever chunks, is taken or told to be no line, or its sender let go; nothing is kept without bound."""
+        """Any input, in any chunks, is taken or refused as a line, or ends its connection; no queue is unbounded."""
         chance = random.Random(11)
         words = (b"give ", NAME.encode(), b" 7", b" 700", b" plain", b"\n", b"\n", b"who", b"here a 1 2 read-write", b"status ",
                  b"commands",
@@ -467,7 +467,7 @@ class Given(Sockets):
         self.assertEqual((self.socket.peers, self.socket.uploads.coming(False)), ([], 0))
 
     def test_names(self):
-        """Of 64 texts at most one is told what becomes of them."""
+        """A peer gets reports about at most 64 texts."""
         one = self.connect(b"".join(f"status {number:016x}\n".encode() for number in range(100)))
         self.assertEqual((read_now(one).count(b"lost"), len(self.socket.peers[0].names)), (100, 64))
 

@@ -1,4 +1,4 @@
-"""What a screen shows as it is told: its cells, and the picture of them; and what a painting shows, by a table of widths."""
+"""The contents of a screen record: its cells, and their picture; and of a painting, by a table of widths."""
 import io
 import unittest
 import xml.etree.ElementTree
@@ -17,14 +17,14 @@ PLACE = "{http://www.w3.org/2000/svg}"
 
 
 def cells_of(text):
-    """The cells that a text shows."""
+    """Return the cells that a text shows."""
     cells = PaintedCells()
     cells.fed(text)
     return cells
 
 
 def rows_of(cells):
-    """The rows that cells show, without the spaces at their ends."""
+    """Return the rows that cells show, without trailing spaces."""
     rows = [""] * max(row for row, _ in cells.cells)
     for (row, col), (letter, _) in sorted(cells.cells.items(), key=lambda item: item[0]):
         rows[row - 1] = rows[row - 1].ljust(col - 1) + letter
@@ -32,7 +32,7 @@ def rows_of(cells):
 
 
 def shown_by(text):
-    """The same cells as they are told, with right halves of wide characters."""
+    """Return the same cells in the form of a record, with right halves of wide characters."""
     painted = cells_of(text)
     last = [max((place[side] for place in painted.cells), default=1) for side in (0, 1)]
     shown = ShownCells(*last)
@@ -45,12 +45,12 @@ def shown_by(text):
 
 
 class Told(Case):
-    """The cells of a screen as a client process tells it."""
+    """The cells of a screen as a client process sends them."""
 
     SCREEN = "2 4 1 3 hidden\n\x1b[0;1ma\x1f\x1b[0;1;31m\u4e2d\x1f\x1f\x1b[0m \n \x1fe\u0301\x1f\x1b[0m\x1b[38;2;1;2;3mz\x1f\x1b[m \n"
 
     def test_decode(self):
-        """Each has its style, which SGR before a cell changes from that of the one before, and the default is before the first."""
+        """Each has its style, which the SGR before a cell changes from that of the cell before; the first starts from the default."""
         shown = screen_cells.cells_of(self.SCREEN.encode())
         bold, red, plain = Style(frozenset({"bold"})), Style(frozenset({"bold"}), 1), Style()
         self.assertEqual([shown.cells[1, col] for col in range(1, 5)], [("a", bold), ("\u4e2d", red), ("", red), (" ", plain)])
@@ -82,13 +82,13 @@ class Shown(Case):
             cells.fed("x")
 
     def test_saved(self):
-        """A front end's own line, between DECSC and DECRC, leaves the cursor and the style where they were."""
+        """A front end's own line, between DECSC and DECRC, keeps the cursor and the style."""
         cells = cells_of("\x1b[2;3H\x1b[1mab\x1b7\x1b[?7l\x1b[5;1H\x1b[0;7m[1]\x1b[0m\x1b[?7h\x1b8c")
         self.assertEqual("".join(letter for letter, _ in cells.cells.values()), "ab[1]c")
         self.assertEqual(cells.cells[2, 5], ("c", Style(frozenset({"bold"}))))
 
     def test_widths(self):
-        """A wide character takes two columns, and what has no width joins the one before."""
+        """A wide character takes two columns, and a zero-width one joins the one before."""
         self.assertEqual([width_of(letter) for letter in "a\u4e2d\uff21\u0301\u200d\u20dd\u00e9"], [1, 2, 2, 0, 0, 0, 1])
         cells = cells_of("\x1b[1;1Hxyz\x1b[1;2H\u4e2d\u0301b\x1b[2;1He\u0301\x1b[3;1H\u0301")
         found = {place: letter for place, (letter, _) in cells.cells.items()}
@@ -100,13 +100,13 @@ class Shown(Case):
         self.assertEqual("".join(letter for letter, _ in cells.cells.values()), "q\u2500\u2502\u250c\u2514\u2518\u2510q")
 
     def test_rows(self):
-        """Rows as tmux captures them: a style goes on into the next."""
+        """Rows in tmux's form: a style continues into the next."""
         cells = cells_of_rows(["\x1b[1mab", "c"])
         self.assertEqual(cells.cells[2, 1], ("c", Style(frozenset({"bold"}))))
         self.assertEqual(cells.cells[1, 2][0], "b")
 
     def test_scroll_paint(self):
-        """Rows go up and down between margins, the rest of a row is erased, and CUP may lack its column."""
+        """Rows scroll up and down between margins, the rest of a row is erased, and CUP may omit its column."""
         cells = PaintedCells()
         cells.fed("\x1b[1Haa\x1b[2Hbb\x1b[3Hcc\x1b[4Hdd")
         cells.fed("\x1b[1;3r\x1b[3H\n\x1b[r\x1b[3Hee")
@@ -115,7 +115,7 @@ class Shown(Case):
         self.assertEqual(rows_of(cells), ["b", "ff", "", "cc"])
 
     def test_styles(self):
-        """The numbers of SGR, as ECMA-48 and xterm have them."""
+        """The SGR numbers of ECMA-48 and xterm."""
         plain = Style()
         flags = ((1, "bold"), (2, "faint"), (3, "italic"), (4, "underline"), (5, "blink"), (7, "reverse"), (8, "conceal"), (9, "strike"))
         for number, flag in flags:
@@ -157,13 +157,13 @@ class Colours(Case):
         self.assertEqual((len(picture.SIXTEEN), max(map(max, picture.SIXTEEN))), (16, 255))
 
     def test_sixteen(self):
-        """The sixteen are those of VS Code's terminal, but for blues that a dark ground leaves legible, and white."""
+        """The sixteen are those of VS Code's terminal, except for blues that stay legible on a dark background, and white."""
         known = ((0, 0, 0), (205, 49, 49), (13, 188, 121), (229, 229, 16), (188, 63, 188), (17, 168, 205), (229, 229, 229), (102, 102, 102),
                  (241, 76, 76), (35, 209, 139), (245, 245, 67), (214, 112, 214), (41, 184, 219))
         self.assertEqual([picture.mixture(index, None) for index in (0, 1, 2, 3, 5, 6, 7, 8, 9, 10, 11, 13, 14)], list(known))
 
     def test_flags(self):
-        """Reverse swaps, conceal hides, faint lies halfway to the background."""
+        """Reverse swaps, conceal hides, and faint is halfway to the background."""
         red, green = (200, 0, 0), (0, 100, 50)
         for flags, found in (((), ("#c80000", "#006432")), (("reverse",), ("#006432", "#c80000")), (("conceal",), ("#006432", "#006432")),
                              (("faint",), ("#643219", "#006432")), (("bold",), ("#c80000", "#006432")),
@@ -173,10 +173,10 @@ class Colours(Case):
 
 
 class Drawn(Case):
-    """The elements of a picture: a cell is 8 wide and 17 high, and 8 stay free all round."""
+    """The elements of a picture: a cell is 8 wide and 17 high, with a margin of 8."""
 
     def elements(self, text):
-        """The elements of the picture of a text, behind the two of its ground."""
+        """Return the elements of a text's picture, after the two of its background."""
         tree = xml.etree.ElementTree.fromstring(picture.picture(shown_by(text + "\x1b[?25l")))
         self.size = tree.get("width"), tree.get("height"), tree.get("viewBox"), tree[0].get("width"), tree[0].get("height")
         return [(one.tag.removeprefix(PLACE), dict(one.attrib), one.text) for one in tree[1]]
@@ -191,7 +191,7 @@ class Drawn(Case):
         self.assertEqual([cursor.get(name) for name in ("x", "y", "width", "height")], ["32", "25", "8", "17"])
 
     def test_texts(self):
-        """Latin signs stand together where no two columns are free between them; each other sign stands alone."""
+        """Latin characters form one text unless two columns are free between them; each other character is alone."""
         found = self.elements("\x1b[1;1Hab  cd e\x1b[2;3H\u03b1\u03b2x&<")
         places = [(one["x"], one["y"], text, one.get("textLength")) for tag, one, text in found]
         self.assertEqual(places, [("8", "21", "ab", "16"), ("40", "21", "cd e", "32"), ("24", "38", "\u03b1", None),
@@ -213,19 +213,19 @@ class Drawn(Case):
         self.assertEqual(found[7][1]["x"], "48")
 
     def test_runs(self):
-        """A run is of neighbours in one row with one style."""
+        """A run consists of neighbours in one row with one style."""
         found = picture.runs(shown_by("\x1b[1;1Ha\u4e2db\x1b[1;6Hc\x1b[1;7H\x1b[1md\x1b[2;1He"))
         self.assertEqual([(row, [col for col, letter in places if letter]) for row, _, places in found],
                          [(1, [1, 2, 4]), (1, [6]), (1, [7]), (2, [1])])
 
     def test_wide_ground(self):
-        """What is behind a wide character, and a line below it, is two columns wide."""
+        """The background and the underline of a wide character are two columns wide."""
         found = self.elements("\x1b[44;4m\u4e2d")
         self.assertEqual([(tag, one.get("width"), one.get("d")) for tag, one, _ in found],
                          [("rect", "16", None), ("text", None, None), ("path", None, "M8 23.5h16")])
 
     def test_boxes(self):
-        """The strokes of a sign for boxes go from the middle of its cell to its sides."""
+        """The strokes of a box-drawing character go from the middle of its cell to its sides."""
         ends = {"l": "H8", "r": "H16", "u": "V8", "d": "V25"}
         sides = {"\u2500": "lr", "\u2502": "ud", "\u250c": "rd", "\u2510": "ld", "\u2514": "ru", "\u2518": "lu", "\u251c": "rud",
                  "\u2524": "lud", "\u252c": "lrd", "\u2534": "lru", "\u253c": "lrud"}
@@ -250,10 +250,10 @@ class Drawn(Case):
 
 
 class Tool(Case):
-    """live/picture as it is called."""
+    """live/picture as a command."""
 
     def run_with(self, *words, text=b""):
-        """Its status and what it printed."""
+        """Return its status and its output."""
         self.words("picture", *words)
         self.patch("sys.stdin", io.TextIOWrapper(io.BytesIO(text)))
         printed = self.printed()
@@ -274,7 +274,7 @@ class Tool(Case):
         self.assertEqual((way.exception.code, "name a server by its directory" in said.getvalue()), (2, True))
 
     def test_told(self):
-        """The client of the terminals in a folder is asked, where one is there; else one of its own, which has ten seconds and ends."""
+        """It asks the client process in a folder, if there is one; else one of its own, which has ten seconds and ends."""
         self.stop_clock()
         folder = self.made_folder()
         home = Home(folder=str(folder))

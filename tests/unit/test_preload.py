@@ -1,4 +1,4 @@
-"""What a front end loads, and when: first what shows something, then the rest, and what few need as they first use it."""
+"""The imports of a front end over time: first for the display, then the rest, and rare modules on first use."""
 import ast
 import pathlib
 import subprocess
@@ -15,16 +15,16 @@ from test_app import Fronts
 
 LIVE = pathlib.Path(late_modules.__file__).resolve().parents[2]
 
-# So many modules of roam the words of mux load, a front end before it shows something, and in all before a key is typed.
+# The most modules of roam that the words of mux load, a front end before its display, and in all before a key is typed.
 MOST = {"roam_live.cli.attaching": 45, "roam_live.frontend.follow": 65, "roam_live.frontend.app": 105}
 
-# What no tool loads that a person waits for.
+# Modules that no tool loads while a user waits.
 SLOW = {"argparse", "base64", "collections", "contextlib", "dataclasses", "enum", "functools", "json", "pathlib", "re", "shlex", "signal", "socket",
         "subprocess", "tempfile", "threading", "traceback", "typing", "urllib"}
 
 
 def at_once(path):
-    """The modules that a module imports where it is loaded."""
+    """Return the modules that a module imports when it is loaded."""
     found = []
     for node in ast.parse(path.read_text(encoding="utf-8")).body:
         if isinstance(node, ast.Import):
@@ -35,16 +35,16 @@ def at_once(path):
 
 
 class Modules(Case):
-    """Which modules those are."""
+    """The loaded modules."""
 
     def loaded(self, name):
-        """The modules that a process has which imports one."""
+        """Return the modules of a process that imports one."""
         text = f"import sys; sys.path.insert(0, sys.argv[1])\nimport {name}\nprint(*sys.modules)"
         run = subprocess.run([sys.executable, "-ISc", text, str(LIVE)], stdout=subprocess.PIPE, check=True)
         return run.stdout.decode().split()
 
     def test_few(self):
-        """They are few of roam, and none that takes long."""
+        """They are few of roam, and no slow ones."""
         for name, most in MOST.items():
             names = self.loaded(name)
             own = [one for one in names if one.startswith("roam_live.")]
@@ -52,7 +52,7 @@ class Modules(Case):
             self.assertEqual(SLOW & set(names), set(), name)
 
     def test_types(self):
-        """Types are imported for who checks them alone, in each module that is loaded then."""
+        """In each module loaded then, types are imported only for type checkers."""
         for name in self.loaded("roam_live.frontend.app"):
             path = LIVE / f"{name.replace('.', '/')}.py"
             if name.startswith("roam_live.") and path.exists():
@@ -60,11 +60,10 @@ class Modules(Case):
 
 
 class Late(Case):
-    """Imports of a process that was there before another build."""
+    """Imports of a process that is older than another build."""
 
     def test_refused(self):
-        """Without a bundle a module of roam isn't imported once another build is in its place; those of others are, and so is all behind
-        it."""
+        """Without a bundle a module of roam isn't imported once another build is in its place; modules of others are, and the rest too."""
         built = self.patch_of(late_modules, "identity", return_value="1 a")
         self.patch_of(late_modules.roam_bundle, "opened", return_value=None)
         late = LateModules()
@@ -80,10 +79,10 @@ class Late(Case):
 
 
 class Gone(Fronts):
-    """A front end in whose place another build was put."""
+    """A front end after another build was installed in its place."""
 
     def test_key(self):
-        """A key that needs a module of another build is told of, and the next ones are typed."""
+        """A key that needs a module of another build is reported, and later ones are typed."""
         client = self.connect()
         self.paints()
         with mock.patch.object(controller.Copying, "open", side_effect=ImportError("another build")):
@@ -92,14 +91,14 @@ class Gone(Fronts):
         self.assertIn(b"char 78\n", client.recv(9999))
 
     def test_keys(self):
-        """Where there is no bundle the keys behind the prefix are read before that may be."""
+        """Without a bundle the keys after the prefix are loaded before a replacement is possible."""
         self.front.late.begin = lambda: None
         with mock.patch.object(bindings, "DEFAULTS", {}) as known:
             self.front.begin_late()
             self.assertIn("d", known)
 
     def test_moment(self):
-        """So is what is done at a moment, or as something comes; copy mode that is half open is closed."""
+        """The same for timers and input callbacks; a half-open copy mode is closed."""
         self.connect()
         self.paints()
         commands = self.front.views.commands

@@ -1,4 +1,4 @@
-"""What is known of a session by its folder, what is started there, and what is typed and read there by commands."""
+"""The state of a session from its folder, its processes, and the input and output of commands."""
 import json
 import os
 import pathlib
@@ -33,7 +33,7 @@ OWN = [os.getpid(), begun(os.getpid())]
 
 
 class Based(Case):
-    """A folder of sessions, and the clock stands."""
+    """A folder of sessions, with a stopped clock."""
 
     def setUp(self):
         self.base = self.made_folder() / "roam"
@@ -45,19 +45,19 @@ class Based(Case):
         self.said = self.heard()
 
     def note(self, **noted):
-        """Notes something."""
+        """Write a note."""
         (self.folder / "state.json").write_text(json.dumps({"version": WINDOWS_VERSION, "command": [], **noted}), encoding="utf-8")
 
     def session(self):
-        """The session."""
+        """Return the session."""
         return Window(self.base / "main")
 
 
 class Read(Based):
-    """Notes, whole and not."""
+    """Notes, complete and not."""
 
     def test_cut(self):
-        """A note that isn't whole is none, wherever it is cut."""
+        """An incomplete note is none, wherever it is cut."""
         self.note(server=OWN, host=[1, None])
         whole = (self.folder / "state.json").read_bytes()
         self.assertEqual(self.session().process("server"), os.getpid())
@@ -67,20 +67,20 @@ class Read(Based):
             self.assertIsNone(self.session().process("server"))
 
     def test_notes(self):
-        """A process is noted by two numbers, of which the moment may not be known."""
+        """A note has two numbers for a process, and its start time may be unknown."""
         for state, is_one in (({}, True), ({"server": [1, 2]}, True), ({"host": [1, None]}, True), ({"relay": [1.0, 2]}, False),
                               ({"server": [True, 2]}, False), ({"server": [1, "2"]}, False), ({"client": [1]}, False),
                               ({"server": [1, 2, 3]}, False), ({"x": 1}, True), ([], False), (None, False), ({"server": {}}, False)):
             self.assertEqual(is_note(state), is_one, state)
 
     def test_deep(self):
-        """A note that is nested without end is no note, and fails alone."""
+        """An endlessly nested note is invalid, and fails alone."""
         for text in ("[" * 100_000, '{"server": ' * 100_000):
             (self.folder / "state.json").write_text(text, encoding="utf-8")
             self.assertIsNone(self.session().state)
 
     def test_runs(self):
-        """A process runs that began at the moment that is noted."""
+        """A process runs if it began at the recorded moment."""
         self.note(server=[OWN[0], OWN[1] + 1], host=OWN)
         session = self.session()
         self.assertEqual((session.process("server"), session.process("host"), session.process("client")), (None, os.getpid(), None))
@@ -91,7 +91,7 @@ class Read(Based):
         self.assertEqual(session.met, tuple(OWN))
 
     def test_missing(self):
-        """Each file that is missing, or no file, is nothing that is known."""
+        """Each missing file, or folder in its place, means unknown."""
         session = self.session()
         self.assertEqual((session.id(), session.places(), session.ended(), session.logged(), session.said(0)), ("", None, "", 0, ""))
         for name in ("session", "panes", "ended", "state.json"):
@@ -107,7 +107,7 @@ class Read(Based):
         self.assertEqual(session.ended(), "")
 
     def test_busy(self):
-        """What runs is known by the pty host."""
+        """The programs are known from the pty host."""
         busy = self.patch("roam_live.session.foreground.busy_panes", return_value={1: "vi"})
         self.note(server=OWN, host=OWN)
         self.assertEqual(self.session().busy(), {1: "vi"})
@@ -115,11 +115,11 @@ class Read(Based):
         self.assertIsNone(RemoteSession(self.base / "ssh:a:b").busy())
 
     def test_busy_unknown(self):
-        """Where nobody is known the pty host it isn't known either."""
+        """Without a known pty host it is unknown too."""
         self.assertIsNone(Window(self.folder, server=os.getpid()).busy())
 
     def test_busy_half(self):
-        """Of a client that was killed before its shells were begun nothing runs."""
+        """A client killed before its shells began has no programs."""
         self.note(server=OWN)
         self.assertEqual(self.session().busy(), {})
 
@@ -142,7 +142,7 @@ class Read(Based):
         self.assertTrue(line_of(session, one, None).endswith("1 pane   ? terminals, its pty host does not answer"))
 
     def test_lacking(self):
-        """A line of `ls` says where no pty host is there, or what does is stopped; of another machine's it says nothing."""
+        """A line of `ls` shows a missing or stopped pty host, but not for a remote session."""
         self.note(server=OWN)
         self.assertTrue(line_of(self.session(), None, None).endswith(" ? terminals, its pty host is not running"))
         host = self.process()
@@ -154,7 +154,7 @@ class Read(Based):
         self.assertEqual(RemoteSession(self.base / "ssh:a:b").lacking(), "")
 
     def test_command_found(self):
-        """One whose note is lost is found by its sockets."""
+        """One with a lost note is found by its sockets."""
         session = self.session()
         self.patch_of(SessionFolder, "listener", lambda _, name: {"clients": OWN[0], "host": OWN[0]}.get(name))
         self.assertTrue(session.find())
@@ -176,7 +176,7 @@ class Read(Based):
 
 
 class Bases(Case):
-    """Where sessions lie: in XDG_RUNTIME_DIR or /tmp, in a folder that the user alone may enter."""
+    """The place of sessions: XDG_RUNTIME_DIR or /tmp, in a folder that only the user may enter."""
 
     def setUp(self):
         self.folder, self.said = self.made_folder(), self.heard()
@@ -194,13 +194,13 @@ class Bases(Case):
         self.assertEqual(self.said.getvalue(), "")
 
     def test_not_own(self):
-        """One of another user is told of and not used."""
+        """One of another user is reported and not used."""
         self.environment(XDG_RUNTIME_DIR=str(self.folder / "none"))
         self.assertEqual(session_names.base().name, f"roam-{os.getuid()}")
         self.assertIn("none, which is not a directory of yours; using /tmp instead\n", self.said.getvalue())
 
     def test_written(self):
-        """One that others may write is refused."""
+        """A folder that others may write is refused."""
         self.environment(XDG_RUNTIME_DIR=str(self.folder))
         for mode in (0o777, 0o1777, 0o770, 0o702):
             self.folder.chmod(mode)
@@ -211,7 +211,7 @@ class Bases(Case):
         self.assertEqual(session_names.base(), str(self.folder / "roam"))
 
     def test_open(self):
-        """A folder that others may enter, a link and what is no folder are refused in a line that says which it has to be."""
+        """A folder that others may enter, a link and a file are refused with a line that names the requirement."""
         self.environment(XDG_RUNTIME_DIR=None)
         there = self.folder / f"roam-{os.getuid()}"
         for made in (lambda: (there.mkdir(), there.chmod(0o750)), lambda: there.symlink_to(self.folder), lambda: there.touch(),
@@ -228,7 +228,7 @@ class Bases(Case):
 
 
 class Starts(Based):
-    """What a session starts, by words that don't run here."""
+    """The processes that a session starts, with words that don't run here."""
 
     def setUp(self):
         super().setUp()
@@ -238,13 +238,13 @@ class Starts(Based):
         self.words, self.waits = [], []
 
     def spawn(self, session, role, words):
-        """Notes what is started."""
+        """Record the started process."""
         self.words.append((role, words))
         session.state[role] = OWN
         return mock.Mock()
 
     def test_by_hand(self):
-        """Neither a server nor a pty host is started for a window whose server was started by hand."""
+        """For a window whose server was started by hand neither a server nor a pty host is started."""
         session = self.session()
         with self.assertRaisesRegex(Fault, "^session main: only its pty host opens windows$"):
             session.launch(["vi"])
@@ -252,7 +252,7 @@ class Starts(Based):
         self.assertEqual((session.revive_host(), self.words), (False, []))
 
     def test_words(self):
-        """The words of each role's process, and where it listens."""
+        """The words of each role's process, and its socket."""
         self.assertEqual(roles.server_words("d"), ["/roam", "serve", "--normalize", "--dir", "d"])
         self.assertEqual(roles.client_words("d"), ["/roam", "attach", "--dir", "d", "--terminals", "d/terminals"])
         tools = str(roles.TOOLS)
@@ -263,7 +263,7 @@ class Starts(Based):
                          {"server": "clients", "client": "terminals", "host": "host", "relay": "clients", "rows": ""})
 
     def test_terminals(self):
-        """The client of the terminals is started where none is there, and waited for."""
+        """The client process is started if it is missing, and awaited."""
         session = self.session()
         (self.folder / "terminals").touch()
         session.demand_client()
@@ -278,7 +278,7 @@ class Starts(Based):
         self.assertEqual(len(self.words), 1)
 
     def test_full(self):
-        """A server that has had its 64 clients hears no other, which is told."""
+        """A server that has had its 64 clients accepts no other, which is reported."""
         self.patch_of(SessionFolder, "places", lambda _, seconds: Places({1: Rect(1, 1, 23, 80)}, 1, 64, 0))
         told = ("session main has used its 64 clients and accepts no more; its programs keep running, and `mux kill main` "
                 "ends it")
@@ -287,7 +287,7 @@ class Starts(Based):
         self.assertEqual(str(fault.exception), told)
 
     def test_revived(self):
-        """Nobody waits for another that starts it just now."""
+        """Nobody waits for another process that starts it just now."""
         session = self.session()
         lock = session.taken_lock(True)
         session.revive()
@@ -298,7 +298,7 @@ class Starts(Based):
         self.assertEqual([role for role, _ in self.words], ["client"])
 
     def test_near(self):
-        """How ssh is called isn't known of what stands for another machine's session; its shells are left to that machine."""
+        """The ssh command of a remote session's local end is unknown; its shells are left to that machine."""
         near = RemoteSession(self.base / "ssh:a:main", "main")
         with self.assertRaisesRegex(Fault, "^no relay to main is running; `mux ssh` starts one$"):
             near.launch()
@@ -308,7 +308,7 @@ class Starts(Based):
 
 
 class Spawned(Based):
-    """What is started for real."""
+    """Processes that are really started."""
 
     def setUp(self):
         super().setUp()
@@ -316,7 +316,7 @@ class Spawned(Based):
         self.session_here.state = {"version": WINDOWS_VERSION}
 
     def test_noted(self):
-        """A process notes itself, parts from the terminal, and what it says is in the log."""
+        """A process records itself, detaches from the terminal, and logs its output."""
         process = self.session_here.spawned("server", ["sh", "-c", "echo said; echo more >&2; exec sleep 60"])
         self.addCleanup(process.wait)
         self.addCleanup(process.kill)
@@ -328,7 +328,7 @@ class Spawned(Based):
         self.assertEqual((self.session_here.said(0), self.session_here.said(5)), ("said; more", "more"))
 
     def test_waited(self):
-        """What doesn't bring in ten seconds what it is for is ended, which is told."""
+        """A process that isn't ready in ten seconds is ended, with a message."""
         process = self.session_here.spawned("server", ["sleep", "60"])
         self.stop_clock()
         self.session_here.wait_for("server", 0, lambda: True)
@@ -338,7 +338,7 @@ class Spawned(Based):
         self.assertEqual(process.returncode, -9)
 
     def test_said(self):
-        """500 letters of what it said are told."""
+        """The message has 500 letters of its output."""
         (self.folder / "log").write_bytes(b"before\n" + b"x" * 2000 + b"\n")
         self.assertEqual(self.session_here.said(7), "x" * 500)
 
@@ -350,7 +350,7 @@ class Spawned(Based):
         self.patch_of(Processes, "process", lambda session, role: left[0] if left else None)
         kills.side_effect = lambda process, number: left.clear() if number == signal.SIGKILL else None
         self.session_here.end("server")
-        # One that was stopped goes on, so that it ends.
+        # A stopped one is continued, so that it ends.
         self.assertEqual(kills.call_args_list, [mock.call(7, number) for number in (signal.SIGTERM, signal.SIGCONT, signal.SIGKILL,
                                                                                     signal.SIGCONT)])
         self.assertTrue(103.0 <= self.now < 103.1)
@@ -362,7 +362,7 @@ class Spawned(Based):
         self.session_here.end("server")
 
     def test_stopped(self):
-        """One that was stopped ends as soon as one that wasn't."""
+        """A stopped one ends as soon as another."""
         process = self.process()
         self.session_here.state = {"server": [process.pid, begun(process.pid)]}
         process.send_signal(signal.SIGSTOP)
@@ -371,7 +371,7 @@ class Spawned(Based):
         self.assertEqual(-process.wait(), signal.SIGTERM)
 
     def test_scrollback_processes(self):
-        """Filters of rows that the pty host left stopped are ended with it, and nothing else that it spawned is."""
+        """Stopped scrollback processes of the pty host are ended with it, but no other of its children."""
         self.patch_of(processes, "LEFT_WAIT", 0.05)
         one, other = self.process(), self.process()
         self.patch_of(processes, "children_of", return_value=[one.pid, other.pid])
@@ -384,13 +384,13 @@ class Spawned(Based):
         self.assertEqual((-one.wait(), other.poll()), (signal.SIGTERM, None))
 
     def test_is_scrollback_process(self):
-        """A filter is known by its words."""
+        """A scrollback process is known by its arguments."""
         texts = {"5": b"/x/roam\0rows\0--normalize\0", "6": b"/x/roam\0serve\0rows\0", "7": b"vi\0rows\0", "8": b""}
         self.patch_of(processes, "FilePath", side_effect=lambda path: mock.Mock(read_bytes=lambda: texts[path.split("/")[2]]))
         self.assertEqual([processes.is_scrollback_process(int(number)) for number in texts], [True, False, False, False])
 
     def test_lock(self):
-        """Who waits for another longer than half a second says so."""
+        """A wait for another process of more than half a second is reported."""
         self.stop_clock()
         locks = self.patch_of(processes.fcntl, "flock", side_effect=self.lock_taken)
         lock = self.session_here.taken_lock(True)
@@ -404,12 +404,12 @@ class Spawned(Based):
 
     @staticmethod
     def lock_taken(_, how):
-        """Has another have the lock, for who doesn't wait."""
+        """Simulate a lock of another process, for a call that doesn't wait."""
         if how & processes.fcntl.LOCK_NB:
             raise BlockingIOError(11, "taken")
 
     def test_forgotten(self):
-        """The folder goes where its log tells nothing."""
+        """The folder is removed if its log is empty."""
         for name in ("log", "lock", "front_ends"):
             (self.folder / name).touch()
         self.session_here.forget()
@@ -420,7 +420,7 @@ class Spawned(Based):
         self.assertEqual([path.name for path in self.folder.iterdir()], ["log"])
 
     def test_cleaned(self):
-        """What is left goes, but for the log and the note of its end."""
+        """The rest is removed, except for the log and the record of its end."""
         panes = [f"p{pane}" for pane in range(1, 10)]
         names = ["clients", "panes", "terminals", "host", *panes, "session", "session.new", "state.json"]
         for name in [*names, "log", "lock", "ended", "own", "p0", "p10"]:
@@ -430,7 +430,7 @@ class Spawned(Based):
         self.assertEqual(sorted(path.name for path in self.folder.rglob("*")), ["ended", "front_ends", "lock", "log", "own", "p0", "p10"])
 
     def test_front(self):
-        """What may ask is in front of the terminal while it does; where there is none that is no fault."""
+        """A command that may ask is in the foreground of the terminal meanwhile; without a terminal there is no error."""
         opens, sets = self.patch("os.open", return_value=55), self.patch("os.tcsetpgrp")
         closes, handles = self.patch("os.close"), self.patch("_signal.signal", return_value="before")
         remote.take_front(9)
@@ -445,7 +445,7 @@ class Spawned(Based):
         self.assertIn(mock.call(signal.SIGTSTP, signal.SIG_IGN), handles.call_args_list)
 
     def test_relay(self):
-        """A relay that answers stays; its words tell where it logs, and after which time alone it ends."""
+        """A relay that answers stays; its words name the log, and the time after which it ends alone."""
         near = RemoteSession(self.base / "ssh:there:main", "main")
         near.folder.mkdir()
         (self.base / "ssh:there:main/ended").touch()
@@ -459,14 +459,14 @@ class Spawned(Based):
 
 
 class Ports(Case):
-    """A session that is reached by a port."""
+    """A session at a port."""
 
     def setUp(self):
         self.session = PortSession(Home(port=9, session="5e55"), None)
         self.addCleanup(self.session.close)
 
     def test_known(self):
-        """Little is known of it, and where panes are only where a folder has the socket that tells it."""
+        """Little is known of it, and pane positions only if a folder has their socket."""
         self.session.read()
         self.assertIsNone(self.session.busy())
         self.assertEqual(str(self.session), "at port 9")
@@ -478,7 +478,7 @@ class Ports(Case):
         self.assertEqual((other.folder, other.name), (str(folder), "at port 9"))
 
     def test_stopped(self):
-        """A client that was stopped is ended by force, and isn't waited for without end."""
+        """A stopped client is killed, without an endless wait."""
         client = self.process()
         client.send_signal(signal.SIGSTOP)
         os.waitid(os.P_PID, client.pid, os.WSTOPPED | os.WNOWAIT)
@@ -488,7 +488,7 @@ class Ports(Case):
         self.assertEqual(client.returncode, -signal.SIGKILL)
 
     def test_revived(self):
-        """Its start is started where it doesn't run, and ends with the server or the session."""
+        """Its client is started if it doesn't run, and ends with the server or the session."""
         started = self.patch_of(port_session.subprocess, "Popen", return_value=self.process())
         with mock.patch.object(Home, "attach_words", lambda _, more: ["roam", *more]):
             self.session.revive()
@@ -523,7 +523,7 @@ class Sends(Based):
         self.patch("roam_live.protocol.client_link.ready", self.ready)
 
     def ready(self, link, events, seconds):
-        """What a client does while it is waited for: the next of its answers, where what is given is taken."""
+        """Simulate a client during a wait: it takes input, and sends the next of its answers."""
         self.asked.append(seconds)
         if events & WRITE:
             return WRITE
@@ -536,7 +536,8 @@ class Sends(Based):
         return READ if answer is None or answer else 0
 
     def test_sent(self):
-        """They are read by a client that takes no turn, and typed once all can be done; it ends once the session has taken all of them."""
+        """They are parsed by a client that takes no turn, and typed once all are possible; it ends once the session has taken all of them.
+        """
         self.answers = [record("paint", data=b"x"), b"", record("taken", 1), record("taken", 2)]
         self.link.lines = 1
         self.assertEqual(send.send(self.session(), ["a", "Up"]), 0)
@@ -546,12 +547,12 @@ class Sends(Based):
         self.assertEqual((read_now(self.client), self.answers, self.link.peer), (b"char 61 ; key up\n", [], None))
 
     def test_slow(self):
-        """Ten seconds may pass between two that are taken."""
+        """Ten seconds may pass between two acknowledgements."""
         self.link.lines, self.answers = 2, [b""] * 90 + [record("taken", 1)] + [b""] * 90 + [record("taken", 3)]
         self.assertEqual((send.send(self.session(), ["char 61"]), send.SEND_WAIT), (0, 10.0))
 
     def test_no_act(self):
-        """What is no act is named, and none is typed."""
+        """An invalid act is named, and none is typed."""
         self.runs.return_value = mock.Mock(returncode=1, stderr=b"roam: line 2: what is this\nmore\n")
         with self.assertRaisesRegex(Fault, r"^'b\\\\nc' is neither an act of roam\(1\) nor a key; nothing was typed$"):
             send.send(self.session(), ["a", "b\nc"])
@@ -561,7 +562,7 @@ class Sends(Based):
         self.opens.assert_not_called()
 
     def test_not_done(self):
-        """What can't be done is looked at again for a second, since what was asked for before may not be told yet."""
+        """An impossible act is checked again for a second, since reports of earlier requests may be late."""
         told = [Places({1: Rect(1, 1, 23, 80)}, 1, 1)]
         self.patch_of(SessionFolder, "places", lambda _: told[0])
         with self.assertRaisesRegex(Fault, "^cannot do 'focus 2': there is no pane 2; nothing was typed$"):
@@ -573,7 +574,7 @@ class Sends(Based):
         self.assertEqual(send.send(self.session(), ["focus 2"]), 0)
 
     def test_refused(self):
-        """Why not all is taken is told: a line is refused, the client ends, nothing more is taken; not where the session ended by it."""
+        """The reason of an incomplete input is reported: a refused line, the client's end, a stall; not if the input ended the session."""
         refused, let_go = "the client process refused a line: out of memory", "this terminal was disconnected; the last keys may be lost"
         for answers, runs, told in (([record("refused", 1, words="out of memory"), None], True, refused), ([None], True, let_go),
                                     ([], True, ""), ([None], False, None)):
@@ -594,7 +595,7 @@ class Sends(Based):
 
 
 class Captures(Based):
-    """The rows that a session shows."""
+    """The rows of a session."""
 
     SCREEN = "3 6 1 1 visible\na\x1fb\x1f \x1f \x1fc\x1f \n \x1f \x1f \x1f \x1f \x1f \n \x1f\u4e2d\x1f\x1fx\x1f \x1f \n".encode()
 
@@ -607,12 +608,12 @@ class Captures(Based):
         self.link.has_come = self.link.records.begun = True
 
     def capture(self, told, is_drawn=False):
-        """What capture does where a client tells this."""
+        """Run capture with a client that sends these records."""
         self.client.send(told)
         return capture.capture(self.session(), is_drawn)
 
     def test_printed(self):
-        """Without the spaces at their ends, and wide characters in their columns."""
+        """They have no trailing spaces, and wide characters in their columns."""
         told = record("paint", data=b"x" * 100) + record("screen", data=self.SCREEN)
         with mock.patch("sys.stdout") as printed:
             self.assertEqual(self.capture(told), 0)
@@ -620,7 +621,7 @@ class Captures(Based):
         self.assertEqual((read_now(self.client), self.link.peer, self.opens.call_args[0][1]), (b"look\n", None, True))
 
     def test_decomposed(self):
-        """What of a character stands in its cell comes whole, as the parts of a Hangul syllable."""
+        """All characters of a cell are printed, such as the parts of a Hangul syllable."""
         syllable = "\u1112\u1161\u11ab"
         with mock.patch("sys.stdout") as printed:
             self.capture(record("screen", data=f"1 4 1 1 visible\n{syllable}\x1f\x1fx\x1f \n".encode()))
@@ -637,7 +638,7 @@ class Captures(Based):
             self.capture(record("screen", data=b"x"))
 
     def test_early(self):
-        """A client that hasn't heard of the session tells a blank screen, and is asked again, for five seconds at most."""
+        """A client without contact to the session sends a blank screen, and is asked again, for five seconds at most."""
         blank = record("screen", data=b"1 4 1 1 visible\n \x1f \x1f \x1f \n")
         told = [blank, blank, record("screen", data=self.SCREEN)]
 
@@ -659,7 +660,7 @@ class Captures(Based):
             printed.buffer.write.assert_called_with(b"\n")
 
     def test_ended(self):
-        """Why none comes is told, as that nothing comes in five seconds."""
+        """The reason of a missing screen is reported, such as no answer in five seconds."""
         self.client.send(record("refused", 3, words="bad act"))
         self.client.close()
         with self.assertRaisesRegex(Fault, "^the client process refused a line: bad act$"):
@@ -682,15 +683,15 @@ class Carried(Case):
 
     @staticmethod
     def datagram(length, index=0):
-        """A datagram of so many bytes, at a place in its instruction."""
+        """Return a datagram of so many bytes, with an index in its instruction."""
         return (b"RM" + bytes(34) + index.to_bytes(2, "big")).ljust(length, b"x")
 
     def framed(self, *texts):
-        """Texts, each behind its length in two bytes."""
+        """Return texts, each after its length in two bytes."""
         return b"".join(len(text).to_bytes(2, "big") + text for text in texts)
 
     def test_cut(self):
-        """They come whole, wherever the stream is cut."""
+        """They arrive whole, wherever the stream is cut."""
         texts = [self.datagram(SHORTEST), self.datagram(60)]
         stream = self.framed(*texts)
         for cut in range(len(stream) + 1):
@@ -702,7 +703,7 @@ class Carried(Case):
             self.assertEqual(found, texts, cut)
 
     def test_lengths(self):
-        """43 to 1,242 bytes; another length is no datagram, and the end."""
+        """A length is 43 to 1,242 bytes; another one is no datagram, and ends the stream."""
         self.assertEqual((SHORTEST, LONGEST), (43, 1242))
         for length, is_one in ((43, True), (1242, True), (42, False), (1243, False), (0, False)):
             one, other = self.pair()
@@ -714,7 +715,7 @@ class Carried(Case):
         self.assertIsNone(self.carrier.received())
 
     def test_queued(self):
-        """Of an instruction all is queued or none: while 65,536 bytes wait an instruction more is."""
+        """An instruction is queued whole or not at all: while 65,536 bytes wait one more is."""
         self.carrier.going += bytes(65536)
         for length, index in ((100, 0), (200, 1)):
             self.carrier.send(self.datagram(length, index))
@@ -743,7 +744,7 @@ class Carried(Case):
         self.assertEqual(self.carrier.fileno(), -1)
 
     def test_greeting(self):
-        """A relay's greeting is read byte by byte: what follows it is for who reads next."""
+        """A relay's greeting is read byte by byte: the rest is for the next reader."""
         reader, writer = self.pipe()
         os.write(writer, greeting("5e55") + b"more")
         self.assertEqual((read_greeting(reader), os.read(reader, 9)), ("5e55", b"more"))
@@ -755,7 +756,7 @@ class Carried(Case):
                 read_greeting(reader)
 
     def test_words(self):
-        """Refusals of a command line are printable."""
+        """Errors of a command line are printable."""
         said = self.heard()
         with self.assertRaises(SystemExit):
             WordParser(prog="x").parse_args(["\x1b[c"])

@@ -1,4 +1,4 @@
-"""The pty host, made by hand: panes over sockets, commands that never run, and a server that is played."""
+"""The pty host, made by hand: panes over sockets, commands that never run, and a simulated server."""
 import os
 import shutil
 import signal
@@ -19,18 +19,18 @@ from roam_live.host.uploads import PendingPastes
 from roam_live.session import tmp_keepalive
 
 def queue():
-    """A queue of what is typed into a pane, for which no text was given."""
+    """Return an input queue of a pane without texts."""
     return TypedQueue(PendingPastes(SessionState(), StillLoop(), lambda name, word: None), lambda: False)
 
 
 tool = loaded("pane_shells")
 
-# A terminal that says that it is there.
+# The line that reports a terminal.
 PERSON = "a:/dev/pts/1 24 80 read-write"
 
 
 class Host(Case):
-    """A host that follows a socket `panes` of its own, and keeps no rows."""
+    """A host that subscribes to a socket `panes` of its own, and stores no rows."""
 
     history = "0"
 
@@ -51,14 +51,14 @@ class Host(Case):
         self.server = self.taken(self.listeners["panes"])
 
     def kept(self, **more):
-        """A host."""
+        """Return a host."""
         asked = host_pane.Options(folder=str(self.folder), command=["sh"], **more)
         host = window.WindowHost(asked, window.Common(self.wakeup, StillLoop()))
         self.addCleanup(self.leave, host)
         return host
 
     def leave(self, host):
-        """Closes what a host has, whose state can be written and read back whatever was done."""
+        """Close a host, and check that its state survives JSON."""
         self.assertEqual(state_in(written(host.common.state)), host.common.state)
         host.common.socket.close()
         for number in list(host.panes):
@@ -70,31 +70,31 @@ class Host(Case):
             host.subscription.peer.close()
 
     def forked(self, size):
-        """A command's process and terminal: a socket here."""
+        """Return a command's process and terminal: a socket here."""
         one, other = self.pair()
         self.made.append(other)
         return 70 + len(self.made), os.dup(one.fileno())
 
     def turn(self, count=3):
-        """So many turns that don't wait."""
+        """Take so many turns without waits."""
         for _ in range(count):
             self.host.common.turn()
 
     def tell(self, *lines):
-        """Has the server tell of its panes."""
+        """Send the server's lines about its panes."""
         self.server.send("".join(f"{line}\n" for line in lines).encode())
         self.turn()
 
     def begin(self, *lines):
-        """Two panes; the ends of their connections at the server."""
+        """Begin with two panes, and return the ends of their connections at the server."""
         self.tell("1 1 1 23 39 4", "2 1 41 23 40 5", "focus 1", "clients 3 of 64", *lines)
-        # What it is asked for at each connection.
+        # The requests on each connection.
         self.assertEqual(read_now(self.server), b"host\nmetadata\nqueries\n")
         return [self.taken(self.listeners[name]) for name in ("p1", "p2")]
 
 
 class Panes(Host):
-    """What is told of panes, and what is done for them."""
+    """Reports of panes, and their effects."""
 
     def test_begun(self):
         """Each pane has a command of its size, and bytes go both ways."""
@@ -108,7 +108,7 @@ class Panes(Host):
         self.assertEqual(self.said.getvalue(), "")
 
     def test_sizes(self):
-        """A new size is told to the programs, and the same isn't."""
+        """A new size reaches the programs, and an equal one doesn't."""
         self.begin()
         sizes = self.patch_of(host_pane.tty, "set_size")
         self.tell("1 1 1 23 39 4", "2 1 41 11 40 5", "focus 2")
@@ -118,7 +118,7 @@ class Panes(Host):
         self.assertEqual(self.host.panes[1].state.size, (20, 39))
 
     def test_gone(self):
-        """A pane that goes is hung up, and one of another life takes its place."""
+        """A pane that is gone gets a hangup, and one of another generation replaces it."""
         panes = self.begin()
         self.tell("2 gone", "focus 1")
         self.assertEqual([call[0] for call in self.kills.call_args_list], [(72, signal.SIGHUP), (72, signal.SIGCONT)])
@@ -130,14 +130,14 @@ class Panes(Host):
         self.assertEqual(self.host.panes, {})
 
     def test_there(self):
-        """Who is at the session is told at the socket `host`."""
+        """The socket `host` reports the attached terminals."""
         one = Asker(self, self.folder)
         one.send(b"here a:/dev/pts/1 24 80 read-write\nwho\n")
         self.turn()
         self.assertEqual(unled(read_now(one)), f"host {self.host.common.socket.name}\nothers 0\n".encode())
 
     def test_commands(self):
-        """What runs in front is told there, and looked up again after something was typed or written."""
+        """It reports foreground programs, and looks them up again after input or output."""
         names = {1: "sh", 2: "vi"}
         self.patch_of(window.Fronts, "look",
                       lambda fronts, pane: fronts.tells(pane.state.number, pane.state.generation, names[pane.state.number]))
@@ -156,8 +156,9 @@ class Panes(Host):
         self.assertEqual(sorted(unled(read_now(one)).splitlines()), [b"command 1 4 less", b"command 2 5 mc"])
 
     def test_pasted(self):
-        """A text that was given is put at its mark, between brackets where the server told, before it handed the mark out, that the program
-        wants them; of another making, or once it wants them no more, it has none."""
+        """A stored text is inserted at its placeholder, bracketed if the server reported that the program wants that before the
+        placeholder. For another generation, or once the program no longer wants it, it isn't bracketed.
+        """
         panes, names = self.begin(), [f"{number:016x}" for number in range(5)]
         one = Asker(self, self.folder)
         one.end.send("".join(f"0 paste {name} 4\ntext" for name in names).encode())
@@ -166,7 +167,7 @@ class Panes(Host):
         told = (("", plain), ("modes 1 4 paste\n", bracketed), ("modes 1 4 sgr\n", plain),
                 ("modes 1 4 sgr buttons focus paste keys1\n", bracketed), ("modes 1 3 paste\n", plain))
         for number, (lines, wanted) in enumerate(told):
-            # Both are there at once; what is told of the panes is read first, wherever it stands among what is waited for.
+            # Both are there at once; the reports of the panes are read first, wherever they are in the list of events.
             self.server.send(lines.encode())
             panes[0].send(f"a\u009f{names[number]}\u009cb".encode())
             self.host.panes[1].hear()
@@ -176,8 +177,9 @@ class Panes(Host):
                          "".join(f"stored {name}\n" for name in names) + "".join(f"inserted {name}\n" for name in names))
 
     def test_answered(self):
-        """What a pane's program asks is answered there, before what the server hands out behind it; a colour once a terminal has told it,
-        and never what is asked of another making."""
+        """A program's query is answered there, before later input from the server; a colour once a terminal has reported it, and never a
+        query of another generation.
+        """
         panes = self.begin()
         self.host.common.socket.colours.take("colour foreground ffff/ffff/ffff")
         told = (("query 1 4 foreground bell\nquery 1 4 background\nquery 1 4 pastes set\n",
@@ -194,7 +196,7 @@ class Panes(Host):
         self.assertEqual(read_now(self.made[1]), b"")
 
     def test_gone_while_typed(self):
-        """What was typed into a pane that is told to be gone is nothing."""
+        """Input for a pane that is reported gone is dropped."""
         panes = self.begin()
         pane = self.host.panes[1]
         pane.is_settling = True
@@ -204,7 +206,7 @@ class Panes(Host):
         self.assertEqual((list(self.host.panes), pane.terminal, [name for name in self.host.loop.due if "1" in name]), ([2], None, []))
 
     def test_focus_reported(self):
-        """A program that asked for it is told once that the focus comes and goes; what stands beside panes is no pane."""
+        """A program with focus reports gets each focus change once; metadata lines are no panes."""
         panes = self.begin("modes 1 4 focus", "modes 2 5 focus sgr paste drags other", "title 1 4 6162", "shape 1 4 5", "bell 1 4")
         self.tell("focus 2")
         self.tell("focus 2")
@@ -216,14 +218,14 @@ class Panes(Host):
         self.assertTrue(panes)
 
     def test_rung(self):
-        """A bell is known as the server tells it, of a pane that is there."""
+        """A bell is known from the server, for an existing pane."""
         self.begin()
         self.made[0].send(b"\x07")
         self.tell("bell 2 5", "bell 1 3")
         self.assertEqual(self.host.rung, {2})
 
     def test_notices(self):
-        """Each terminal is sent notices; one that comes later is sent the notice that stands."""
+        """Each terminal gets notices; a later one gets the current notice."""
         self.begin()
         ends = []
         for line in (b"commands\n", f"here {PERSON}\n".encode()):
@@ -242,7 +244,7 @@ class Panes(Host):
         self.assertEqual(unled(read_now(ends[0])), b"say for who comes\n")
 
     def test_limits(self):
-        """A pane that takes nothing has 16,384 bytes wait, and then its program does; one that reads nothing 65,536."""
+        """A pane that takes nothing has 16,384 bytes wait, and then its program waits; one that reads nothing 65,536."""
         pane = self.host.panes.get(1) or (self.begin(), self.host.panes[1])[1]
         peer, terminal = (self.host.loop.sources[end] for end in (pane.peer.fileno(), pane.terminal))
         pane.to_pane += bytes(16383)
@@ -261,7 +263,7 @@ class Panes(Host):
         self.assertEqual((len(pane.to_terminal), pane.is_dropping, pane.written), (0, False, 1))
 
     def test_no_reader(self):
-        """What a pane's program doesn't read is taken from the server all the same, and dropped above a limit; other panes go on."""
+        """Input that a pane's program doesn't read is still taken from the server, and dropped above a limit; other panes continue."""
         panes = self.begin()
         for _ in range(200):
             panes[0].send(b"x" * 4000)
@@ -279,8 +281,9 @@ class Panes(Host):
         self.assertFalse(pane.is_dropping)
 
     def test_folder(self):
-        """A new pane's command starts where the program in front in the pane in focus is, else where its command is; the first where the
-        server is."""
+        """A new pane's command starts in the folder of the focused pane's foreground program, else of its command; the first one's in the
+        server's.
+        """
         self.host.asked.server = 4711
         works = self.patch_of(window, "working_folder", return_value="/there")
         self.patch_of(host_pane, "group_in_front", return_value=99)
@@ -290,7 +293,7 @@ class Panes(Host):
         self.assertEqual((works.call_args[0][0], self.host.panes[3].state.folder), ([99, 71, 4711], "/there"))
 
     def test_folder_taken(self):
-        """A host whose folder was removed, and made anew by another session, goes to none of its sockets, and writes nothing there."""
+        """A host whose folder was removed and created anew by another session uses none of its sockets, and writes nothing there."""
         self.begin()
         self.folder.rename(self.folder.with_name(self.folder.name + "-old"))
         self.addCleanup(shutil.rmtree, str(self.folder) + "-old")
@@ -303,7 +306,7 @@ class Panes(Host):
         self.assertEqual(os.listdir(self.folder), ["p3"])
 
     def test_sockets_removed(self):
-        """Its own sockets are made anew a minute after a cleaner removed them, but where somebody else listens there; that is told once."""
+        """Its removed sockets are restored a minute later, unless somebody else listens there; that is reported once."""
         self.begin()
         (self.folder / "host").unlink()
         other = self.listening(self.folder / "host")
@@ -318,7 +321,7 @@ class Panes(Host):
         self.assertIn(window.MENDED, self.said.getvalue())
 
     def test_terminal_gone(self):
-        """A terminal that no program has any more is closed, and so is a connection that the server ends."""
+        """A terminal without programs is closed, and so is a connection that the server ends."""
         panes = self.begin()
         self.made[0].close()
         panes[1].close()
@@ -330,7 +333,7 @@ class Panes(Host):
         self.assertEqual(len(self.host.panes[1].to_terminal), 0)
 
     def test_unread(self):
-        """What the server doesn't read for three seconds is told of, once."""
+        """Output that the server doesn't read for three seconds is reported once."""
         panes = self.begin()
         for end in self.made:
             end.send(b"hello")
@@ -353,10 +356,10 @@ class Panes(Host):
 
 
 class Refused(Host):
-    """What the system refuses is told of, and tried again."""
+    """Refusals of the system are reported and retried."""
 
     def test_command(self):
-        """A command that can't be spawned is told of in its pane, where a key tries again."""
+        """A command that fails to start is reported in its pane, and a key retries it."""
         self.patch_of(host_pane.spawn, "forked", side_effect=OSError(11, "Resource temporarily unavailable"))
         panes = self.begin()
         self.turn()
@@ -367,7 +370,7 @@ class Refused(Host):
         self.assertEqual((self.host.panes[1].state.process, self.host.panes[2].state.process, read_now(self.made[0])), (71, None, b""))
 
     def test_connection(self):
-        """A pane that can't be connected says so, is told of once, and is tried again each quarter of a second."""
+        """A pane that fails to connect shows that, is reported once, and is retried each quarter of a second."""
         with mock.patch.object(host_pane, "connected_now", side_effect=OSError(24, "Too many open files")) as connects:
             says = self.patch_of(window, "say_in")
             self.tell("1 1 1 23 80 4", "focus 1")
@@ -387,14 +390,14 @@ class Refused(Host):
         self.assertEqual(("again" in self.host.loop.due, self.host.common.refused, self.host.panes[1].state.process), (False, set(), 71))
 
     def test_not_there(self):
-        """A pane whose socket isn't there is no place to say so."""
+        """A pane without a socket can't show a message."""
         says = self.patch_of(window, "say_in")
         self.tell("9 1 1 23 80 4", "focus 9")
         says.assert_not_called()
         self.assertIn("pane 9: No such file or directory; tried again\n", self.said.getvalue())
 
     def test_spares(self):
-        """Descriptors are kept for what has to be had."""
+        """Descriptors are reserved for indispensable steps."""
         self.assertTrue(self.host.common.spare.end is not None and self.host.common.voice.end is not None)
         self.host.common.spare.free()
         self.host.common.spare.free()
@@ -406,7 +409,7 @@ class Refused(Host):
         self.assertIsNotNone(self.host.common.spare.end)
 
     def test_said(self):
-        """A line is said in a pane that has no shell."""
+        """A pane without a shell shows a line."""
         host_pane.say_in(self.folder / "p3", "why\ud800\r\n")
         self.assertEqual(self.taken(self.listeners["p3"]).recv(16), b"why?\r\n")
         host_pane.say_in(self.folder / "none", "why")
@@ -416,7 +419,7 @@ class Ended(Host):
     """Commands that end, and the session's end."""
 
     def end(self, process, is_left=False):
-        """Has a command end, which leaves nobody at its terminal."""
+        """End a command, with nobody else at its terminal."""
         self.ended[process] = True
         if not is_left:
             self.made[process - 71].close()
@@ -424,7 +427,7 @@ class Ended(Host):
         self.turn()
 
     def test_stays(self):
-        """Without --close a pane whose command ended shows that, behind what it wrote last, and stays."""
+        """Without --close a pane whose command ended shows that after its last output, and stays."""
         panes = self.begin()
         self.made[0].send(b"bye")
         self.end(71)
@@ -432,7 +435,7 @@ class Ended(Host):
         self.assertEqual((self.host.panes[1].terminal, self.host.panes[1].runs(), self.host.is_over), (None, False, False))
 
     def test_last_words(self):
-        """All that it wrote is taken, as the pane takes it, however much that is; what is typed behind its end isn't."""
+        """All its output arrives, as the pane takes it, however much it is; input after its end doesn't."""
         panes = self.begin()
         for _ in range(6):
             self.made[0].send(b"x" * 10_000)
@@ -447,8 +450,9 @@ class Ended(Host):
         self.assertEqual([name for name in self.host.loop.due if name.startswith("last")], [])
 
     def test_left(self):
-        """Where another process has the terminal still all is read until there was nothing twice, 20 ms apart; or 64 kB came, which no
-        terminal holds. Then that process is hung up."""
+        """If another process still has the terminal open, it is read until it is empty twice, 20 ms apart, or 64 kB came, which no terminal
+        buffers. Then that process gets a hangup.
+        """
         panes = self.begin()
         self.made[0].send(b"bye")
         self.end(71, True)
@@ -470,7 +474,7 @@ class Ended(Host):
         self.assertIsNone(pane.terminal)
 
     def test_last_waits(self):
-        """Where the pane takes nothing of an ended command's now nothing is read, and it is looked again, not often."""
+        """If the pane takes nothing of an ended command's output now nothing is read, with occasional checks."""
         self.begin()
         pane = self.host.panes[1]
         pane.hears = lambda: False
@@ -485,7 +489,7 @@ class Ended(Host):
         self.assertNotIn("last of pane 1", self.host.loop.due)
 
     def test_closes(self):
-        """With --close the server is asked to close it, and again after three seconds; the focus goes where it was before."""
+        """With --close the server is asked to close it, and again after three seconds; the focus goes to the previous pane."""
         self.host.asked.close = True
         self.begin("focus 2", "focus 1")
         self.end(71)
@@ -500,7 +504,7 @@ class Ended(Host):
         self.assertEqual((self.host.is_over, self.host.state.history), (False, [2]))
 
     def test_other(self):
-        """A pane that hasn't the focus leaves it, and the focus goes to none whose command has ended."""
+        """An unfocused pane keeps the focus in place, which never goes to a pane whose command has ended."""
         self.host.asked.close = True
         self.begin()
         self.end(72)
@@ -510,7 +514,7 @@ class Ended(Host):
         self.assertIn(b"close 1 4\n", read_now(self.server))
 
     def test_last(self):
-        """The end of the last is the session's: it is noted, and the server is told to end."""
+        """The end of the last one is the session's: it is recorded, and the server is asked to end."""
         self.host.asked.close, self.host.asked.server, self.host.state.processes["server"] = True, 4711, (4711, 17)
         self.tell("1 1 1 23 80 4", "focus 1")
         self.kills.side_effect = ProcessLookupError(3, "none")
@@ -530,14 +534,14 @@ class Ended(Host):
         self.assertEqual((self.host.panes, panes[0].recv(1), (self.folder / "host").exists()), ({}, b"", False))
 
     def test_hung(self):
-        """The processes of panes that are gone are waited for."""
+        """The processes of panes that are gone are reaped."""
         self.begin()
         self.tell("2 gone")
         self.end(72)
         self.assertEqual(self.host.common.hung, [])
 
     def test_server_gone(self):
-        """The server's end is the session's; one that runs and doesn't listen is waited for."""
+        """The server's end is the session's; one that runs without listening is awaited."""
         self.begin()
         for end in (self.server, self.listeners["panes"]):
             end.close()
@@ -554,7 +558,7 @@ class Ended(Host):
         self.assertTrue(self.host.is_over)
 
     def test_let_go(self):
-        """Panes of which nothing is told once it follows anew are gone, by the first focus."""
+        """Panes without a report after a new subscription are gone, from the first focus on."""
         panes = self.begin()
         self.server.close()
         self.turn()
@@ -568,7 +572,7 @@ class Ended(Host):
         self.assertEqual((list(self.host.panes), panes[1].recv(1), self.host.is_followed()), ([1], b"", True))
 
     def test_not_followed(self):
-        """A pane says where nothing can be followed from the start, once."""
+        """A pane reports once that the panes can't be followed from the start."""
         says = self.patch_of(window, "say_in")
         for _ in range(3):
             self.server.close()
@@ -582,10 +586,10 @@ class Ended(Host):
 
 
 class Again(Host):
-    """Shells that another kept before."""
+    """Shells that an earlier host had."""
 
     def test_dropped(self):
-        """What was typed since is dropped before a shell runs, half a second after the last of it."""
+        """Input since then is dropped before a shell runs, half a second after the last of it."""
         self.host = self.kept(again=True)
         self.server = self.taken(self.listeners["panes"])
         panes = self.begin()
@@ -605,10 +609,10 @@ class Again(Host):
 
 
 class Waits(Host):
-    """How long nothing is due."""
+    """The time until the next timer."""
 
     def wait_time(self):
-        """How long it would wait."""
+        """Return its waiting time."""
         self.turn(1)
         return self.host.loop.waited
 
@@ -635,7 +639,7 @@ class Waits(Host):
 
 
 class Rows(Host):
-    """What the scrollback process, which is played by hand, is handed of panes."""
+    """The output of panes to the scrollback process, which is played by hand."""
 
     history = "100"
 
@@ -645,14 +649,14 @@ class Rows(Host):
         super().setUp()
 
     def handed(self):
-        """What the filter was handed."""
+        """Return the records to the scrollback process."""
         self.turn()
         self.now += scrollback.WAITS / 2
         self.turn()
         return self.fake.taken()
 
     def test_handed(self):
-        """What is written to panes, their sizes and their ends, and what the host itself says there."""
+        """It gets the output to panes, their sizes and their ends, and the host's own text there."""
         panes = self.begin()
         self.made[0].send(b"out")
         self.made[1].send(b"two")
@@ -668,7 +672,7 @@ class Rows(Host):
         self.assertEqual(read_now(panes[0]), b"outlast" + window.ENDED)
 
     def test_behind(self):
-        """A pane isn't read while the filter doesn't keep up, for a second at most."""
+        """A pane isn't read while the scrollback process is behind, for a second at most."""
         pane = self.begin()[0]
         self.host.rows.set_behind(True)
         self.host.loop.later("rows are behind", scrollback.WAITS, self.host.rows.lose)
@@ -681,7 +685,7 @@ class Rows(Host):
         self.assertIn(scrollback.BEHIND, self.said.getvalue())
 
     def test_last_logged(self):
-        """Where the session ends who writes rows down has what stood last in a pane."""
+        """At the session's end log readers get the last contents of a pane."""
         self.begin()
         self.made[0].send(b"out")
         one = self.connected("host", b"log 1 4 0\n")
@@ -693,7 +697,7 @@ class Rows(Host):
         self.assertEqual(read_now(one), b"0 rows 1 4 0 1 5\n out\n0 log 1 4 end\n")
 
     def test_last_blank(self):
-        """Where a pane shows nothing he is told its end, although nothing comes behind the screen that tells so."""
+        """For a blank pane the reader gets its end, although nothing follows that screen."""
         self.begin()
         self.made[0].send(b"out")
         one = self.connected("host", b"log 1 4 0\n")
@@ -704,7 +708,7 @@ class Rows(Host):
         self.assertEqual(read_now(one), b"0 log 1 4 end\n")
 
     def test_last_waits(self):
-        """For what a filter doesn't tell then it isn't waited long."""
+        """A late answer of the scrollback process does not delay the end for long."""
         self.begin()
         self.made[0].send(b"out")
         one = self.connected("host", b"log 1 4 0\n")
@@ -720,7 +724,7 @@ class Rows(Host):
         self.assertEqual(one.recv(64), b"")
 
     def connected(self, name, text):
-        """One who connects to a socket of the host's, and says this."""
+        """Connect to a socket of the host's, and send this."""
         one = socket.socket(socket.AF_UNIX, socket.SOCK_STREAM)
         self.addCleanup(one.close)
         one.connect(str(self.folder / name))
@@ -730,10 +734,10 @@ class Rows(Host):
 
 
 class Words(Case):
-    """The words of the command line."""
+    """The options of the command line."""
 
     def test_plain(self):
-        """The words that mux gives are read as argparse reads them; others aren't such."""
+        """Words from mux are parsed as by argparse; others don't have that form."""
         for words in (["--windows", "d"], ["--windows", "--first", "d"], ["--windows", "d", "vi", "-x"], ["--windows", "--first", "d", "--first"],
                       ["--windows", "d", "--"], ["--windows", "d", "--windows"]):
             self.assertTrue(tool.Words.are_plain(words), words)
@@ -776,7 +780,7 @@ class Words(Case):
         self.assertFalse(options.has_ended(self.process().pid))
 
     def test_child(self):
-        """What is forked becomes the command, of the pane's size and in its folder, and ends where it can't."""
+        """The child executes the command, with the pane's size and in its folder, and ends if that fails."""
         asked = host_pane.Options(folder="/d", command=["vi"])
         pane = host_pane.PaneCommand(asked, StillLoop(), PaneState(number=3, generation=1, size=(5, 40), folder="/tmp"), False, queue())
         with mock.patch.object(host_pane.spawn, "forked", return_value=(0, 0)) as forks, \

@@ -1,4 +1,4 @@
-"""What the programs of panes ask of their terminals, the answers, and the colours that a person's terminal tells."""
+"""Terminal queries of the panes' programs, their answers, and the colours that a user's terminal reports."""
 import unittest
 
 from aids import Case
@@ -11,10 +11,10 @@ ANSWERS = ("\x1b]10;rgb:ffff/ffff/ffff\x07", "\x1b]11;rgb:1e/1E/2e\x1b\\")
 
 
 class Answered(Case):
-    """Lines of `panes`, and what is typed for them."""
+    """Lines of `panes`, and the typed answers."""
 
     def test_answers(self):
-        """Each query has its answer, by what is known; a colour that isn't known has none, and nor has what is no query."""
+        """Each query has its answer, by the known state; an unknown colour has none, and neither does an invalid query."""
         colours = Colours()
         colours.take("colour background 1e1e/1e1e/2e2e")
         for line, wanted, unheld in (
@@ -33,7 +33,7 @@ class Answered(Case):
             self.assertIsNone(query_in(line), line)
 
     def test_frames(self):
-        """Whether a server holds frames together is told by its words, and not known where these can't be read."""
+        """The server's arguments decide if it buffers synchronized updates; unreadable arguments mean unknown."""
         folder = self.made_folder()
         self.patch("roam_live.protocol.queries.FilePath", side_effect=lambda path: folder / path.split("/")[2])
         for process, words, wanted in ((7, b"roam\0serve\0--normalize\0--dir\0D\0", True),
@@ -44,10 +44,10 @@ class Answered(Case):
 
 
 class Told(unittest.TestCase):
-    """What a terminal tells of its colours."""
+    """A terminal's reports of its colours."""
 
     def test_colours(self):
-        """A colour has four digits a part, whatever it was told by; what is none is nothing."""
+        """A colour has four digits for each part, whatever form it came in; an invalid one is nothing."""
         for words, wanted in (("rgb:f/8/0", "ffff/8888/0000"), ("rgb:ff/80/00", "ffff/8080/0000"), ("rgb:fff/800/001", "ffff/8007/0010"),
                               ("rgb:FFFF/0a0B/0000", "ffff/0a0b/0000"), ("rgba:ff/80/00/80", "ffff/8080/0000"), ("rgb:ff/80", ""),
                               ("rgb:ff/80/00/80", ""), ("rgba:ff/80/00", ""), ("rgb:fffff/0/0", ""), ("rgb://", ""), ("", ""),
@@ -58,7 +58,7 @@ class Told(unittest.TestCase):
         self.assertEqual(ASKED, b"\x1b]10;?\x1b\\\x1b]11;?\x1b\\")
 
     def test_lines(self):
-        """Lines tell them, the last holds, and others are none."""
+        """Lines report them, the last one counts, and others are none."""
         colours = Colours()
         for line, wanted in (("colour foreground ffff/0000/1111", True), ("colour foreground 0000/0000/1111", True),
                              ("colour foreground", False), ("colours", False), ("colour cursor ffff/0000/1111", False),
@@ -68,7 +68,7 @@ class Told(unittest.TestCase):
         self.assertEqual(colours.lines(), ["colour foreground 0000/0000/1111"])
 
     def test_typed(self):
-        """Answers are taken out of what is typed, wherever the stream is cut and however long the rest takes, and nothing else is."""
+        """Answers are extracted from the input, wherever the stream is cut and however late the rest is, and nothing else is."""
         stream = f"a{ANSWERS[0]}\x1b[A{ANSWERS[1]}\x1bb"
         for cut in range(len(stream) + 1):
             keys = Keys()
@@ -82,7 +82,7 @@ class Told(unittest.TestCase):
             self.assertEqual((keys.fed(begun.encode()), keys.waits()), ([], waits), begun)
 
     def test_others(self):
-        """What only begins as an answer is typed as it is, as Alt and a bracket; one that is pasted is text."""
+        """A text that only begins like an answer is typed, such as Alt and a bracket; a pasted one is text."""
         for text in ("\x1b]x", "\x1b]12;rgb:f/f/f\x07", "\x1b]11;rgb:f/f/f\x1bx", "\x1b]11;rgb:zz/f/f\x07", "\x1b]11;" + "f" * 40 + "\x07"):
             keys = Keys()
             found = keys.fed(text.encode()) + keys.ended()

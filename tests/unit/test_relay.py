@@ -18,24 +18,24 @@ relay = loaded("relay")
 
 
 def datagram(instruction, fragment=0, length=SHORTEST):
-    """A datagram of an instruction."""
+    """Return a datagram of an instruction."""
     return (b"RM" + bytes(26) + instruction.to_bytes(8, "big") + fragment.to_bytes(2, "big") + bytes(4)).ljust(length, b"x")
 
 
 def packed(*frames):
-    """Frames, each a peer and a text, as they go over a stream."""
+    """Return frames, each a peer and a text, in their form on a stream."""
     packer = zlib.compressobj()
     return packer.compress(b"".join(HEADER.pack(len(text), peer) + text for peer, text in frames)) + packer.flush(zlib.Z_SYNC_FLUSH)
 
 
 class Other:
-    """What the other end of a stream reads."""
+    """The reader at the other end of a stream."""
 
     def __init__(self, end):
         self.end, self.text = end, b""
 
     def frames(self):
-        """The frames that it was sent, behind the greeting."""
+        """Return its received frames, after the greeting."""
         self.text += read_now(self.end)
         body = self.text.partition(b"\n")[2]
         text, found = zlib.decompressobj().decompress(body), []
@@ -47,7 +47,7 @@ class Other:
 
 
 class FakeLink:
-    """A command that never ran: its stream is over pipes."""
+    """A simulated command: its stream is over pipes."""
 
     def __init__(self, case, session="-"):
         (self.source, self.said), (heard, self.target) = case.pipe(), case.pipe()
@@ -59,26 +59,26 @@ class FakeLink:
         self.has_ended = False
 
     def say(self, text):
-        """Has the other end say something."""
+        """Send a text from the other end."""
         os.write(self.said, text)
 
     def tell(self, *frames):
-        """Has the other end send frames, of one stream."""
+        """Send frames from the other end, of one stream."""
         text = b"".join(HEADER.pack(len(text), peer) + text for peer, text in frames)
         self.say(self.packer.compress(text) + self.packer.flush(zlib.Z_SYNC_FLUSH))
 
     def hang_up(self):
-        """Has it end."""
+        """End it from the other end."""
         ended(self.said)
 
     def join(self, loop, hears):
-        """Has a loop carry what goes, and call where something came."""
+        """Let a loop write, and call `hears` for input."""
         self.loop = loop
         loop.add(self.target, None, self.stream.flush, has_more=lambda: self.stream.going)
         loop.add(self.source, hears)
 
     def end(self):
-        """Ends it."""
+        """End it."""
         self.has_ended = True
         self.loop.remove(self.target)
         self.loop.remove(self.source)
@@ -86,15 +86,15 @@ class FakeLink:
         ended(self.target)
 
     def pass_errors(self):
-        """It has none."""
+        """Do nothing: there are none."""
 
     def status(self):
-        """Its status."""
+        """Return its status."""
         return 7
 
 
 class Ends(Case):
-    """A folder, and a clock that stands."""
+    """A folder, with a stopped clock."""
 
     def setUp(self):
         self.stop_clock()
@@ -103,14 +103,14 @@ class Ends(Case):
         self.wakeup, self.wakes = self.pipe()
 
     def asked(self, **more):
-        """The words of a command line."""
+        """Return the options of a command line."""
         known = {"far": False, "greeted": False, "owner": None, "alone": None, "log": None, "host": "", "dir": str(self.folder),
                  "session": None, "server": None, "port": None, "command": ["ssh", "there"]}
         return argparse.Namespace(**{**known, **more})
 
 
 class Nears(Ends):
-    """The end beside the clients."""
+    """The near end, next to the clients."""
 
     def setUp(self):
         super().setUp()
@@ -121,37 +121,37 @@ class Nears(Ends):
         self.near = self.near_end()
 
     def near_end(self, **more):
-        """A near end."""
+        """Return a near end."""
         one = near.Near(self.asked(**more), self.wakeup, StillLoop())
         self.addCleanup(lambda: one.is_closed or self.close(one))
         one.is_closed = False
         return one
 
     def close(self, one):
-        """Ends it."""
+        """End it."""
         one.is_closed = True
         one.close()
 
     def new_link(self, command, session, may_ask):
-        """A command that is started."""
+        """Return a simulated command."""
         link = FakeLink(self, session)
         link.words = command, session, may_ask
         self.links.append(link)
         return link
 
     def turn(self, count=1):
-        """So many turns, each of which waits for nothing."""
+        """Take so many turns without waits."""
         for _ in range(count):
             self.near.turn()
 
     def answer(self, session="abc"):
-        """Has the first command's other end answer."""
+        """Let the first command's other end answer."""
         self.turn()
         self.links[-1].say(greeting(session))
         self.turn()
 
     def client(self):
-        """A client that connects."""
+        """Return a client that connects."""
         one = socket.socket(socket.AF_UNIX, socket.SOCK_STREAM)
         self.addCleanup(one.close)
         one.connect(str(self.folder / "clients"))
@@ -160,7 +160,7 @@ class Nears(Ends):
         return one
 
     def test_answered(self):
-        """It starts its command, which may ask, and tells the session once the other end has answered."""
+        """It starts its command, which may ask, and reports the session once the other end has answered."""
         self.turn(3)
         self.assertEqual([link.words for link in self.links], [(["ssh", "there"], "-", True)])
         self.links[0].say(b"Welcome\r\n" + greeting("abc"))
@@ -171,8 +171,9 @@ class Nears(Ends):
         self.assertEqual((self.near.tries, self.said.getvalue()), ([], ""))
 
     def test_windows(self):
-        """Windows that are told have a socket each here, and the session is found by one that is there; one that is gone lets its clients
-        go, and no others."""
+        """Reported windows have a socket each here, and the session is found by an existing one; the clients of a gone one are dropped, and
+        no others.
+        """
         self.answer()
         self.near.take_windows({2: "abc", 5: "def"})
         self.assertEqual((self.near.session, self.near.peers.has_windows), ("abc", True))
@@ -207,8 +208,9 @@ class Nears(Ends):
         self.assertEqual((len(self.near.carriers), list(self.near.peers.numbers.values())), (1, [2]))
 
     def test_not_forwarded(self):
-        """A far end that doesn't say that it forwards connections has none of the sockets be there that stand for the other machine's; what
-        else it says, and nobody knows, is passed over."""
+        """Without the far end's announcement of forwarding, none of the sockets that replace remote ones exist; unknown announcements are
+        ignored.
+        """
         self.answer()
         told = [(0, b"p1 1 1 23 80\nfocus 1\n"), (0, b"b\3"), (0, b"b"), (0, b"k\3\1"), (0, b"z?")]
         self.links[0].say(packed(*told))
@@ -217,7 +219,7 @@ class Nears(Ends):
         self.assertEqual([name for name in ("panes", "host") if (self.folder / name).exists()], [])
 
     def test_ended(self):
-        """The session's end ends it with status 0, and is noted."""
+        """The session's end ends it with status 0, and is recorded."""
         for text, noted in ((ENDED, ""), (KILLED, "killed")):
             with self.subTest(noted):
                 self.answer()
@@ -232,8 +234,9 @@ class Nears(Ends):
                 self.near = self.near_end()
 
     def test_hostile(self):
-        """A far end that says what can't be is ended, which is told, and another is spawned, after pauses that grow; the next greets with
-        the session. Ten times end the relay."""
+        """A far end with invalid messages is ended, with a report, and another is spawned, after growing pauses; the next greeting has the
+        session. Ten times end the relay.
+        """
         self.answer()
         texts = (packed((0, b"")), packed((0, OPEN + b"\0\1panes")), packed((0, BYTES + b"\0")), packed((0, ENDED + b"x")),
                  packed((0, HAD + b"1")), packed((0, COUNT.pack(HAD, 1))), packed((1, datagram(1)[:-1])),
@@ -260,7 +263,7 @@ class Nears(Ends):
         self.assertNotIn("Traceback", self.said.getvalue())
 
     def test_forgiven(self):
-        """Ten minutes in which the other end is validated without a break have what it said before that forgotten."""
+        """Ten minutes of a validated transport make it forget earlier invalid messages."""
         self.answer()
         for seconds, count in ((599, 2), (600, 1)):
             self.near.broken.count = 1
@@ -278,7 +281,7 @@ class Nears(Ends):
             self.assertEqual(self.near.broken.count, count if count > 1 else 0)
 
     def test_told_often(self):
-        """Windows that are told in quick turn are taken once in a tenth of a second, the newest of them."""
+        """Reports of windows in quick succession are applied once in a tenth of a second, with the newest of them."""
         self.answer()
         take = self.patch_of(self.near, "take_windows")
         for text in (b"n1 a", b"n1 b", b"n1 c"):
@@ -294,7 +297,7 @@ class Nears(Ends):
         self.assertEqual(take.call_args_list[2:], [mock.call({1: "d"})])
 
     def test_whatever(self):
-        """Whatever a far end says once it has answered, this one goes on, tells of it in printable words, and keeps little of it."""
+        """Whatever a far end sends after its answer, this one continues, logs printable words, and stores little of it."""
         self.answer()
         for name, (text, told) in {**HOSTILE, **{name: (text, "") for name, text in ODD.items()}}.items():
             with self.subTest(name):
@@ -314,7 +317,7 @@ class Nears(Ends):
                 self.answer()
 
     def test_not_a_datagram(self):
-        """What has the length of one and isn't roam's reaches no client."""
+        """A text with the length of a datagram that isn't roam's reaches no client."""
         self.answer()
         client = self.client()
         text = datagram(1)
@@ -325,7 +328,7 @@ class Nears(Ends):
         self.assertEqual(read_now(client), b"")
 
     def test_first_hostile(self):
-        """A first one that says what can't be ends it."""
+        """Invalid messages of the first one end it."""
         self.turn()
         self.links[0].say(b"x" * 65536)
         self.turn()
@@ -341,7 +344,7 @@ class Nears(Ends):
             self.turn()
 
     def test_many_clients(self):
-        """256 clients are taken; the others wait until one has left, and it goes on."""
+        """256 clients are accepted; the others wait until one has left, and it continues."""
         clients = []
         for number in range(260):
             one = socket.socket(socket.AF_UNIX, socket.SOCK_STREAM)
@@ -360,7 +363,7 @@ class Nears(Ends):
         self.assertEqual(len(self.near.carriers), 256)
 
     def test_other_session(self):
-        """Another session behind the same command is the end of this one."""
+        """Another session over the same command is the end of this one."""
         self.answer()
         self.near.drop(self.near.link)
         self.now += 30
@@ -387,13 +390,13 @@ class Nears(Ends):
 
     @property
     def tool(self):
-        """The name under which this runs."""
+        """Return the name of this tool."""
         from roam_live.common.errors import tool_name
 
         return tool_name()
 
     def test_back(self):
-        """A silent one that speaks again stays, and the others end."""
+        """A silent one that answers again stays, and the others end."""
         self.answer()
         self.now += 7.1
         self.turn()
@@ -403,7 +406,7 @@ class Nears(Ends):
         self.assertEqual((self.near.tries, self.near.ending), ([], [self.links[1]]))
 
     def test_pauses(self):
-        """Commands are started after 0.2, 1, 2 and then each 5 s, and each is given 20 s."""
+        """Commands are started after 0.2, 1, 2 and then every 5 s, and each has 20 s."""
         self.answer()
         self.near.drop(self.near.link)
         begun = []
@@ -422,14 +425,14 @@ class Nears(Ends):
         self.assertEqual((near.PATIENCE, near.SILENT, near.PAUSES), (20.0, 7.0, (0.2, 1, 2, 5)))
 
     def test_patience(self):
-        """The first, which may be waiting for a person's answer, is given as long as it takes."""
+        """The first, which may wait for the user's answer, has unlimited time."""
         self.turn()
         self.now += 3600
         self.turn(2)
         self.assertEqual((len(self.links), self.links[0].has_ended), (1, False))
 
     def test_validated(self):
-        """A link that was there for 5 s has the pauses begin anew."""
+        """A link of 5 s resets the pauses."""
         self.answer()
         self.near.retry.faults = 4
         self.now += 5
@@ -440,7 +443,7 @@ class Nears(Ends):
         self.assertEqual(self.near.retry.faults, 0)
 
     def test_lost(self):
-        """A command that ends is followed by another; one that ends before it has ever answered ends what can't wait for it."""
+        """Another command replaces an ended one; one that ends before any answer ends a relay that can't wait."""
         self.answer()
         os.close(self.links[0].said)
         self.turn()
@@ -463,7 +466,7 @@ class Nears(Ends):
             self.close(self.near)
 
     def test_not_there(self):
-        """Where nothing is installed there it is told what may be done."""
+        """If nothing is installed there a message gives advice."""
         self.close(self.near)
         self.near = self.near_end(alone=9.0)
         self.turn()
@@ -474,7 +477,7 @@ class Nears(Ends):
             self.turn()
 
     def test_not_started(self):
-        """Where the system refuses a first command that is a fault; later it is told of, and tried again."""
+        """If the system refuses the first command that is an error; later it is reported and retried."""
         self.made.side_effect = FileNotFoundError(2, "No such file or directory")
         with self.assertRaisesRegex(Fault, "^ssh: No such file or directory$"):
             self.turn()
@@ -484,7 +487,7 @@ class Nears(Ends):
         self.assertEqual(self.near.next_try, 100.2)
 
     def test_alone(self):
-        """With --alone it ends when no front end was connected for so many seconds; it looks each five."""
+        """With --alone it ends if no front end was connected for so many seconds; it checks every five."""
         self.near.asked.alone = 60.0
         counts = self.patch_of(near.NearSockets, "is_used", return_value=True)
         self.now += 4.9
@@ -524,7 +527,7 @@ class Nears(Ends):
         common.end_for(self.wakeup)
 
     def test_clients(self):
-        """256 clients are taken; another waits, and so does one for whom no descriptor is left, a second long."""
+        """256 clients are accepted; another waits, and so does one without a free descriptor, for a second."""
         listener = self.near.listener
         self.near.carriers = [None] * 255
         self.assertTrue(listener.hears())
@@ -550,18 +553,18 @@ class Nears(Ends):
         self.assertEqual((self.near.carriers, one.recv(1)), ([], b""))
 
     def test_lies(self):
-        """A client that says what is no datagram is let go."""
+        """A client that sends an invalid datagram is disconnected."""
         client = self.client()
         client.send((SHORTEST - 1).to_bytes(2, "big") + bytes(SHORTEST - 1))
         self.turn()
         self.assertEqual((self.near.carriers, client.recv(1)), ([], b""))
 
     def wait_time(self):
-        """How long it would wait."""
+        """Return its waiting time."""
         return self.near.loop.wait_time()
 
     def test_wait_time(self):
-        """It waits until the next command, look, heartbeat or silence is due."""
+        """It waits until the next command, check, heartbeat or silence is due."""
         self.assertIsNone(self.wait_time())
         self.assertEqual(len(self.links), 1)
         self.near.asked.alone = 60.0
@@ -587,7 +590,7 @@ class Nears(Ends):
         self.assertEqual((dup.call_args[0][1], near.logs, log.exists()), (2, [log], True))
 
     def test_port(self):
-        """A port of loopback is another way in: each address has a number of its own."""
+        """A port of loopback is another entry: each address has a number of its own."""
         self.close(self.near)
         self.near = self.near_end(port=0, dir=None)
         port = self.near.port.getsockname()[1]
@@ -611,7 +614,7 @@ class Numbers(Ends):
     """Numbers of clients."""
 
     def test_numbers(self):
-        """A number isn't given again before all others were, and 256 are known at once."""
+        """A number isn't reused before all others, and 256 are known at once."""
         gone = []
         peers = near.Peers(gone.append)
         self.assertEqual([peers.number(name) for name in "abab"], [1, 2, 1, 2])
@@ -622,7 +625,7 @@ class Numbers(Ends):
         self.assertEqual(peers.addresses, {2: "b", 3: "a", 1: "c", 4: "d"})
 
     def test_many(self):
-        """The longest silent of too many is forgotten, and who said nothing for three minutes."""
+        """The longest silent of too many is forgotten, and so is one that was silent for three minutes."""
         gone = []
         peers = near.Peers(gone.append)
         peers.numbers = {number: number + 1 for number in range(256)}
@@ -643,7 +646,7 @@ class Numbers(Ends):
 
 
 class Fars(Ends):
-    """The end beside the server."""
+    """The far end, next to the server."""
 
     def setUp(self):
         super().setUp()
@@ -656,7 +659,7 @@ class Fars(Ends):
         self.said = self.heard()
 
     def far_end(self, **more):
-        """A far end; standard input and output are the pipes here."""
+        """Return a far end; standard input and output are the pipes here."""
         one = far.Far(self.asked(far=True, command=[], **more), self.wakeup, StillLoop())
         self.addCleanup(one.close)
         for number, end in ((0, self.source), (1, self.target)):
@@ -667,16 +670,16 @@ class Fars(Ends):
 
     @property
     def waited(self):
-        """How long it would have waited."""
+        """Return the time that it would have waited."""
         return self.far.loop.waited
 
     def say(self, text):
-        """Has the other end say something."""
+        """Send a text from the other end."""
         os.write(self.said_end, text)
         self.far.turn()
 
     def test_greets(self):
-        """It greets with the session, where that is known, else with none; it waits neither for what it reads nor for what it writes."""
+        """It greets with the session if known, else with none; neither reads nor writes block."""
         self.assertEqual(self.set_blocking.call_args_list, [mock.call(0, False), mock.call(1, False)])
         self.far.turn()
         self.assertEqual(read_now(self.other.end), b"roam-relay 2 -\n" + packed((0, FORWARDS)))
@@ -685,7 +688,7 @@ class Fars(Ends):
         self.assertEqual((one.stream.session, self.far_end(greeted=True).stream.session), (None, "-"))
 
     def test_host(self):
-        """The socket `host` of a window is that of its session, also where no server's process is known; `panes` is the window's own."""
+        """The socket `host` of a window is that of its session, even without a known server process; `panes` is the window's own."""
         window = self.folder / "main/w/1"
         window.mkdir(parents=True)
         host, panes = self.listening(self.folder / "main/host"), self.listening(window / "panes")
@@ -719,7 +722,7 @@ class Fars(Ends):
         self.assertEqual((self.far.sockets, self.far.moments), ({}, {}))
 
     def test_starts(self):
-        """New starts come to the server slowly, whichever peers bring them; one that it knows always does."""
+        """New starts reach the server slowly, whichever peers bring them; a known one always does."""
         (self.folder / "session").write_text("5e55\n", encoding="ascii")
         new = [(b"RM\2\2" + (0x5E55).to_bytes(8, "big") + name.to_bytes(8, "big")).ljust(SHORTEST, b"\0") for name in range(5)]
         self.say(greeting("-") + packed(*((peer, new[peer]) for peer in range(1, 5)), (9, new[1]), (8, new[3])))
@@ -731,13 +734,13 @@ class Fars(Ends):
         self.assertEqual(set(self.far.sockets), {1, 2, 9, 7})
 
     def test_nobody(self):
-        """Where no server is a datagram is lost, as any may be."""
+        """Without a server a datagram is lost, like any other may be."""
         self.listener.close()
         self.say(greeting("-") + packed((4, datagram(1))))
         self.assertEqual(self.far.sockets, {})
 
     def test_most(self):
-        """Of 256 clients the longest silent goes for another."""
+        """Of 256 clients the longest silent gives way to another."""
         self.far.sockets = {number: mock.Mock() for number in range(1, 257)}
         self.far.moments = {number: float(number) for number in range(1, 257)}
         self.far.moments[1] = 300.0
@@ -749,7 +752,7 @@ class Fars(Ends):
         self.far.sockets[300].send.assert_called_once_with(datagram(1))
 
     def test_silence(self):
-        """One that has heard nothing for 30 s ends; what it has to say it says each 3 s."""
+        """It ends after 30 s without messages; its own messages come every 3 s."""
         self.far.turn()
         self.assertAlmostEqual(self.waited, 3.0)
         self.now += 3
@@ -764,7 +767,7 @@ class Fars(Ends):
             self.far.turn()
 
     def test_left(self):
-        """The other end's end is its own, with status 0; so is one that takes nothing more, and a signal."""
+        """The other end's end is its own, with status 0; so is one that accepts nothing more, and a signal."""
         os.close(self.said_end)
         with self.assertRaises(common.Ended) as way:
             self.far.turn()
@@ -779,7 +782,7 @@ class Fars(Ends):
         self.assertEqual(way.exception.args, (0,))
 
     def test_end(self):
-        """The server's end is told: as the session's where it was ended on purpose."""
+        """The server's end is reported: as the session's if it was intended."""
         for status, told in ((0, ENDED), (1, KILLED)):
             reader, writer = self.pipe()
             self.far.place = mock.Mock(ending=mock.Mock(return_value=("", status)))
@@ -790,7 +793,7 @@ class Fars(Ends):
             self.assertEqual((way.exception.args, self.other.frames()[-1]), ((0,), (0, told)))
 
     def test_heir(self):
-        """Once the server of its own window has ended it goes on with another that is there; where none is it tells the end."""
+        """After the end of its own window's server it continues with another one; without one it reports the end."""
         servers = [self.pipe() for _ in range(2)]
         self.patch_of(far, "opened_process", side_effect=[os.dup(reader) for reader, _ in servers])
         heir = mock.Mock(process=mock.Mock(return_value=77), ending=mock.Mock(return_value=("", 0)))
@@ -805,7 +808,7 @@ class Fars(Ends):
         self.assertEqual(self.other.frames()[-1], (0, ENDED))
 
     def test_host(self):
-        """Where it knows the server it sees the end of the pty host."""
+        """If it knows the server it detects the end of the pty host."""
         self.patch_of(far, "opened_process", return_value=self.pipe()[0])
         watch = self.patch_of(far, "HostWatchdog")
         self.far = self.far_end(server=os.getpid())
@@ -813,7 +816,7 @@ class Fars(Ends):
         watch.assert_called_once_with(self.far.place, self.far.loop)
 
     def test_port(self):
-        """A server that has a port is reached there."""
+        """A server with a port is reached there."""
         server = common.loopback_socket()
         self.addCleanup(server.close)
         server.bind(("127.0.0.1", 0))
@@ -830,10 +833,10 @@ class Fars(Ends):
 
 
 class Queued(Case):
-    """What waits for a relay's stream."""
+    """The queue for a relay's stream."""
 
     def test_newest(self):
-        """Of one client's instructions the one that has begun to go stays, and the newest."""
+        """Of one client's instructions the partly sent one stays, and the newest."""
         waiting = Waiting()
         for instruction in (1, 2, 3):
             for fragment in (0, 1):
@@ -846,7 +849,7 @@ class Queued(Case):
         self.assertEqual(waiting.size, 0)
 
     def test_limit(self):
-        """Of too much the oldest goes, and each datagram counts what it takes beside its bytes."""
+        """Above the limit the oldest goes, and each datagram counts with an overhead."""
         waiting = Waiting()
         for number in range(100):
             waiting.add(1, b"no datagram" + bytes([number]) + bytes(WAITING_LIMIT // 50))
@@ -865,7 +868,7 @@ class Queued(Case):
         self.assertLessEqual(len(waiting.datagrams) * 144, WAITING_LIMIT)
 
     def test_forgotten(self):
-        """What another client has waiting stays."""
+        """The datagrams of other clients stay."""
         waiting = Waiting()
         for peer in (1, 2):
             waiting.add(peer, datagram(1))
@@ -875,7 +878,7 @@ class Queued(Case):
 
 
 class Streams(Ends):
-    """What goes over a relay's stream."""
+    """The data on a relay's stream."""
 
     def setUp(self):
         super().setUp()
@@ -884,12 +887,12 @@ class Streams(Ends):
         self.sender.session = "-"
 
     def received(self, text):
-        """What is received of a text that comes."""
+        """Return the frames in a text."""
         os.write(self.there[1], text)
         return list(self.receiver.received())
 
     def test_cut(self):
-        """Frames come once, in order and whole, wherever they are cut, behind what a shell says at its start; and are little."""
+        """Frames arrive once, in order and whole, wherever they are cut, after a shell's initial output; and they are small."""
         waiting = Waiting()
         texts = [bytes([number]) * (34 + number * 9) for number in range(1, 60)]
         for number, text in enumerate(texts, 1):
@@ -911,8 +914,7 @@ class Streams(Ends):
             self.assertEqual(found, [(1, datagram(1)), (0, b"z1"), (0, b"zp"), (9, datagram(2))], cut)
 
     def test_each_cut_carried(self):
-        """The frames of forwarded connections, cut at each place: their bytes are counted, and the first frame tells whether there are
-        any."""
+        """The frames of forwarded connections, cut at each position: their bytes are counted, and the first frame announces them."""
         told = [(0, FORWARDS), (0, b"o\0\1panes"), (0, b"d\0\1focus 1\n"), (0, b"t\0\1" + bytes(8)), (0, b"q\0\1"), (1, datagram(1))]
         for frames, forwards in ((told, True), (told[1:], False)):
             text = greeting("abc") + packed(*frames)
@@ -931,19 +933,19 @@ class Streams(Ends):
             self.assertEqual(str(fault.exception), told)
 
     def test_noise(self):
-        """Before its greeting the other end may say 65,536 bytes, as one with a version that can't be."""
+        """Before its greeting the other end may print 65,536 bytes, such as one with an invalid version."""
         unknown = b"\nroam-relay " + b"9" * 5000 + b" 5e55\n"
         self.assertEqual(self.received(b"x" * (65536 - len(unknown)) + unknown), [])
         self.assertEqual((self.received(greeting("abc")), self.receiver.session), ([], "abc"))
 
     def test_gone(self):
-        """Nothing new is no end; an end is one."""
+        """No data is no end; the end of file is one."""
         self.assertEqual(list(self.receiver.received()), [])
         os.close(self.there[1])
         self.assertIsNone(self.receiver.received())
 
     def test_window(self):
-        """131,072 bytes at most are on their way, until the other end tells that they have come; that is told after 16,384."""
+        """At most 131,072 bytes are in flight until the other end acknowledges them, which it does after 16,384."""
         waiting = Waiting()
         for number in range(1, 301):
             waiting.add(number, os.urandom(1000))
@@ -971,7 +973,7 @@ class Streams(Ends):
         self.assertEqual(self.sender.acknowledged, 134_000)
 
     def test_silence(self):
-        """It is silent where nothing comes, or what was sent doesn't arrive."""
+        """It is silent if nothing arrives, or if sent data is not acknowledged."""
         self.assertFalse(self.sender.is_silent(7))
         self.now += 7
         self.assertFalse(self.sender.is_silent(7))
@@ -990,7 +992,7 @@ class Streams(Ends):
         self.assertFalse(self.sender.is_silent(7))
 
     def test_heartbeat(self):
-        """An end says something each 3 s at least."""
+        """An end sends something every 3 s at least."""
         self.assertEqual(self.sender.due_at(), 103.0)
         self.sender.fill(Waiting())
         before = len(self.sender.going)
@@ -1003,7 +1005,7 @@ class Streams(Ends):
 
 
 class Commands(Case):
-    """A command that runs, and what it says."""
+    """A running command, and its messages."""
 
     def test_runs(self):
         """Its standard error is passed on as printable lines, and its end has a status."""
@@ -1023,7 +1025,7 @@ class Commands(Case):
         self.assertEqual(link.stream.going, b"roam-relay 2 -\n")
 
     def test_sayings(self):
-        """What a command says is little and printable, and the logs that are known have room for it."""
+        """A command's messages are short and printable, and the known logs have room for them."""
         link = near_command.RunningCommand(["sleep", "60"], "-", False)
         self.addCleanup(lambda: (link.end(), link.status()))
         rooms, writes = self.patch_of(near_command, "make_room_in_logs"), self.patch("os.write")
@@ -1036,7 +1038,7 @@ class Commands(Case):
         self.assertEqual(sum(call[0][0] for call in rooms.call_args_list), len(said.encode()))
 
     def test_killed(self):
-        """One that doesn't end in a second is ended by force."""
+        """One that doesn't end in a second is killed."""
         link = near_command.RunningCommand(["sleep", "60"], "-", True)
         self.assertEqual(os.getsid(link.process.pid), os.getsid(0))
         waits = link.process.wait
@@ -1049,7 +1051,7 @@ class Commands(Case):
 
 
 class Words(Ends):
-    """The words of the command line."""
+    """The options of the command line."""
 
     def test_wrong(self):
         folder = str(self.folder)
@@ -1083,7 +1085,7 @@ class Words(Ends):
         self.assertIsNone(relay.session_in("/no/such"))
 
     def test_main(self):
-        """It turns until its end, whose status it has, and leaves nothing."""
+        """It runs until its end, returns the status, and leaves nothing."""
         end = mock.Mock(turn=mock.Mock(side_effect=[None, common.Ended(129)]))
         made = self.patch_of(near, "Near", return_value=end)
         self.patch_of(relay, "woken", return_value=5)

@@ -1,4 +1,4 @@
-"""Both ends of a relay, one beside the other, and what they carry of the sockets of a session's folder: over a command, and over a path."""
+"""Both ends of a relay in one process, and the forwarded sockets of a session's folder: over a command, and over a path."""
 import os
 import socket
 import unittest
@@ -13,7 +13,7 @@ LINES = b"1 1 1 23 80 1\nfocus 1\nclients 1 of 64\nwatchers 0 of 16\n"
 
 
 class Joined(Both):
-    """A near and a far end, joined by pipes that stand for a command, and where UDP is wanted by ports of loopback."""
+    """A near and a far end, joined by pipes in place of a command, and by ports of loopback if UDP is wanted."""
 
     udp = "never"
 
@@ -36,20 +36,20 @@ class Joined(Both):
         self.addCleanup(self.leave)
 
     def leave(self):
-        """Ends both."""
+        """End both."""
         self.patch_of(near, "finish")
         self.near.close()
         for one in self.fars:
             one.close()
 
     def part(self, signals):
-        """What would let the command go, in this very process."""
+        """Return the descriptor that would release the command, in this same process."""
         letting_go, held = os.pipe()
         self.addCleanup(os.close, letting_go)
         return held
 
     def new_link(self, command, session, may_ask):
-        """A command that is spawned, with a far end."""
+        """Return a simulated command with a far end."""
         link = FakeLink(self, session)
         self.patch_of(far, "RelayStream", side_effect=lambda _, __, own: RelayStream(link.other.end, link.said, own))
         one = far.Far(self.asked(far=True, command=[], dir=str(self.there), session="5e55"), self.wakeup, StillLoop())
@@ -62,7 +62,7 @@ class Joined(Both):
         return link
 
     def run_for(self, seconds=0.3):
-        """Lets so many seconds pass, in small steps; the servers take who comes."""
+        """Let so many seconds pass, in small steps; the servers accept connections."""
         end = self.now + seconds
         while self.now < end:
             self.now += 0.05
@@ -81,7 +81,7 @@ class Joined(Both):
                         held[-1].send(LINES)
 
     def connect(self, name="panes"):
-        """One who connects in the near folder; None where nothing is there."""
+        """Connect in the near folder; None if nothing listens there."""
         one = socket.socket(socket.AF_UNIX, socket.SOCK_STREAM)
         self.addCleanup(one.close)
         try:
@@ -96,7 +96,7 @@ class ByCommand(Joined):
     """Over the command alone."""
 
     def test_told(self):
-        """The panes are told here as there, and so are bells; many who follow here are one there."""
+        """Panes and bells are reported here as there; many subscribers here are one there."""
         self.run_for(0.5)
         held = [self.connect() for _ in range(3)]
         self.run_for()
@@ -110,7 +110,7 @@ class ByCommand(Joined):
         self.assertIsNotNone(self.connect("host"))
 
     def test_cut(self):
-        """Where the command ends all of it ends, and is told anew once another is there."""
+        """The end of the command ends all connections, and everything is reported anew on the next one."""
         self.run_for(0.5)
         panes, host = self.connect(), self.connect("host")
         self.run_for()
@@ -126,7 +126,7 @@ class ByCommand(Joined):
         self.assertEqual((read_now(again), len(self.served["panes"])), (LINES, 2))
 
     def test_server_gone(self):
-        """Where the server there lets go they are let go here, and where it tells again it is told here."""
+        """If the server there disconnects, subscribers here are disconnected, and its new reports arrive here."""
         self.run_for(0.5)
         panes = self.connect()
         self.run_for()
@@ -138,7 +138,7 @@ class ByCommand(Joined):
         self.assertEqual(read_now(again), LINES)
 
     def test_much(self):
-        """What is large comes whole beside datagrams, and 65,536 bytes wait at most."""
+        """Large data arrives whole beside datagrams, and 65,536 bytes wait at most."""
         self.run_for(0.5)
         host = self.connect("host")
         self.run_for()
@@ -155,12 +155,12 @@ class ByCommand(Joined):
 
 
 class ByPath(Joined):
-    """Over a path, where that is validated."""
+    """The same over a validated path."""
 
     udp = None
 
     def validate(self):
-        """Has the path be sound."""
+        """Validate the path."""
         self.run_for(4)
         self.assertTrue(self.near.ways.is_validated() and self.fars[0].ways.is_validated())
 
@@ -178,7 +178,7 @@ class ByPath(Joined):
         self.served["panes"][1].send(b"focus 1\n" * 3)
         self.run_for()
         self.assertEqual((read_now(host), read_now(panes)), (b"bell 1\n", b"focus 1\n" * 3))
-        # Nothing goes by UDP any more; the command is there still.
+        # UDP is blocked, and the command still works.
         blocked = self.patch_of(self.near.ways.path.aead, "counter_of", lambda packet: 0)
         self.patch_of(self.fars[0].ways.path.aead, "counter_of", lambda packet: 0)
         self.run_for(12)
@@ -190,7 +190,7 @@ class ByPath(Joined):
         self.assertTrue(blocked)
 
     def test_alone(self):
-        """Where the command has ended they go on over the path, as if nothing were."""
+        """After the command's end they continue over the path without a change."""
         self.validate()
         panes = self.connect()
         self.run_for()
@@ -204,7 +204,7 @@ class ByPath(Joined):
         self.assertEqual((read_now(panes), self.near.link), (b"2 1 41 23 39 1\n", None))
 
     def test_much(self):
-        """What is large comes whole over a path, both ways."""
+        """Large data arrives whole over a path, both ways."""
         self.validate()
         one = self.connect("host")
         self.run_for()

@@ -1,4 +1,4 @@
-"""Borders that are moved by keys, and even shares, against a session that is played with its layout."""
+"""Borders moved by keys, and even sizes, at a simulated session with its layout."""
 import copy
 import unittest
 
@@ -15,12 +15,12 @@ class Moves(Attached):
     """One border."""
 
     def ends(self, pane):
-        """Where a pane begins and ends."""
+        """Return the first and last cell of a pane."""
         rect = self.session.rects()[pane]
         return {"left": rect.col, "right": rect.col + rect.cols, "up": rect.row, "down": rect.row + rect.rows}
 
     def move(self, pane, side):
-        """Where the borders of a pane in focus are, before a key and behind it."""
+        """Return the borders of a focused pane, before a key and after it."""
         self.session.focus = pane
         self.person.tell(self.session.places())
         self.person.display.row.end_told()
@@ -30,7 +30,9 @@ class Moves(Attached):
         return before, self.ends(pane)
 
     def each(self, session, size):
-        """Moves each border of each pane of a session to and fro by keys: it goes by one, or words say why not, and nothing is changed."""
+        """Move each border of each pane of a session to and fro by keys: it moves by one, or a message gives the reason and nothing
+        changes.
+        """
         self.attach(session, size)
         moved = stuck = 0
         for pane in session.rects():
@@ -52,7 +54,7 @@ class Moves(Attached):
         return moved, stuck
 
     def test_grid(self):
-        """In a grid that was split right and then down each half the rows go, and the middle says why not."""
+        """In a grid that was split right and then down each half the rows move, and the middle reports the reason."""
         session = Lived()
         for act in ("split right", "split down", "focus 1", "split down"):
             session.do(act)
@@ -63,7 +65,7 @@ class Moves(Attached):
         self.assertEqual(self.each(session, (24, 80)), (8, 8))
 
     def test_next_behind(self):
-        """What comes of a border's first step doesn't tell where C-b o put the focus: its second step leaves the focus there."""
+        """The effect of a border's first step doesn't show the focus that C-b o set: its second step leaves the focus there."""
         session = Lived()
         for act in ("split right", "split down", "focus 2"):
             session.do(act)
@@ -81,7 +83,7 @@ class Moves(Attached):
         self.assertEqual((self.ends(2)["down"], session.focus), (before - 2, 3))
 
     def test_stuck_at_limit(self):
-        """Where no pane's own split has a border that is told also of one that is as far as it can be."""
+        """If no pane owns a border that is reported, also for one at its limit."""
         session = Lived()
         for act in ("split down", "split right", "focus 1", "split right"):
             session.do(act)
@@ -91,7 +93,7 @@ class Moves(Attached):
         self.assertEqual(self.person.display.row.told, NO_PANE)
 
     def test_trees(self):
-        """In each of 40 trees, where the numbers tell the splits: what is said not to go has no pane whose own split it is."""
+        """In each of 40 trees whose numbers determine the splits: a border reported as immovable has no owner."""
         moved = 0
         for seed in range(40):
             session = by_chance(seed, *((24, 80), (50, 160))[seed % 2], most=3 + seed % 4)
@@ -100,7 +102,7 @@ class Moves(Attached):
         self.assertGreater(moved, 250)
 
     def test_closed(self):
-        """So where panes were closed, and others have their numbers: a growth that moves another border is undone."""
+        """The same if panes were closed, and others have their numbers: a step that moves another border is undone."""
         moved = 0
         for seed in range(12):
             session = by_chance(seed, closes=3)
@@ -108,7 +110,7 @@ class Moves(Attached):
         self.assertGreater(moved, 40)
 
     def test_missing(self):
-        """Where a number is missing, and a border's sides look split in two, the panes at this place are tried."""
+        """If a number is missing, and a border's sides look split in two, the panes at this position are tried."""
         for side, pane in (("right", 1), ("right", 3), ("left", 2), ("left", 5)):
             session = Lived()
             session.parts = PaneSplit("down", PaneSplit("right", 1, 2), PaneSplit("right", 3, 5))
@@ -125,7 +127,7 @@ class Moves(Attached):
         self.assertTrue(resize_keys.is_across(Rect(7, 1, 5, 9), Rect(1, 1, 5, 9), "up"))
 
     def test_several(self):
-        """Keys that come while a border goes move it on, each by one; the focus and no other border is changed."""
+        """Keys that arrive while a border moves move it on, each by one; the focus and other borders stay."""
         session = Lived()
         for act in ("split right", "split right", "focus 2"):
             session.do(act)
@@ -140,7 +142,7 @@ class Moves(Attached):
         self.assertEqual({line for line in self.heard if "grow" not in line}, set())
 
     def test_at_once(self):
-        """Behind a key that moves the focus it is the border of the pane that comes into focus, once it is told which that is."""
+        """After a key that moves the focus it is the border of the newly focused pane, once that is reported."""
         session = Lived()
         for act in ("split right", "split right", "focus 1"):
             session.do(act)
@@ -157,7 +159,7 @@ class Moves(Attached):
         self.assertEqual((self.person.said(), self.person.display.row.told), ([], resize_keys.NO_FOCUS))
 
     def test_limits(self):
-        """It goes no further than the panes have room; that is told."""
+        """It moves no further than the panes have room, and that is reported."""
         session = Lived()
         session.do("split right")
         self.attach(session)
@@ -167,7 +169,7 @@ class Moves(Attached):
         self.assertEqual((session.rects()[2].cols, self.person.display.row.told), (4, resize_keys.NO_ROOM))
 
     def test_untold(self):
-        """Where nothing tells the panes that is told."""
+        """Without reports of the panes there is a message."""
         self.attach(Lived())
         self.person.place.told = None
         for keys in (KEYS["up"], b"\x02 "):
@@ -177,10 +179,10 @@ class Moves(Attached):
 
 
 class Even(Attached):
-    """Even shares by a key."""
+    """Even sizes by a key."""
 
     def test_trees(self):
-        """All that can be even is, with the focus where it was, and a border that no pane has is told."""
+        """All sizes that can be even are, with the focus restored, and a border without an owner is reported."""
         stuck = 0
         for seed in range(40):
             session = by_chance(seed, *((24, 80), (50, 160))[seed % 2])
@@ -200,7 +202,7 @@ class Even(Attached):
         self.assertTrue(0 < stuck < 30, stuck)
 
     def test_told(self):
-        """Where they are even that is told, and where they come to be so nothing is."""
+        """Sizes that are already even give a message, and a successful change gives none."""
         session = Lived()
         for act in ("split right", "grow 9", "split right"):
             session.do(act)
@@ -211,7 +213,7 @@ class Even(Attached):
         self.assertEqual(self.person.display.row.told, resize_keys.EVEN)
 
     def test_refused(self):
-        """What isn't done is tried so often and no more."""
+        """A refused change is tried so often and no more."""
         session = by_chance(3)
         self.attach(session)
         session.grow = lambda pane, by: False

@@ -1,11 +1,11 @@
-"""Pauses between tries."""
+"""Pauses between attempts."""
 import unittest
 
 from roam_live.common.retry import Retry
 
 
 class Pauses(unittest.TestCase):
-    """How long the next try waits."""
+    """The pause before the next attempt."""
 
     def test_grows(self):
         """Each failure in a row makes it longer, up to the last."""
@@ -13,7 +13,7 @@ class Pauses(unittest.TestCase):
         self.assertEqual((retry.pause(), [retry.fails() for _ in range(4)], retry.pause()), (0.0, [1, 2, 5, 5], 5))
 
     def test_sound(self):
-        """What lasted five seconds was no failure, and what lasted less was one."""
+        """A run of five seconds was no failure, and a shorter one was."""
         retry = Retry((1, 2, 5))
         for lasted, pause in ((5.0, 1), (4.9, 2), (0.0, 5), (6.0, 1), (4.0, 2)):
             retry.begins(100.0)
@@ -21,7 +21,7 @@ class Pauses(unittest.TestCase):
             self.assertEqual(retry.fails(), pause, lasted)
 
     def test_first(self):
-        """Something that never was doesn't count as one that ended soon; another duration may be named."""
+        """Something that never existed doesn't count as an early end; another duration may be set."""
         retry = Retry((1, 2, 5), 10.0)
         retry.ends(0.0)
         retry.fails()

@@ -1,4 +1,4 @@
-"""How roam_bundle.py loads modules: what its files have, when they are used, and what becomes of one that can't be."""
+"""The bundles of roam_bundle.py: their contents, their use, and unusable ones."""
 import os
 import shutil
 import subprocess
@@ -8,7 +8,7 @@ from aids import Case
 from counted import plain_environment
 from roam_live.common.process import TOOLS
 
-# A small tree with the modules for which bundles are.
+# A small tree with the modules of the bundles.
 TREE = {
     "__init__": "", "common/__init__": "", "cli/__init__": "", "frontend/__init__": "", "host/__init__": "",
     "common/text": '"""Words."""\nfrom __future__ import annotations\n\n\ndef shown(text: Unknown) -> str:\n    """Show it."""\n    return f"<{text}>"\n',
@@ -23,7 +23,7 @@ TREE = {
 # The modules that each bundle adds to those before it.
 ADDED = {"mux": 6, "first_painting": 2, "front_end": 1}
 
-# Prints how many modules of roam bundles bring, and sees that they are as an import makes them.
+# Prints the number of roam's modules from bundles, and checks that they equal imported ones.
 LOADS = """
 import sys
 sys.path.insert(0, sys.argv[1])
@@ -42,7 +42,7 @@ import roam_live.common.other
 assert roam_live.common.other.shown is text.shown
 """
 
-# Removes the tools below a front end, and imports what it has for later.
+# Removes the tools below a front end, and imports its late modules.
 LATE = """
 import os, shutil, sys
 sys.path.insert(0, sys.argv[1])
@@ -68,7 +68,7 @@ late.end()
 
 
 class ModuleBundles(Case):
-    """Those of a small tree."""
+    """The bundles of a small tree."""
 
     def setUp(self):
         self.tools = self.made_folder() / "live"
@@ -79,31 +79,31 @@ class ModuleBundles(Case):
         shutil.copy(TOOLS / "roam_bundle.py", self.tools)
 
     def run_python(self, *words, **more):
-        """What Python prints that is run with these words."""
+        """Return the output of Python with these words."""
         run = subprocess.run([sys.executable, "-S", *words], env=plain_environment(**more), stdout=subprocess.PIPE, check=True)
         return run.stdout.decode()
 
     def write(self):
-        """Writes all bundles."""
+        """Write all bundles."""
         self.run_python(str(self.tools / "roam_bundle.py"))
         return {path.name.partition(".")[0]: path for path in self.tools.rglob("*.bundle")}
 
     def brought(self, *names, **more):
-        """How many modules bundles bring."""
+        """Return the number of modules from bundles."""
         return int(self.run_python("-c", LOADS, str(self.tools), *names, **more))
 
     def test_loaded(self):
-        """A bundle has all that its roots import at once; the first call writes it, and the next ones use it."""
+        """A bundle has everything that its roots import at once; the first call writes it, and the next ones use it."""
         self.assertEqual((self.brought("mux"), self.brought("mux")), (0, ADDED["mux"]))
         self.write()
         self.assertEqual(self.brought("mux", "first_painting"), ADDED["mux"] + ADDED["first_painting"])
         self.assertEqual(self.brought(*ADDED), sum(ADDED.values()))
-        # That of the host needs no other; what has none is imported.
+        # The host's bundle needs no other; modules without one are imported.
         self.assertEqual(self.brought("mux", "none"), ADDED["mux"])
         self.assertEqual(self.brought("host"), 6)
 
     def test_changed(self):
-        """One with a source that has changed, or is gone, isn't used, and is written anew."""
+        """One with a changed or missing source isn't used, and is written anew."""
         self.write()
         source = self.tools / "roam_live/common/text.py"
         source.write_text(source.read_text(encoding="utf-8") + "\nMORE = 1\n", encoding="utf-8")
@@ -118,7 +118,7 @@ class ModuleBundles(Case):
         self.assertEqual([path for path in self.tools.rglob("*.bundle.*")], [])
 
     def test_odd(self):
-        """What is no bundle, or one of another folder, isn't used; neither is any where Python writes no bytecode."""
+        """An invalid bundle, or one of another folder, isn't used; neither is any if Python writes no bytecode."""
         path = self.write()["mux"]
         whole = path.read_bytes()
         for data in (b"", b"x", whole[:100], whole[:-1], b"N", b"i\0\0\0\0"):
@@ -132,18 +132,18 @@ class ModuleBundles(Case):
         self.assertEqual((self.brought("mux"), self.brought("mux")), (0, ADDED["mux"]))
 
     def test_unwritable(self):
-        """Where no bundle can be written the modules are imported."""
+        """If no bundle can be written the modules are imported."""
         (self.tools / "__pycache__").write_text("", encoding="ascii")
         self.assertEqual((self.brought("mux"), self.brought("mux")), (0, 0))
 
     def test_late(self):
-        """What a front end imports later is that of its own build, though roam was removed; what no bundle has is refused then."""
+        """The late imports of a front end belong to its own build, though roam was removed; modules without a bundle are refused then."""
         self.tools = self.made_folder() / "live"
         shutil.copytree(TOOLS, self.tools, ignore=shutil.ignore_patterns("__pycache__"))
         self.assertEqual(self.run_python("-c", LATE, str(self.tools)).split(), ["late", "True", "refused"])
 
     def test_same_output(self):
-        """mux says the same by bundles and without."""
+        """mux prints the same with bundles and without."""
         self.tools = self.made_folder() / "live"
         shutil.copytree(TOOLS, self.tools, ignore=shutil.ignore_patterns("__pycache__"))
         self.write()

@@ -1,4 +1,4 @@
-"""What the scrollback process is handed of panes, what is kept of what it prints, and what is lost where it doesn't keep up, or ends."""
+"""The input of the scrollback process, the stored part of its output, and the loss if it is slow or ends."""
 import os
 import signal
 import time
@@ -16,7 +16,7 @@ LOST = LOST_SOME[:-1].encode()
 
 
 class Keeping(Case):
-    """A host of rows whose filters are played by hand."""
+    """A host of rows whose scrollback processes are played by hand."""
 
     processes = 1
 
@@ -32,34 +32,34 @@ class Keeping(Case):
         self.addCleanup(self.scrollback.close)
 
     def rows(self, pane=1, generation=5):
-        """The scrollback rows of a pane."""
+        """Return the scrollback rows of a pane."""
         return self.scrollback.pane(pane, generation).rows.range().rows(0, 999)[1]
 
     def ask(self, pane=1, generation=5):
-        """Asks for a snapshot."""
+        """Request a snapshot."""
         self.scrollback.ask_snapshot(pane, generation, self.told.append)
 
     def prints(self, data):
-        """Has the scrollback process print."""
+        """Print as the scrollback process."""
         self.fake.prints(data)
         self.loop.turns(2)
 
     def handed(self):
-        """What the scrollback process was handed."""
+        """Return the input of the scrollback process."""
         self.loop.turns(2)
         return self.fake.taken()
 
     def pass_time(self, seconds):
-        """Has so much time pass."""
+        """Let so much time pass."""
         self.now += seconds
         self.loop.turns(2)
 
 
 class Handed(Keeping):
-    """What the scrollback process is handed."""
+    """The input of the scrollback process."""
 
     def test_panes(self):
-        """A pane has a terminal once something is written there, with its size then; another making has another."""
+        """A pane gets a terminal at its first output, with its size then; another generation has another."""
         self.scrollback.begin(1, 5, SIZE)
         self.scrollback.resize(1, (10, 40))
         self.assertEqual(self.handed(), b"")
@@ -78,7 +78,7 @@ class Handed(Keeping):
         self.assertIsNone(self.scrollback.pane(1, 5))
 
     def test_printed(self):
-        """What it prints is kept, what is lost told among it, and what is cleared isn't kept."""
+        """Its rows are stored, lost ones are marked among them, and cleared ones are dropped."""
         self.scrollback.begin(1, 5, SIZE)
         self.scrollback.feed(1, b"a")
         self.prints(b"rows 0 2 7\n a\n+bc\nlost 0 9\nrows 0 1 3\n d\n")
@@ -87,7 +87,7 @@ class Handed(Keeping):
         self.assertEqual(self.rows(), [b" e"])
 
     def test_snapshot(self):
-        """What is kept when the scrollback process tells the screen, and the screen."""
+        """The stored rows when the scrollback process reports the screen, and the screen."""
         self.scrollback.begin(1, 5, SIZE)
         self.scrollback.feed(1, b"a")
         self.ask()
@@ -101,7 +101,7 @@ class Handed(Keeping):
         self.assertEqual(self.rows(), [b" a", b" b"])
 
     def test_late(self):
-        """A screen that comes too late answers nobody, and each further one its own question."""
+        """A late screen answers nobody, and each further one its own request."""
         self.scrollback.begin(1, 5, SIZE)
         self.ask()
         self.pass_time(SCREEN_WAIT + 0.1)
@@ -113,7 +113,7 @@ class Handed(Keeping):
         self.assertEqual(self.told[1].rows(0, 9)[1], [b" y"])
 
     def test_last(self):
-        """Who writes rows down has a gone pane's last screen, without the blank rows at its end, before it is forgotten."""
+        """A log reader gets an ended pane's last screen, without the blank rows at its end, before it is forgotten."""
         self.scrollback.begin(1, 5, SIZE)
         self.scrollback.feed(1, b"a")
         pane = self.scrollback.pane(1, 5)
@@ -136,10 +136,10 @@ class Handed(Keeping):
 
 
 class Behind(Keeping):
-    """A filter that doesn't keep up."""
+    """A slow scrollback process."""
 
     def fill(self):
-        """Writes to a pane while it is read."""
+        """Write to a pane while it is read."""
         for _ in range(1000):
             if not self.scrollback.hears():
                 return
@@ -165,7 +165,7 @@ class Behind(Keeping):
         self.assertEqual((self.said, found.count(b"pane")), ([], 1))
 
     def test_lost(self):
-        """After a second panes are read again; rows are lost then, which is told, and stands among those that are kept."""
+        """After a second panes are read again; then rows are lost, which is reported and marked among the stored ones."""
         self.scrollback.begin(1, 5, SIZE)
         self.scrollback.begin(2, 5, SIZE)
         self.scrollback.feed(2, b"quiet")
@@ -200,7 +200,7 @@ class Behind(Keeping):
         self.assertEqual(self.rows(2), [b" q"])
 
     def test_told(self):
-        """It is told once in a while, however often it happens."""
+        """It is reported once in a while, however often it happens."""
         self.scrollback.begin(1, 5, SIZE)
         for _ in range(3):
             self.fill()
@@ -215,7 +215,7 @@ class Behind(Keeping):
         self.assertEqual(self.said, [BEHIND, BEHIND])
 
     def test_bounded(self):
-        """What is asked of one that takes nothing, and sizes, don't wait without end."""
+        """Requests and sizes for a stalled process have a bounded queue."""
         self.scrollback.begin(1, 5, SIZE)
         self.scrollback.feed(1, b"a")
         for number in range(60_000):
@@ -226,18 +226,18 @@ class Behind(Keeping):
 
 
 class Ended(Keeping):
-    """A filter that ends, again and again."""
+    """A scrollback process that ends repeatedly."""
 
     processes = 3
 
     def end(self):
-        """Has the scrollback process end that is there."""
+        """End the current scrollback process."""
         self.fakes.pop(0).end()
         self.fake = self.fakes[0] if self.fakes else None
         self.loop.turns(2)
 
     def test_again(self):
-        """Another is spawned after a pause that grows, and each pane has a new terminal there; what is lost is told and stands there."""
+        """Another is spawned after a growing pause, and each pane has a new terminal there; the loss is reported and marked."""
         self.scrollback.begin(1, 5, SIZE)
         self.scrollback.begin(2, 5, SIZE)
         self.scrollback.feed(1, b"a")
@@ -268,7 +268,9 @@ class Ended(Keeping):
         self.assertTrue(self.scrollback.hears())
 
     def test_other(self):
-        """A new terminal behind a loss shows the other screen where the pane's program does, so that no row leaves it; a first one not."""
+        """A new terminal after a loss shows the alternate screen if the pane's program does, so that no row scrolls off; a first one
+        doesn't.
+        """
         self.scrollback.is_other = lambda number: number == 1
         for number in (1, 2):
             self.scrollback.begin(number, 5, SIZE)
@@ -281,7 +283,7 @@ class Ended(Keeping):
         self.assertEqual(self.handed(), b"pane 2 23 80\nbytes 2 9\n\x1b[?1049hbpane 3 23 80\nbytes 3 1\nb")
 
     def test_nonsense(self):
-        """One that prints nonsense is ended."""
+        """One that prints an invalid record is ended."""
         self.scrollback.begin(1, 5, SIZE)
         self.scrollback.feed(1, b"a")
         self.prints(b"rows 0 1 3\n a\n")
@@ -291,7 +293,7 @@ class Ended(Keeping):
         self.assertEqual(self.rows(), [b" a"])
 
     def test_sound(self):
-        """One that was sound for a while is followed at once."""
+        """One that was healthy for a while is replaced at once."""
         for _ in range(2):
             self.pass_time(scrollback.SOUND)
             self.end()
@@ -300,10 +302,10 @@ class Ended(Keeping):
 
 
 class Chosen(Case):
-    """How many rows are kept."""
+    """The limit on stored rows."""
 
     def test_chosen(self):
-        """As ROAM_HISTORY says; where that is wrong, which is told, 10,000."""
+        """The limit is ROAM_HISTORY; an invalid one, which is reported, means 10,000."""
         for word, count in (("", 10000), ("0", 0), ("500", 500), ("1000000", 1000000), ("-1", None), ("1000001", None), ("many", None),
                             ("\u0663", None), ("9" * 30, None)):
             with mock.patch.dict(os.environ, {"ROAM_HISTORY": word}):
@@ -311,7 +313,7 @@ class Chosen(Case):
             self.assertEqual((chosen, bool(wrong)), (10000 if count is None else count, count is None), word)
 
     def test_none(self):
-        """Where none are to be kept no scrollback process runs."""
+        """With a limit of zero no scrollback process runs."""
         said = []
         with mock.patch.object(Scrollback, "words", side_effect=AssertionError):
             scrollback = Scrollback(StillLoop(lambda: self.now), said.append, 0)
@@ -321,7 +323,7 @@ class Chosen(Case):
         scrollback.close()
 
     def test_absent(self):
-        """Where the program isn't there it is tried again."""
+        """If the program is missing it is tried again."""
         said = []
         loop = StillLoop(lambda: self.now)
         with mock.patch.dict(os.environ, {"ROAM": "/no/such/roam"}):
@@ -334,17 +336,17 @@ class Chosen(Case):
 
 
 class Real(Case):
-    """With real processes of a small script."""
+    """Real processes of a small script."""
 
     def until(self, test):
-        """Takes turns until something holds."""
+        """Take turns until a condition is true."""
         end = time.monotonic() + 10
         while not test() and time.monotonic() < end:
             self.loop.turn()
         self.assertTrue(test())
 
     def test_killed(self):
-        """The last rows are kept, whole and in order; of one that is killed what came before, and what is written then."""
+        """The last rows are stored, whole and in order; after a kill, those before it and the later ones."""
         self.loop, said = Loop(), []
         self.loop.each(lambda: self.loop.clock() + 0.02)
         with mock.patch.object(Scrollback, "words", lambda self: FAKE):

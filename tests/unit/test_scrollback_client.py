@@ -1,4 +1,4 @@
-"""What a front end asks of scrollback rows and buffers: its lines, what is told, cut anywhere, and what can't be an answer."""
+"""A front end's requests for scrollback rows and buffers: its lines, answers cut anywhere, and invalid ones."""
 import socket
 
 from aids import Case, LinkedClient, StillLoop, without_numbers
@@ -9,7 +9,7 @@ TOLD = (b"host 00\nrows 2 5 10 2 9 \nrows 2 5 10 2 9\n +ab\n+c\x1b\nothers 0\nsn
 
 
 class Asked(Case):
-    """Questions, and what was told."""
+    """Requests, and their answers."""
 
     def setUp(self):
         without_numbers(self)
@@ -17,21 +17,21 @@ class Asked(Case):
         self.link = ScrollbackClient(self.ask)
 
     def ask(self, line, data):
-        """Takes a question, while it is connected."""
+        """Record a request, while connected."""
         if self.is_connected:
             self.said.append(line.encode() + b"\n" + data)
         return self.is_connected
 
     def take(self, data):
-        """Has the link take what was told."""
+        """Pass an answer to the link."""
         return [self.link.take(answer) for answer in AnswerReader().fed(data)]
 
     def tell(self, *told):
-        """Takes note of what was told."""
+        """Record an answer."""
         self.told.append(told)
 
     def test_questions(self):
-        """Each question is a line, and each answer comes to who asked, in order."""
+        """Each request is a line, and each answer reaches its caller, in order."""
         self.link.count(2, 5, self.tell)
         self.link.rows(2, 5, -3, 5000, self.tell)
         self.link.find(2, 5, 9, True, "a b", self.tell)
@@ -47,7 +47,7 @@ class Asked(Case):
                                      ([BufferNote(4, 2, "a b")],)])
 
     def test_none(self):
-        """What can't be answered is told so, and so is all where no host is connected, or where it is lost."""
+        """A failed request is reported as such, and so are all if no host is connected, or the connection is lost."""
         asks = (lambda: self.link.count(2, 5, self.tell), lambda: self.link.rows(2, 5, 3, 1, self.tell),
                 lambda: self.link.find(2, 5, 0, False, "a", self.tell), lambda: self.link.snapshot(2, 5, self.tell),
                 lambda: self.link.buffer(4, self.tell), lambda: self.link.buffers(self.tell), lambda: self.link.add_buffer(b"a", self.tell))
@@ -68,13 +68,13 @@ class Asked(Case):
         self.assertEqual(self.told, nothing)
 
     def test_sought(self):
-        """What no row holds, or no line, isn't asked."""
+        """A text that no row or line can contain isn't requested."""
         for text in ("", "a\nb", "a" * 181, "\x1b"):
             self.link.find(2, 5, 0, False, text, self.tell)
         self.assertEqual((self.said, self.told), ([], [(None,)] * 4))
 
     def test_added(self):
-        """A buffer's bytes go behind its line; one for which there is no room has no number."""
+        """A buffer's bytes follow its line; one without room has no number."""
         self.link.add_buffer(b"a\nb", self.tell)
         self.assertEqual(self.said, [b"buffer add 3\na\nb"])
         self.take(b"buffer add 7 3\n")
@@ -83,7 +83,7 @@ class Asked(Case):
         self.assertEqual(self.told, [(7,), (None,)])
 
     def test_more(self):
-        """What is told of a snapshot unasked is told on; a release is said."""
+        """Unrequested reports about a snapshot are passed on; a release is sent."""
         self.link.on_more = self.tell
         self.assertEqual(self.take(b"more 2 5 9\n"), [True])
         self.assertEqual(self.told, [(2, 5, 9)])
@@ -93,11 +93,11 @@ class Asked(Case):
         self.assertEqual(self.said, [b"count 2 5\n", b"release 2 5\n"])
 
     def test_others(self):
-        """What isn't of this is another's, as what is told of who is there."""
+        """Other lines, such as those about terminals, belong elsewhere."""
         self.assertEqual(self.take(b"others 0\nheld 00\n"), [False, False])
 
     def test_bad(self):
-        """What can't be an answer."""
+        """Invalid answers."""
         for told in (b"rows 2 5 1 1 x\n", f"rows 2 5 1 1 {MOST_ANSWER + 1}\n".encode(), f"buffers {MOST_LISTED + 1}\n".encode(),
                      b"a" * 65536, b"buffer show 4 -1\n", b"more 2 5\n", b"more a 5 1\n", b"count 2 5 x 1\n", b"snapshot 2 5 0 1 1 0\n",
                      b"count 2 5 " + b"1" * 16 + b" 1\n"):
@@ -108,10 +108,10 @@ class Asked(Case):
 
 
 class Read(Case):
-    """What is told, however it is cut."""
+    """Answers, however they are cut."""
 
     def test_numbers(self):
-        """Each answer is about a window, or the session; a line that isn't led by such a number is no answer."""
+        """Each answer is about a window, or the session; a line without such a number is no answer."""
         data = b"12 rows 1 5 0 1 3\n a\n0 buffers 1\n9: x y\n3 others 0\n"
         found = AnswerReader().fed(data)
         self.assertEqual([(answer.window, answer.words[0], answer.data, answer.lines) for answer in found],
@@ -155,7 +155,7 @@ class Linked(Case):
         self.told = []
 
     def test_asked(self):
-        """Answers with bytes come between what is told of who is there; what can't be an answer ends the connection."""
+        """Answers with data come between lines about terminals; an invalid answer ends the connection."""
         self.link.scrollback.rows(1, 2, 0, 5, lambda first, rows: self.told.append((first, rows)))
         self.loop.turns(2)
         self.assertEqual(self.host.recv(4096), b"rows 1 2 0 5\n")
@@ -173,7 +173,7 @@ class Linked(Case):
         self.assertEqual(self.link.why, "rows is not the answer to the request")
 
     def test_buffer_given(self):
-        """A buffer is given by its number, again to a host that comes again."""
+        """A buffer is sent by its number, again to a host that returns."""
         self.host.send(b"host 00\nothers 0\n")
         self.loop.turns(2)
         self.link.store("00112233445566aa", 7)

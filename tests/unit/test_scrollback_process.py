@@ -1,4 +1,4 @@
-"""The scrollback process as a process: records to it and from it, cut anywhere, and its end in each way."""
+"""The scrollback process as a process: records to it and from it, cut anywhere, and all its ends."""
 import fcntl
 import gc
 import os
@@ -32,7 +32,7 @@ class Printed(Case):
         self.assertEqual([tuple(one) for at in range(len(PRINTED)) for one in records.fed(PRINTED[at : at + 1])], RECORDS)
 
     def test_nonsense(self):
-        """What is no record, or one that can't be."""
+        """Invalid and impossible records."""
         for printed in (b"\n", b"hello\n", b"rows 1 2\n", b"rows 1 2 3 4\n", b"rows 1024 1 2\n \n", b"rows -1 1 2\n \n", b"lost 1\n",
                         b"cleared 1 2\n", b"cleared  1\n", b"rows 1 1 1\n ", b"rows 1 2 3\n  \n", b"rows 1 1 3\n \n ", b"lost 1 x\n",
                         b"rows 1 0 1\nx", f"rows 1 1 {MOST_RECORD + 1}\n".encode(), b"lost 1 " + b"9" * 16 + b"\n", b"lost " * 30,
@@ -44,7 +44,7 @@ class Printed(Case):
 
 
 class Handed(Case):
-    """Records that it is handed, and the ends of one that is played by hand."""
+    """Its input records, and the ends of one that is played by hand."""
 
     def setUp(self):
         self.loop = StillLoop(lambda: self.now)
@@ -55,11 +55,11 @@ class Handed(Case):
         self.addCleanup(self.process.end, "the test ends")
 
     def wrote(self):
-        """Counts that something was written."""
+        """Count a write."""
         self.writes += 1
 
     def test_joined(self):
-        """What is written for one terminal goes as one record, and stays before what comes behind it."""
+        """Output for one terminal forms one record, and stays before later ones."""
         self.process.add("pane 1 2 4")
         for data in (b"ab", b"c\n"):
             self.process.add_bytes(1, data)
@@ -72,7 +72,7 @@ class Handed(Case):
         self.assertEqual((self.process.size(), self.writes), (0, 1))
 
     def test_full(self):
-        """What it doesn't take waits, and goes in order."""
+        """Unaccepted records wait, and go in order."""
         data = bytes(range(256)) * 4096
         for at in range(0, len(data), 4096):
             self.process.add_bytes(1, data[at : at + 4096])
@@ -86,7 +86,7 @@ class Handed(Case):
         self.assertTrue(found == b"bytes 1 %d\n" % len(data) + data)
 
     def test_gathered(self):
-        """What is written waits a little for more; not where there is much of it, or something else is to go."""
+        """Output waits a little for more; not if there is much of it, or another record follows."""
         self.process.add_bytes(1, b"a")
         self.loop.turns(2)
         self.assertEqual(self.fake.taken(), b"")
@@ -106,7 +106,7 @@ class Handed(Case):
         self.assertEqual(self.fake.taken(), b"bytes 1 1\ncscreen 1\n")
 
     def test_printed(self):
-        """What it prints comes."""
+        """Its output arrives."""
         self.fake.prints(PRINTED[:50])
         self.loop.turns()
         self.fake.prints(PRINTED[50:])
@@ -114,7 +114,7 @@ class Handed(Case):
         self.assertEqual(self.records, RECORDS)
 
     def test_nonsense(self):
-        """One that prints nonsense is ended, and what came before it is told."""
+        """One that prints an invalid record is ended, and earlier records are passed on."""
         self.fake.prints(b"rows 1 1 2\n \nnonsense\nrows 1 1 2\n \n")
         self.loop.turns()
         self.assertEqual(self.records, [])
@@ -123,7 +123,7 @@ class Handed(Case):
         self.loop.turns(3)
 
     def test_ended(self):
-        """One that prints no more has ended; one that takes no more too, and what it said is told."""
+        """One whose output ends has ended; one that accepts no more too, and its message is reported."""
         self.fake.end()
         self.loop.turns(2)
         self.assertEqual(self.ends, [("it ended", None)])
@@ -150,14 +150,14 @@ class Spawned(Case):
         self.loop.each(lambda: self.loop.clock() + 0.02)
 
     def until(self, test):
-        """Takes turns until something holds."""
+        """Take turns until a condition is true."""
         end = time.monotonic() + 10
         while not test() and time.monotonic() < end:
             self.loop.turn()
         self.assertTrue(test())
 
     def spawn(self, words):
-        """A filter."""
+        """Return a scrollback process."""
         self.records, self.ends = [], []
         one = ScrollbackProcess(self.loop, words, lambda record: self.records.append(tuple(record)), lambda: None,
                                 lambda why, status: self.ends.append((why, status)))
@@ -165,7 +165,7 @@ class Spawned(Case):
         return one
 
     def test_filters(self):
-        """Rows are printed that leave; it ends with its input, and nothing of it is left."""
+        """Scrolled-off rows are printed; it ends with its input, and nothing of it remains."""
         ends = open_ends()
         one = self.spawn(FAKE)
         one.add("pane 7 2 4")
@@ -179,7 +179,7 @@ class Spawned(Case):
         self.assertEqual(open_ends(), ends)
 
     def test_killed(self):
-        """One that is killed, one that ends by itself with words, one that prints no more and stays, one that isn't there."""
+        """One that is killed, one that ends by itself with a message, one that prints no more and stays, and a missing one are handled."""
         self.patch_of(scrollback_process, "ENDS", 0.05)
         self.patch_of(scrollback_process, "REAPS", 0.005)
         one = self.spawn(FAKE)
@@ -198,7 +198,7 @@ class Spawned(Case):
         self.assertEqual(open_ends(), before)
 
     def test_pipes(self):
-        """Its pipes hold what is said of them, also by a Python that names no such call."""
+        """Its pipes have the given sizes, also in a Python without that call's name."""
         self.patch_of(scrollback_process, "fcntl", types.SimpleNamespace(fcntl=fcntl.fcntl))
         process, ends = spawned([sys.executable, "-S", "-E", "-c", ""])
         os.waitpid(process, 0)
@@ -209,7 +209,7 @@ class Spawned(Case):
         self.assertEqual((sizes[2], max(sizes[:2]) <= PIPE_SIZE), (SAID_SIZE, True))
 
     def test_descriptors(self):
-        """A process has its three ends and no other of this one, and isn't taken for a program of a pane."""
+        """A process has its three ends and no other of this one, and doesn't count as a program of a pane."""
         self.environment(ROAM_PANE="other:3", KEPT="one")
         told = "import os; print(os.environ.get('ROAM_PANE'), os.environ['KEPT'], *os.listdir('/proc/self/fd'))"
         process, ends = spawned([sys.executable, "-S", "-E", "-c", told])

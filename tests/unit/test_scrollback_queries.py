@@ -1,4 +1,4 @@
-"""What the host's socket `host` answers of scrollback rows, and of buffers."""
+"""The answers of the host's socket `host` about scrollback rows and buffers."""
 import socket
 from unittest import mock
 
@@ -17,7 +17,7 @@ NAME = "00112233445566aa"
 
 
 class Rows(Sockets):
-    """The socket, with the rows of a pane whose filter is played by hand."""
+    """The socket, with the rows of a pane whose scrollback process is played by hand."""
 
     def setUp(self):
         super().setUp()
@@ -32,13 +32,13 @@ class Rows(Sockets):
         self.prints(b"rows 0 3 15\n Alpha\n+be\n ta\n")
 
     def prints(self, data):
-        """Has the scrollback process print."""
+        """Print as the scrollback process."""
         self.fake.prints(data)
         self.loop.turns(3)
         return self.fake.taken()
 
     def asked(self, one, *lines):
-        """What one is told who says these lines."""
+        """Return the answers to these lines."""
         self.say(one, "".join(f"{line}\n" for line in lines).encode())
         return read_now(one)
 
@@ -47,7 +47,7 @@ class Asked(Rows):
     """Rows."""
 
     def test_live(self):
-        """What is kept now."""
+        """It answers from the stored rows."""
         one = self.connect()
         self.assertEqual(self.asked(one, "count 1 5", "rows 1 5 0 2", "rows 1 5 2 9", "rows 1 5 7 1", "find 1 5 2 back al",
                                     "find 1 5 0 on bet"),
@@ -58,7 +58,7 @@ class Asked(Rows):
         self.assertEqual(self.asked(one, "count 1 5", "rows 1 5 0 9"), b"count 1 5 3 4\nrows 1 5 3 1 3\n c\n")
 
     def test_bad(self):
-        """Other lines are told to be bad."""
+        """Other lines are answered as bad."""
         one = self.connect()
         lines = ("count", "count 1", "count 1 5 6", "count 0 5", "count 10 5", "count x 5", "rows 1 5 0", "rows 1 5 -1 2", "rows 1 5 0 x",
                  "find 1 5 0 up a", "find 1 5 0 on", "find 1 5 0 on ", "find 1 5 a on b", "snapshot 1", "release", "log 1 5",
@@ -68,7 +68,7 @@ class Asked(Rows):
             self.assertEqual(self.asked(one, line), b"bad line\n", line)
 
     def test_cut(self):
-        """Questions come in any chunks."""
+        """Requests come in any chunks."""
         text = b"count 1 5\nrows 1 5 0 2\nbuffer add 3\na\nbfind 1 5 0 on be\nbuffer list\n"
         for cut in range(len(text)):
             self.socket.uploads.buffers = PasteBuffers()
@@ -81,7 +81,7 @@ class Asked(Rows):
             self.loop.turns(2)
 
     def test_snapshot(self):
-        """A moment's rows and screen, from which all is answered while it is held; what was asked behind it waits for it."""
+        """A snapshot has the rows and screen of a moment, and answers everything until its release; later requests wait for it."""
         one, other = self.connect(), self.connect()
         self.assertEqual(self.asked(one, "snapshot 1 5", "count 1 5", "rows 1 5 2 9"), b"")
         self.assertEqual(self.asked(other, "count 1 5"), b"count 1 5 0 3\n")
@@ -108,7 +108,7 @@ class Asked(Rows):
         self.assertEqual((len(self.scrollback.room.snapshots), self.scrollback.room.held), (0, 0))
 
     def test_silent(self):
-        """A filter that tells no screen is waited for a while; so is what was asked behind that."""
+        """A process that reports no screen is awaited for a while; later requests wait too."""
         one = self.connect(b"snapshot 1 5\ncount 1 5\n")
         self.assertEqual(read_now(one), b"")
         self.now += SCREEN_WAIT
@@ -116,13 +116,13 @@ class Asked(Rows):
         self.assertEqual(read_now(one), b"snapshot 1 5 none\ncount 1 5 0 3\n")
 
     def test_many(self):
-        """Many lines at once, which can't be answered but by none."""
+        """Many lines at once, which only a failure can answer."""
         one = self.connect(b"snapshot 2 9\n" * 2000)
         self.loop.turns(5)
         self.assertEqual(read_now(one).count(b"snapshot 2 9 none\n"), 2000)
 
     def test_more(self):
-        """How many rows came is told twice a second at most, and where it is another number."""
+        """The number of new rows is reported twice a second at most, and only if it changed."""
         one = self.connect(b"snapshot 1 5\n")
         self.prints(b"screen 0 1 3\n u\n")
         read_now(one)
@@ -144,7 +144,7 @@ class Asked(Rows):
         self.assertEqual(self.asked(one, "count 1 5"), b"count 1 5 0 4\n")
 
     def test_lost(self):
-        """A snapshot that is dropped for want of room isn't answered from what is kept now."""
+        """A snapshot dropped for lack of room isn't replaced by the stored rows."""
         one = self.connect(b"snapshot 1 5\n")
         self.prints(b"screen 0 1 3\n u\n")
         read_now(one)
@@ -154,7 +154,7 @@ class Asked(Rows):
                          b"count 1 5 none\nrows 1 5 none\nfound 1 5 none\ncount 1 5 3 3\n")
 
     def test_log(self):
-        """Rows are told as they come, and a gone pane's last screen; then that it has ended."""
+        """Rows are sent as they come, and a gone pane's last screen; then its end."""
         one = self.connect(b"log 1 5 3\n")
         self.assertEqual(read_now(one), b"")
         self.prints(b"rows 0 2 6\n c\n d\n")
@@ -168,7 +168,7 @@ class Asked(Rows):
         self.assertEqual(self.asked(one, "log 1 5 0"), b"log 1 5 none\n")
 
     def test_log_lost(self):
-        """Who writes rows down and doesn't take them misses those that are kept no longer."""
+        """A slow log reader misses the rows that are dropped."""
         one = self.connect(b"log 1 5 3\n")
         rows = [f" {number}".encode() for number in range(3000)]
         for at in range(0, 3000, 100):
@@ -180,8 +180,9 @@ class Asked(Rows):
 
 
     def test_log_waits(self):
-        """Who writes rows down and doesn't take them is waited for, for a second: the scrollback process's rows aren't read meanwhile. Once
-        he takes them nothing was lost; who takes none misses some, and isn't waited for again until he has all."""
+        """The host waits a second for a slow log reader, and the output of the scrollback process stays unread meanwhile. If the reader
+        continues nothing is lost. One that reads nothing misses rows, and gets no second wait until it has read everything.
+        """
         one = self.connect(b"log 1 5 3\n")
         one.setsockopt(socket.SOL_SOCKET, socket.SO_RCVBUF, 4096)
         rows, printed, found = b"".join(b" %04d\n" % number for number in range(100)), 0, b""
@@ -219,14 +220,14 @@ class Asked(Rows):
 
 
 class Taken(Rows):
-    """Answers that aren't taken."""
+    """Unread answers."""
 
     def wide(self):
-        """A pane with rows of 2 kB."""
+        """Return a pane with rows of 2 kB."""
         self.scrollback.panes[1].rows.add(100, b"".join(b" " + b"x" * 2000 + b"\n" for _ in range(100)))
 
     def test_back_pressure(self):
-        """Who takes nothing isn't heard while much waits for him, and is answered in order once he takes it."""
+        """A peer that reads nothing isn't read while much waits for it, and is answered in order afterwards."""
         self.wide()
         one = self.connect()
         one.setsockopt(socket.SOL_SOCKET, socket.SO_RCVBUF, 4096)
@@ -246,7 +247,7 @@ class Taken(Rows):
         self.assertEqual(peer.answers, 0)
 
     def test_let_go(self):
-        """Who takes nothing for a while is let go; who takes something isn't."""
+        """A peer that reads nothing for a while is disconnected; one that reads something isn't."""
         self.wide()
         one, other = (self.connect(b"rows 1 5 0 2000\n" * 3) for _ in range(2))
         self.loop.turns(20)
@@ -258,7 +259,7 @@ class Taken(Rows):
         one.close()
 
     def test_unasked(self):
-        """What is told unasked of a snapshot doesn't keep one who takes nothing, nor wait without end."""
+        """Unrequested reports about a snapshot don't save a peer that reads nothing, and have a bounded queue."""
         self.wide()
         one = self.connect(b"snapshot 1 5\nrows 1 5 0 2000\n" + b"rows 1 5 0 2000\n" * 2)
         self.prints(b"screen 0 1 3\n u\n")
@@ -273,7 +274,7 @@ class Taken(Rows):
         one.close()
 
     def test_all(self):
-        """Of answers to all no more waits than may."""
+        """The answers to all peers stay within their limit."""
         self.wide()
         with mock.patch.object(socket_server, "MOST_ANSWERS", 1_000_000):
             ends = [self.connect(b"rows 1 5 0 2000\n" * 2) for _ in range(10)]
@@ -288,7 +289,7 @@ class Buffered(Rows):
     """Buffers."""
 
     def test_kept(self):
-        """The last twenty, by numbers that grow, whole."""
+        """The last twenty are stored, whole, with increasing numbers."""
         one = self.connect()
         for number in range(1, MOST_BUFFERS + 3):
             self.assertEqual(self.asked(one, f"buffer add {number}\n" + "x" * (number - 1)), f"buffer add {number} {number}\n".encode())
@@ -297,7 +298,7 @@ class Buffered(Rows):
         self.assertEqual((told[0], told[1], told[-2]), ("buffers 20", f"22 22 {'x' * 21}\\n", "3 3 xx\\n"))
 
     def test_refused(self):
-        """One that is too long, one of those that come at once, one of who watches, and an empty one; the bytes are passed over."""
+        """A buffer is refused if it is too long, one of several at once, from a read-only peer, or empty; its bytes are skipped."""
         one, other, watching = self.connect(), self.connect(), self.connect(b"here x 1 1 read-only\n")
         self.say(one, f"buffer add {MOST_BUFFER + 1}\n".encode())
         left = MOST_BUFFER + 1
@@ -328,7 +329,7 @@ class Buffered(Rows):
         self.assertEqual((self.socket.uploads.coming(True), self.asked(one, "buffer list")), (MOST_COMING - 2, b"buffers 0\n"))
 
     def test_given(self):
-        """A buffer is given as a text: what of it is pasted, once; an unknown one is refused."""
+        """A buffer is stored as a text: its pasteable part, once; an unknown one is refused."""
         one = self.connect()
         self.asked(one, "buffer add 12\na\nb\t\x1b[201~c")
         self.assertEqual(self.asked(one, f"paste {NAME} buffer 1"), f"stored {NAME}\n".encode())
@@ -339,7 +340,7 @@ class Buffered(Rows):
         self.assertEqual(self.asked(one, f"status {NAME}", f"status {NAME[::-1]}"), f"stored {NAME}\nlost {NAME[::-1]}\n".encode())
 
     def test_sample(self):
-        """The first printable characters, and what stands for a line's end."""
+        """The sample has the first printable characters, and a mark for a line's end."""
         self.assertEqual((sample(b"a\nb\x1b[2J\xff" + b"c" * 50), sample("\u4e00".encode() * 50), sample(b"\n")),
                          ("a\\nb[2J\ufffd" + "c" * 32, "\u4e00" * 40, "\\n"))
         self.assertEqual((sample(b"a\r\nb\rc"), sample(b"\n" * 50)), ("a\\nb\\nc", "\\n" * 20))

@@ -1,4 +1,4 @@
-"""Rows that are kept as chunks: the last of each pane, whole and in order, within limits, and what is looked for in them."""
+"""Rows stored as chunks: the last of each pane, whole and in order, within limits, and searches in them."""
 import random
 import time
 import unittest
@@ -8,12 +8,12 @@ from roam_live.host.scrollback_store import (BESIDE, HEADER, LOST_ROWS, LOST_SOM
 
 
 def rows_of(*texts):
-    """Rows with these texts as a filter prints them; one that begins with `+` goes on in the next."""
+    """Return rows with these texts in the scrollback process's form; one that begins with `+` is soft-wrapped."""
     return "".join(f"{'' if text.startswith('+') else ' '}{text}\n" for text in texts).encode()
 
 
 def kept(room, *chunks, pane=1):
-    """A pane's rows, of chunks of texts."""
+    """Return a pane's rows, from chunks of texts."""
     rows = room.pane(pane, 1)
     for texts in chunks:
         rows.add(len(texts), rows_of(*texts))
@@ -21,16 +21,16 @@ def kept(room, *chunks, pane=1):
 
 
 def all_rows(rows):
-    """All scrollback rows."""
+    """Return all scrollback rows."""
     first, found = rows.range().rows(0, 1 << 30, 1 << 30, 1 << 30)
     return first, [row.decode() for row in found]
 
 
 class Kept(unittest.TestCase):
-    """Which rows are kept."""
+    """The stored rows."""
 
     def test_last(self):
-        """The last so many, whole and in order, however they come."""
+        """The last rows up to the limit are stored, whole and in order, however they come."""
         numbers = [str(number) for number in range(1, 5001)]
         for size in (1, 7, 300, 5000):
             rows = kept(RowsRoom(1000), *(numbers[at : at + size] for at in range(0, 5000, size)))
@@ -38,7 +38,7 @@ class Kept(unittest.TestCase):
             self.assertEqual(all_rows(rows), (4000, [f" {number}" for number in numbers[4000:]]))
 
     def test_joined(self):
-        """Small chunks are joined to larger ones, but to none that a snapshot holds."""
+        """Small chunks are joined to larger ones, except those of a snapshot."""
         room = RowsRoom(1000)
         rows = kept(room, *(["x" * 98] for _ in range(200)))
         self.assertEqual([len(chunk.data) // 100 for chunk in rows.chunks], [82, 82, 36])
@@ -51,7 +51,7 @@ class Kept(unittest.TestCase):
         self.assertEqual((snapshot.end, len(snapshot.rows(0, 999)[1])), (201, 201))
 
     def test_newest(self):
-        """What came last is had of the last chunks alone, and is the same."""
+        """The newest rows come from the last chunks alone, and are the same."""
         room = RowsRoom(5000)
         rows = kept(room, *([f"{number} {'x' * 9000}"] for number in range(40)))
         for first in (0, 1, 17, 38, 39, 40, 99):
@@ -59,7 +59,7 @@ class Kept(unittest.TestCase):
         self.assertEqual([len(rows.newest(first).chunks) for first in (0, 38, 39, 40)], [40, 2, 1, 1])
 
     def test_asked(self):
-        """Rows are told as far as they are there, no more than so many rows, nor bytes, but one at least."""
+        """It returns the available rows, up to the limits of rows and bytes, but at least one."""
         rows = kept(RowsRoom(10), [str(number) for number in range(15)], ["x" * 100, "y" * 100])
         among = rows.range()
         self.assertEqual((among.first, among.end), (7, 17))
@@ -70,7 +70,7 @@ class Kept(unittest.TestCase):
             self.assertEqual(among.rows(*asked), told)
 
     def test_bytes(self):
-        """The oldest chunks of all panes go first, where they are too many bytes; chunks that were read before are as they were."""
+        """The oldest chunks of all panes are dropped first above the limit of bytes; chunks read before are unchanged."""
         room = RowsRoom(1000, 20 * (BESIDE + 9002))
         one, other = room.pane(1, 1), room.pane(2, 1)
         for number in range(15):
@@ -84,7 +84,7 @@ class Kept(unittest.TestCase):
         self.assertEqual((room.kept, room.held), (0, 0))
 
     def test_cleared(self):
-        """None is kept of what came before; numbers go on."""
+        """Earlier rows are dropped; numbers continue."""
         rows = kept(RowsRoom(10), ["a", "b"])
         rows.clear()
         self.assertEqual((rows.first, rows.end, rows.room.kept), (2, 2, 0))
@@ -92,7 +92,7 @@ class Kept(unittest.TestCase):
         self.assertEqual(all_rows(rows), (2, [" c"]))
 
     def test_lost(self):
-        """A row says that rows are lost, and how many where that is known; what is lost together is told by one."""
+        """A row reports lost rows, with their number if known; one row for all that are lost together."""
         rows = kept(RowsRoom(10), ["a"])
         rows.lose(3)
         rows.lose(4)
@@ -109,7 +109,7 @@ class Kept(unittest.TestCase):
         self.assertEqual(all_rows(rows), (5, []))
 
     def test_lost_seen(self):
-        """What was looked at stays as it is: rows that are lost later have a row of their own."""
+        """Rows that were read stay unchanged: later losses have a row of their own."""
         rows = kept(RowsRoom(10), ["a"])
         for looks in (rows.range, lambda: rows.newest(0), lambda: rows.room.snapshot(rows, 0, b"")):
             before = all_rows(rows)[1]
@@ -120,7 +120,7 @@ class Kept(unittest.TestCase):
             self.assertEqual(all_rows(rows)[1], [*before, LOST_ROWS.format(3)[:-1], LOST_SOME[:-1]])
 
     def test_account(self):
-        """What is counted is what is there, whatever is done."""
+        """The counts match the contents, after any operations."""
         random.seed(3)
         room = RowsRoom(50, 60_000, 20_000)
         panes = [room.pane(pane, 1) for pane in range(1, 4)]
@@ -163,7 +163,7 @@ class Written(unittest.TestCase):
         self.parts = [part for rows in self.panes for part in rows.written()]
 
     def test_read(self):
-        """They come back as they were, in whatever order those of panes are mixed."""
+        """They are read back unchanged, in any mixture of panes."""
         one, two = [list(rows.written()) for rows in self.panes]
         for parts in (self.parts, [*two, *one], [one[0], *two, *one[1:]]):
             room = RowsRoom(1000)
@@ -175,7 +175,7 @@ class Written(unittest.TestCase):
         self.assertIn(LOST_ROWS.format(7)[:-1].encode(), self.parts[2])
 
     def test_header(self):
-        """A header tells whose rows follow, from which number on, how many rows and bytes, and is checked."""
+        """A header contains the pane, the first number, the counts of rows and bytes, and a checksum."""
         part = packed(23, 2**64 - 1, Chunk(2**40, 2, b" a\n b\n"))
         self.assertEqual(part[:-6][:-4] + part[-6:], HEADER.pack(MAGIC, 23, 2**64 - 1, 2**40, 2, 6, 0)[:-4] + b" a\n b\n")
         pane, generation, chunk = unpacked(b"...." + part, 4)
@@ -186,7 +186,7 @@ class Written(unittest.TestCase):
             self.assertIsNone(unpacked(packed(1, 1, Chunk(0, count, data)), 0), data)
 
     def test_torn(self):
-        """The last that is written may be torn anywhere: those before it are read, and where they end is told."""
+        """The last chunk may be torn anywhere: the earlier ones are read, and their end is returned."""
         whole, last = b"".join(self.parts[:-1]), self.parts[-1]
         for cut in range(len(last)):
             room = RowsRoom(1000)
@@ -196,7 +196,7 @@ class Written(unittest.TestCase):
         self.assertEqual(all_rows(room.panes[1]), all_rows(self.panes[1]))
 
     def test_others(self):
-        """Rows that are there already are passed over, and a gap ends those before it; no more are kept than may be."""
+        """Existing rows are skipped, and a gap ends those before it; the limits apply."""
         room = RowsRoom(3)
         room.read(b"".join(packed(1, 1, Chunk(first, 2, rows_of(f"{first}", "x"))) for first in (0, 2, 0, 1)))
         self.assertEqual(all_rows(room.panes[0]), (1, [" x", " 2", " x"]))
@@ -209,7 +209,7 @@ class Snapshots(unittest.TestCase):
     """A pane's rows at one moment."""
 
     def test_stays(self):
-        """What is kept then, and the screen's rows behind it, stay until it is released, whatever comes."""
+        """The rows of that moment, and the screen's rows after them, stay until the release, whatever comes."""
         room = RowsRoom(3)
         rows = kept(room, ["a", "b", "c"])
         snapshot = room.snapshot(rows, 2, rows_of("s", "t"))
@@ -225,7 +225,7 @@ class Snapshots(unittest.TestCase):
         self.assertEqual((room.kept, room.held), (0, 0))
 
     def test_held(self):
-        """Snapshots that hold too much are lost, the oldest first, and so is one that alone holds more than may be."""
+        """Too large snapshots are dropped, the oldest first, and so is a single one above the limit."""
         room = RowsRoom(10, 1 << 20, 3000)
         rows = kept(room, ["a"])
         snapshots = [room.snapshot(rows, 1, rows_of("x" * 1000)) for _ in range(4)]
@@ -236,22 +236,22 @@ class Snapshots(unittest.TestCase):
 
 
 class Sought(unittest.TestCase):
-    """What is looked for."""
+    """Searches."""
 
     def found(self, among, start, is_back, text):
-        """The row in which a text is found."""
+        """Return the row in which a text is found."""
         search = Search(among, start, is_back, text)
         while not search.step():
             pass
         return search.found
 
     def test_characters(self):
-        """Styles are between characters, and none of these."""
+        """Styles are between characters, and no part of them."""
         self.assertEqual(characters(b" a\x1b[1;31mb\x1b[0m\n+\x1b[38:2::1:2:3mm\n"), " ab\n+m\n")
         self.assertEqual(characters("\u00e9\u4e00".encode() + b"\xff"), "\u00e9\u4e00\ufffd")
 
     def test_rows(self):
-        """The next row behind a number, or before it, by smart case."""
+        """It finds the next row after a number, or before it, by smart case."""
         among = kept(RowsRoom(99), ["Alpha", "beta"], ["\x1b[1mal\x1b[0mpha", "gamma"]).range()
         for start, is_back, text, row in ((0, False, "alpha", 2), (-1, False, "alpha", 0), (-1, False, "Alpha", 0),
                                           (0, False, "Alpha", None),
@@ -260,7 +260,7 @@ class Sought(unittest.TestCase):
             self.assertEqual(self.found(among, start, is_back, text), row, (start, is_back, text))
 
     def test_joined(self):
-        """Rows that went on are one text, over chunks too; the row is that in which it begins."""
+        """Soft-wrapped rows are one text, over chunks too; the row is that of the start."""
         texts = ["+ab", "+cd", "+", "ef", "ab"]
         for cut in range(1, 5):
             among = ScrollbackRange(0, 5, [Chunk(0, cut, rows_of(*texts[:cut])), Chunk(cut, 5 - cut, rows_of(*texts[cut:]))])
@@ -270,7 +270,7 @@ class Sought(unittest.TestCase):
                 self.assertEqual(self.found(among, start, is_back, text), row, (cut, start, is_back, text))
 
     def test_first(self):
-        """What isn't kept any more isn't found, though its chunk is there."""
+        """A dropped row isn't found, though its chunk is there."""
         room = RowsRoom(2)
         rows = room.pane(1, 1)
         rows.add(4, rows_of("x1", "x2", "y", "z"))
@@ -278,7 +278,7 @@ class Sought(unittest.TestCase):
         self.assertEqual(self.found(ScrollbackRange(1, 4, rows.chunks), 9, True, "x"), 1)
 
     def test_any(self):
-        """As by a plain definition, on rows by chance."""
+        """The results equal those of a plain definition, on random rows."""
         random.seed(5)
         for _ in range(300):
             texts = ["+" * random.randrange(2) + "".join(random.choices("abB", k=random.randrange(4))) for _ in range(12)]
@@ -290,7 +290,7 @@ class Sought(unittest.TestCase):
                              (texts, text))
 
     def test_quick(self):
-        """10,000 rows are looked through in much less than 50 ms."""
+        """10,000 rows are searched in much less than 50 ms."""
         rows = kept(RowsRoom(10_000), *([f"{number} {'some text ' * 5}" for number in range(at, at + 300)] for at in range(0, 12000, 300)))
         best = 1.0
         for _ in range(5):
@@ -301,11 +301,11 @@ class Sought(unittest.TestCase):
 
 
 def plain(texts, start, is_back, text):
-    """What is found, by the definition alone."""
+    """Return the matches by the plain definition."""
     fold = str.lower if text == text.lower() else str
     found = []
     for row in range(len(texts)):
-        # The text from this row on, as far as rows went on.
+        # The text from this row on, as far as rows are soft-wrapped.
         joined, place = fold(texts[row].lstrip("+")), row
         own = len(joined)
         while texts[place].startswith("+") and place + 1 < len(texts):

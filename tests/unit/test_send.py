@@ -1,4 +1,4 @@
-"""Which acts can't be done, where it is known where the panes are."""
+"""Impossible acts, with known pane positions."""
 import unittest
 
 from roam_live.cli.send import wrong_in
@@ -9,7 +9,7 @@ TWO = Places({1: Rect(1, 1, 23, 39), 2: Rect(1, 41, 23, 40)}, 2)
 NINE = Places({pane: Rect(1, 1, 50, 50) for pane in range(1, 10)}, 1)
 SMALL = Places({1: Rect(1, 1, 4, 8)}, 1)
 
-# Acts that can be done, and those that can't, with the reason. The limits are those of roam(1).
+# Possible acts, and impossible ones with the reason. The limits are those of roam(1).
 DONE = (
     (ONE, ["char 61", "key return", "split right", "focus 2", "size 24 80", "close"]), (ONE, ["size 4 8"]), (ONE, ["size 200 500"]),
     (ONE, ["view -500", "next"]), (TWO, ["focus 1", "grow 5", "close"]), (ONE, ["split right", "split down", "focus 3", "focus 1"]),

@@ -1,4 +1,4 @@
-"""What an attach brings to a session: the link to an agent, values of its environment, and how a shell is told of them."""
+"""The environment from an attach: the agent symlink, variables, and their report to a shell."""
 import contextlib
 import os
 import socket
@@ -21,13 +21,13 @@ HOSTILE = "$(touch x)'\";`id`\\ #"
 
 
 class Values(Case):
-    """The values, and the lines that tell them."""
+    """The values, and their lines."""
 
     def setUp(self):
         self.environment(DISPLAY=":0", WAYLAND_DISPLAY=None, SSH_CONNECTION="::1 5 ::1 22")
 
     def test_lines(self):
-        """What is told and taken again is what was told; none where none is set."""
+        """Lines give the same values again; none if none is set."""
         self.assertEqual(PaneEnvironment().lines(), ["environment DISPLAY 3a30", "environment WAYLAND_DISPLAY none",
                                                      "environment SSH_CONNECTION 3a3a312035203a3a31203232"])
         for value in ("x", HOSTILE, " ", "~" * LONGEST_VALUE, ""):
@@ -40,14 +40,14 @@ class Values(Case):
             self.assertEqual(known.values["WAYLAND_DISPLAY"], value)
 
     def test_not_told(self):
-        """What is longer, or isn't printable ASCII, is as if it weren't set."""
+        """A longer value, or one that isn't printable ASCII, counts as unset."""
         for value in ("x" * (LONGEST_VALUE + 1), "a\x1b[2J", "a\nb", "\u00e9", "\udcff", "\x7f"):
             self.environment(DISPLAY=value)
             self.assertEqual((PaneEnvironment().lines()[0], PaneEnvironment().set_values()),
                              ("environment DISPLAY none", {"SSH_CONNECTION": "::1 5 ::1 22"}))
 
     def test_refused(self):
-        """What is no such line changes nothing."""
+        """Invalid lines change nothing."""
         known = PaneEnvironment()
         for line in ("", "environment", "environment DISPLAY", "environment DISPLAY ", "environment DISPLAY 3", "environment DISPLAY 3A",
                      "environment DISPLAY 3a 3a",
@@ -61,7 +61,7 @@ class Values(Case):
 
 
 class Agents(Case):
-    """The link to the agent."""
+    """The agent symlink."""
 
     def setUp(self):
         self.folder, self.other = self.made_folder(), self.made_folder()
@@ -69,18 +69,18 @@ class Agents(Case):
         self.one, self.two = (self.agent(name) for name in ("one", "two"))
 
     def agent(self, name):
-        """An agent's socket; its path."""
+        """Create an agent's socket, and return its path."""
         self.listening(self.other / name)
         return str(self.other / name)
 
     def renew(self, path):
-        """What the link leads to once an attach with this variable renewed it."""
+        """Return the symlink's target after an attach with this variable."""
         self.environment(SSH_AUTH_SOCK=path)
         renew_agent(self.folder)
         return os.readlink(self.link) if self.link.is_symlink() else None
 
     def test_renewed(self):
-        """Each attach has it lead to its own agent, and nothing stands beside it behind that, also of one that was killed."""
+        """Each attach points it at its own agent, and no other file remains, even of a killed one."""
         (self.folder / f"agent.{os.getpid()}").touch()
         self.assertEqual([self.renew(path) for path in (self.one, self.two)], [self.one, self.two])
         self.assertEqual(os.listdir(self.folder), ["agent"])
@@ -88,7 +88,7 @@ class Agents(Case):
             peer.connect(str(self.link))
 
     def test_refused(self):
-        """What is no socket of this user leaves the link as it was, or makes none."""
+        """A path that is no socket of this user leaves the symlink unchanged, or creates none."""
         file = self.other / "file"
         file.touch()
         wrong = (None, "", str(file), str(self.other), str(self.other / "gone"), os.path.relpath(self.one), "x" * 5000)
@@ -103,12 +103,12 @@ class Agents(Case):
         self.assertEqual(os.listdir(self.folder), ["agent"])
 
     def test_another_folder(self):
-        """In a folder of another user no link is made."""
+        """In a folder of another user no symlink is created."""
         with mock.patch.object(environment, "is_own_folder", return_value=False):
             self.assertIsNone(self.renew(self.one))
 
     def test_full(self):
-        """Where no link can be made the old one stays."""
+        """If no symlink can be created the old one stays."""
         self.renew(self.one)
         for call in ("symlink", "replace"):
             with mock.patch.object(environment.os, call, side_effect=OSError(28, "full")):
@@ -116,7 +116,9 @@ class Agents(Case):
         self.assertEqual(os.listdir(self.folder), ["agent"])
 
     def test_itself(self):
-        """No link leads to itself, by however many others: an attach from a pane of the session brings the agent that it has from there."""
+        """No symlink leads to itself, over any number of others: an attach from a pane of the session sends the agent that it has from
+        there.
+        """
         self.renew(self.one)
         inner = self.other / "inner"
         inner.symlink_to(os.path.relpath(self.link, self.other))
@@ -127,7 +129,7 @@ class Agents(Case):
         self.assertEqual(self.renew(str(self.other / "further")), str(self.other / "further"))
 
     def test_begun(self):
-        """The host makes one where none is; one that is there stays, though it leads nowhere now."""
+        """The host creates one if there is none; an existing one stays, even a dangling one."""
         self.environment(SSH_AUTH_SOCK=self.one)
         begin_agent(self.folder)
         self.assertEqual(os.readlink(self.link), self.one)
@@ -137,7 +139,7 @@ class Agents(Case):
         self.assertEqual(os.readlink(self.link), self.one)
 
     def test_in_pane(self):
-        """A pane has the link, also one that an attach has to make still; another user's agent stays until one does."""
+        """A pane has the symlink, even before an attach creates it; another user's agent stays until one does."""
         for path in (None, "", str(self.other / "gone"), str(self.other)):
             self.environment(SSH_AUTH_SOCK=path)
             self.assertEqual(agent_in(self.folder), str(self.link))
@@ -148,7 +150,7 @@ class Agents(Case):
 
 
 class Brings(Case):
-    """Who brings, and to which host."""
+    """Front ends that send the environment, and their hosts."""
 
     def setUp(self):
         self.folder = self.made_folder()
@@ -158,7 +160,7 @@ class Brings(Case):
         self.loop = StillLoop(lambda: self.now)
 
     def host(self):
-        """A host's socket there."""
+        """Return a host's socket there."""
         one = HostSocket(self.loop)
         WindowChannel(one)
         one.listen(self.folder)
@@ -166,11 +168,11 @@ class Brings(Case):
         return one
 
     def has_link(self):
-        """Whether there is a link to an agent."""
+        """Return True if there is an agent symlink."""
         return (self.folder / "agent").is_symlink()
 
     def test_attach(self):
-        """One that types brings; one that watches, and one of another machine or without a folder, brings nothing."""
+        """A read-write one sends it; a read-only one, a remote one, and one without a folder send nothing."""
         self.assertEqual((environment_lines(self.session, True), self.has_link()), ([], False))
         for more in ({"served": "relay"}, {"folder": None}):
             self.assertEqual(environment_lines(types.SimpleNamespace(**{**vars(self.session), **more}), False), [])
@@ -179,7 +181,7 @@ class Brings(Case):
         self.assertTrue(self.has_link())
 
     def test_relayed(self):
-        """To a relay's folder nothing is brought, however the session was named: its host is at another machine."""
+        """A relay's folder gets nothing, however the session was named: its host is at another machine."""
         self.assertFalse(environment.is_relayed(self.folder))
         self.listening(self.folder / "clients")
         told = (("python3\0/usr/bin/roam-relay\0--dir\0d\0", True), ("python3\0/x/live/relay\0", True), ("/x/relay\0", True),
@@ -192,7 +194,7 @@ class Brings(Case):
             (self.folder / "agent").unlink(missing_ok=True)
 
     def test_far(self):
-        """The far end brings at once, where a host is; where none is it goes on."""
+        """The far end sends the environment at once if there is a host; without one it continues."""
         send_environment(self.session)
         self.assertTrue(self.has_link())
         host = self.host()
@@ -202,7 +204,7 @@ class Brings(Case):
         self.assertEqual((host.pane_environment.set_values(), host.peers), ({"DISPLAY": ":7"}, []))
 
     def told(self, *host_lines):
-        """What a shell is told where a host says this to who connects."""
+        """Return the output for a shell if a host answers with these lines."""
         (self.folder / "host").unlink(missing_ok=True)
         listener = self.listening(self.folder / "host")
         listener.setblocking(True)
@@ -220,12 +222,12 @@ class Brings(Case):
             thread.join()
 
     def test_told(self):
-        """A shell has exactly what was brought, and runs nothing of it; the link where there is one."""
+        """A shell gets exactly the sent values, and runs nothing of them; and the symlink if there is one."""
         renew_agent(self.folder)
         waits = self.patch_of(environment, "comes", side_effect=environment.comes)
         lines = self.told(f"environment DISPLAY {HOSTILE.encode().hex()}", "environment WAYLAND_DISPLAY none",
                           "environment SSH_CONNECTION 2d6e")
-        # Once all is told nothing more is waited for.
+        # Once everything is here there is no further wait.
         self.assertEqual(waits.call_count, 1)
         script = "\n".join([*lines, 'printf "%s|" "$DISPLAY" "${WAYLAND_DISPLAY-unset}" "$SSH_CONNECTION" "$SSH_AUTH_SOCK"; ls'])
         run = subprocess.run(["sh", "-c", script], cwd=self.made_folder(), stdout=subprocess.PIPE, stderr=subprocess.PIPE, check=True,
@@ -233,7 +235,7 @@ class Brings(Case):
         self.assertEqual((run.stdout.decode(), run.stderr), (f"{HOSTILE}|unset|-n|{self.folder}/agent|", b""))
 
     def test_not_told(self):
-        """Where no host is, or one that knows no such words, that is told."""
+        """A missing host, or one without these lines, is reported."""
         with self.assertRaisesRegex(Fault, r"^session main: its pty host is not running \("):
             asked_values(self.session)
         for says in (["bad line"], ["environment DISPLAY none", "environment DISPLAY none", "environment PATH 3a"], []):
@@ -241,7 +243,7 @@ class Brings(Case):
                 self.told(*says)
 
     def test_host(self):
-        """The host takes values of who types, tells them to who asks, and takes none of who watches."""
+        """The host takes values of read-write terminals, sends them on request, and takes none of read-only ones."""
         host = self.host()
         one = socket.socket(socket.AF_UNIX)
         self.addCleanup(one.close)
@@ -257,7 +259,7 @@ class Brings(Case):
         self.assertEqual(host.pane_environment.set_values(), {"WAYLAND_DISPLAY": ":8"})
 
     def test_pane(self):
-        """A new pane has what was brought, in place of what the host's own environment has."""
+        """A new pane has the sent values, in place of those in the host's own environment."""
         known = PaneEnvironment()
         known.take("environment WAYLAND_DISPLAY 3a38")
         known.take("environment DISPLAY none")

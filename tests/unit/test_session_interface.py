@@ -1,4 +1,4 @@
-"""A session as a front end needs it, by each way to reach one: what isn't known of it is None, and a person is asked then."""
+"""A session as a front end needs it, in each kind: unknown values are None, and then the user is asked."""
 import json
 import os
 import pathlib
@@ -28,14 +28,14 @@ from roam_live.session.port_session import PortSession
 from roam_live.session.remote import RemoteSession
 from test_display import PlayedHost, PlayedPanes
 
-# A process that ended: no process has begun at this moment.
+# An ended process: no process has this start time.
 ENDED = [1, 1]
 
 TWO = Places({1: Rect(1, 1, 23, 39), 2: Rect(1, 41, 23, 40)}, 1, 1)
 
 
 class Folder(unittest.TestCase):
-    """A folder of a session whose server was started by hand: this process stands for it."""
+    """A folder of a session whose server was started by hand; this process plays the server."""
 
     def setUp(self):
         made = tempfile.TemporaryDirectory()
@@ -43,59 +43,59 @@ class Folder(unittest.TestCase):
         self.folder = pathlib.Path(made.name)
 
     def by_hand(self, **noted):
-        """The session, where some processes are noted."""
+        """Return the session, with some recorded processes."""
         if noted:
             (self.folder / "state.json").write_text(json.dumps({"version": 3, **noted}), encoding="utf-8")
         return Window(self.folder, server=os.getpid())
 
     def keep_host(self):
-        """Has this process listen at the socket of a pty host."""
+        """Let this process listen at the socket of a pty host."""
         listener = socket.socket(socket.AF_UNIX, socket.SOCK_STREAM)
         self.addCleanup(listener.close)
         listener.bind(str(self.folder / "host"))
         listener.listen()
 
     def child(self, **environment):
-        """A child of this process, which isn't a shell."""
+        """Return a child of this process that isn't a shell."""
         process = subprocess.Popen(["sleep", "60"], env=environment)
         self.addCleanup(process.wait)
         self.addCleanup(process.kill)
-        # It is known as what it became once the system tells its words.
+        # It is recognized once the system shows its new arguments.
         comes(lambda: pathlib.Path(f"/proc/{process.pid}/cmdline").read_bytes() == b"sleep\x0060\x00")
         return process
 
 
 class Busy(Folder):
-    """What runs in the panes."""
+    """The programs in the panes."""
 
     def test_nothing_noted(self):
         self.assertIsNone(self.by_hand().busy())
         self.assertIsNone(Window(self.folder).busy())
 
     def test_client_noted(self):
-        """The client process alone is noted by a front end that was started by hand, which tells nothing of shells."""
+        """A front end started by hand records only the client process, which says nothing of shells."""
         self.assertIsNone(self.by_hand(client=ENDED).busy())
 
     def test_ended(self):
-        """Where the pty host has ended they were hung up."""
+        """If the pty host has ended the programs got a hangup."""
         self.assertEqual(self.by_hand(host=ENDED).busy(), {})
 
     def test_found(self):
-        """What keeps shells is found by its socket."""
+        """The pty host is found by its socket."""
         self.keep_host()
         self.assertEqual(self.by_hand().busy(), {})
         self.child(ROAM_PANE=f"{self.folder}:2")
         self.assertEqual(self.by_hand().busy(), {2: "a program"})
 
     def test_untold(self):
-        """The system may tell nothing of the programs, or not in which pane one is."""
+        """The system may hide the programs, or the pane of one."""
         self.assertIsNone(busy_panes(1 << 30))
         self.child(ROAM_PANE=f"{self.folder}:2")
         with mock.patch("roam_live.common.file_path.FilePath.read_bytes", side_effect=PermissionError):
             self.assertIsNone(busy_panes(os.getpid()))
 
     def test_no_pane_yet(self):
-        """A process that is to become a pane's command, and one that has ended, are in no pane."""
+        """A process about to execute a pane's command, and an ended one, are in no pane."""
         self.child()
         ended = self.child(ROAM_PANE=f"{self.folder}:2")
         ended.kill()
@@ -103,7 +103,7 @@ class Busy(Folder):
         self.assertEqual(busy_panes(os.getpid()), {})
 
     def test_elsewhere(self):
-        """Of a session of another machine, or at a port, nothing is known of programs."""
+        """The programs of a remote session, or one at a port, are unknown."""
         self.assertIsNone(RemoteSession(self.folder, "main").busy())
         session = PortSession(Home(port=1, session="1"), None)
         self.addCleanup(session.close)
@@ -111,16 +111,16 @@ class Busy(Folder):
 
 
 class Known(Folder):
-    """What else is known of a session."""
+    """Other knowledge about a session."""
 
     def sessions(self):
-        """One of each kind."""
+        """Return one of each kind."""
         at_port = PortSession(Home(port=1, session="1"), str(self.folder))
         self.addCleanup(at_port.close)
         return Window(self.folder), RemoteSession(self.folder, "main"), self.by_hand(), at_port
 
     def test_all_there(self):
-        """Each has all that a front end needs."""
+        """Each has everything that a front end needs."""
         needed = {name for kind in (HostedSession, AnySession) for name in (*vars(kind), *kind.__annotations__) if not name.startswith("_")}
         self.assertGreaterEqual(len(needed), 12)
         for session in self.sessions():
@@ -128,11 +128,10 @@ class Known(Folder):
 
 
 class Kill(Folder):
-    """What a person is told before a session is ended."""
+    """The questions before a session is ended."""
 
     def test_told(self):
-        """Programs are named; where none is known, they may be there all the same. Of another machine's session nothing ends but a
-        relay."""
+        """Programs are named; if none is known, there may still be some. Of a remote session only a relay ends."""
         session = self.by_hand()
         for busy, told in (({}, ""), ({2: "vi", 1: "less"}, "less in pane 1 and vi in pane 2"), (None, "unknown programs")):
             with mock.patch.object(session, "busy", lambda busy=busy: busy):
@@ -141,7 +140,7 @@ class Kill(Folder):
 
 
 class ClientLink:
-    """What is typed."""
+    """Records the input."""
 
     is_read_only = False
 
@@ -149,14 +148,14 @@ class ClientLink:
         self.acts = []
 
     def type(self, *acts, is_pasted=False):
-        """Keeps acts."""
+        """Record acts."""
         self.acts += acts
 
     def say(self, line):
-        """Nothing is shown here."""
+        """Do nothing: nothing is shown here."""
 
     def is_full_behind(self):
-        """Nothing waits."""
+        """Return False: nothing waits."""
         return False
 
 
@@ -167,22 +166,22 @@ class OuterTerminal:
         self.waiting = bytearray()
 
     def size(self):
-        """Its rows and columns."""
+        """Return its rows and columns."""
         return 24, 80
 
     def write(self, text):
-        """Keeps what is written."""
+        """Record the output."""
         self.waiting += text
 
     def set_title_and_shape(self, title, shape):
-        """Nothing stands beside it here."""
+        """Ignore metadata here."""
 
 
 class Close(Folder):
-    """A person who closes a pane of a session that was started by hand."""
+    """A user who closes a pane of a session that was started by hand."""
 
     def person(self, session, places):
-        """The keys of the person, what they ask for, and what is shown."""
+        """Return the user's keys, their effects, and the display."""
         link, loop = ClientLink(), Loop()
         with mock.patch.object(display, "OuterTerminal", OuterTerminal):
             shown = Display(loop, lambda line: None)
@@ -194,7 +193,7 @@ class Close(Folder):
         return keyboard, link, shown
 
     def test_asked(self):
-        """Where it isn't known what runs a person is asked, and y alone closes the pane."""
+        """If the programs are unknown the user is asked, and only y closes the pane."""
         for places, named in ((TWO, "pane 1"), (None, "this pane")):
             for key, acts in ((b"y", ["close"]), (b"n", [])):
                 keyboard, link, shown = self.person(self.by_hand(), places)
@@ -203,7 +202,7 @@ class Close(Folder):
                 self.assertEqual((link.acts, shown.row.told), (acts, ""))
 
     def test_unasked(self):
-        """Where shells alone are known to run it is closed at once."""
+        """If only shells are known to run it closes at once."""
         self.keep_host()
         _, link, shown = self.person(self.by_hand(), TWO)
         self.assertEqual((link.acts, shown.row.told), (["close"], ""))

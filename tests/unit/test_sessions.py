@@ -1,4 +1,4 @@
-"""Sessions: what is found of them, what may be removed, and what becomes of a start that fails half-way."""
+"""Sessions: their lookup, their clean-up, and a start that fails half-way."""
 import contextlib
 import fcntl
 import json
@@ -20,10 +20,10 @@ from roam_live.session.local import LocalSession, Window
 from roam_live.session.names import WINDOWS_VERSION
 from roam_live.session.remote import RemoteSession
 
-# A process that ended: no process has begun at this moment.
+# An ended process: no process has this start time.
 ENDED = [1, 1]
 
-# Listens at sockets of a folder, and says so.
+# Listens at sockets of a folder, and prints that.
 LISTENS = """
 import socket, sys, time
 ends = []
@@ -38,7 +38,7 @@ time.sleep(60)
 
 
 class Sessions(unittest.TestCase):
-    """A folder of sessions, with one that was there: its files are, and its processes aren't."""
+    """A folder of sessions, with an ended one: its files exist, and its processes don't."""
 
     def setUp(self):
         made = tempfile.TemporaryDirectory()
@@ -56,12 +56,12 @@ class Sessions(unittest.TestCase):
         self.note(server=ENDED, host=ENDED)
 
     def note(self, folder=None, **processes):
-        """Notes processes."""
+        """Record processes."""
         note = {"version": WINDOWS_VERSION, "command": [], **processes}
         ((folder or self.folder) / "state.json").write_text(json.dumps(note), encoding="utf-8")
 
     def listening(self, *names, folder=None):
-        """A process that listens at sockets of the folder."""
+        """Return a process that listens at sockets of the folder."""
         words = [sys.executable, "-c", LISTENS, *(str((folder or self.folder) / name) for name in names)]
         process = subprocess.Popen(words, stdout=subprocess.PIPE)
         self.addCleanup(process.wait)
@@ -71,19 +71,19 @@ class Sessions(unittest.TestCase):
         return process
 
     def names(self, folder=None):
-        """What is in the folder."""
+        """Return the contents of the folder."""
         return sorted(path.name for path in (folder or self.folder).iterdir())
 
 
 class Listed(Sessions):
-    """What a list of sessions tells, and removes: of sessions of one window, whose sockets are in the folder itself."""
+    """The list of sessions and its clean-up, for sessions of one window, whose sockets are in the folder itself."""
 
     def setUp(self):
         super().setUp()
         (self.folder / "clients").touch()
 
     def test_ended(self):
-        """One that has ended isn't told, and what it left goes, with its folder."""
+        """An ended one isn't listed, and its rest is removed, with its folder."""
         for name in ("state.json.77", "ended.8", "front_ends"):
             (self.folder / name).touch()
         (self.folder / "log").write_text("[the server has ended]\n" * 2, encoding="utf-8")
@@ -91,7 +91,7 @@ class Listed(Sessions):
         self.assertFalse(self.folder.exists())
 
     def test_log_kept(self):
-        """Its log stays for a day after its end, where it tells something."""
+        """A log with contents stays for a day after its end."""
         (self.folder / "log").write_text("[the server has ended]\nwhy\n", encoding="utf-8")
         os.utime(self.folder / "log", (5.0, 5.0))
         (self.folder / "ended").touch()
@@ -101,7 +101,7 @@ class Listed(Sessions):
             self.assertEqual(self.names() if self.folder.exists() else [], names)
 
     def test_followed(self):
-        """While a front end is there that reads how it ended, that stays; then all goes."""
+        """While a front end still reads how it ended, its folder stays; then everything goes."""
         (self.folder / "ended").touch()
         with mock.patch("roam_live.common.errors.logs", []), FrontEndLock(self.folder), FrontEndLock(self.folder):
             lookup.sweep()
@@ -110,7 +110,7 @@ class Listed(Sessions):
         self.assertFalse(self.folder.exists())
 
     def test_held(self):
-        """So it is while a process holds the folder that nobody finds."""
+        """The same while a process that nobody finds has the folder locked."""
         held = os.open(self.folder, os.O_RDONLY)
         fcntl.flock(held, fcntl.LOCK_SH)
         with mock.patch.object(local, "holder_of", return_value=None):
@@ -121,7 +121,7 @@ class Listed(Sessions):
         self.assertFalse(self.folder.exists())
 
     def test_begun_anew(self):
-        """One that is begun anew after its old note was read is told, and nothing of it is removed."""
+        """One that starts anew after its old note was read is listed, and nothing of it is removed."""
         session = Window(self.base / "main")
         own = [os.getpid(), begun(os.getpid())]
         self.note(server=own)
@@ -131,7 +131,7 @@ class Listed(Sessions):
         self.assertEqual(json.loads((self.folder / "state.json").read_text(encoding="utf-8"))["server"], own)
 
     def test_being_started(self):
-        """While another has its lock nothing is removed, and nobody waits."""
+        """While another process has its lock nothing is removed, and nobody waits."""
         before = self.names()
         with open(self.folder / "lock", "wb") as lock:
             fcntl.flock(lock, fcntl.LOCK_EX)
@@ -139,7 +139,7 @@ class Listed(Sessions):
         self.assertEqual(self.names(), sorted([*before, "lock"]))
 
     def test_other_machines(self):
-        """Those of other machines are listed behind those of this one, under the name by which they are killed."""
+        """Remote ones are listed after local ones, under the name that `mux kill` takes."""
         for name in ("ssh:there:main", "ssh:me@there.example:work:0badcafe", "none ssh:x:y", "ssh:a:b:c", "ssh::main"):
             (self.base / name).mkdir()
             self.note(self.base / name, relay=[os.getpid(), begun(os.getpid())])
@@ -149,7 +149,7 @@ class Listed(Sessions):
         self.assertEqual([session.name for session in found], wanted)
         lines = survey.surveyed([(one, one.windows()) for one in found])
         self.assertEqual([line.split()[0] for line in lines], wanted)
-        # The other columns are below each other, however long a name is.
+        # The other columns are aligned, however long a name is.
         self.assertEqual({line.index(" terminals") - len(" ?") for line in lines}, {lines[1].index(" terminals") - 2})
         self.assertIsInstance(lookup.session_named("ssh:there:main"), RemoteSession)
         for name in ("ssh:none:main", "ssh:there/../x:main", "../main", "ssh:there:main:1"):
@@ -161,7 +161,7 @@ class Found(Sessions):
     """A session whose note is lost."""
 
     def test_found(self):
-        """Its processes are those that listen at its sockets; the pty host tells the command."""
+        """Its processes are the listeners at its sockets; the pty host shows the command."""
         server, host = self.listening("clients"), self.listening("host")
         for text in (None, "", "{", "[]", '{"server": 1}', '{"server": [1]}', '{"server": ["a", "b"]}', "\xff"):
             (self.folder / "state.json").unlink(missing_ok=True)
@@ -177,7 +177,7 @@ class Found(Sessions):
         self.assertEqual(Window(self.base / "main").process("server"), server.pid)
 
     def test_command(self):
-        """The command of a pty host stands behind the folder in its words."""
+        """The command of a pty host follows the folder in its words."""
         words = [sys.executable, "-c", "import time; print(flush=True); time.sleep(60)", "--close", str(self.folder), "sh", "-c", "a b"]
         process = subprocess.Popen(words, stdout=subprocess.PIPE)
         self.addCleanup(process.wait)
@@ -189,7 +189,7 @@ class Found(Sessions):
         self.assertEqual(local.command_of(process.pid, self.base), [])
 
     def test_answers(self):
-        """Where somebody answers nothing is removed, whatever is noted."""
+        """If a process answers nothing is removed, whatever the notes say."""
         self.listening("clients", "terminals")
         for note in (True, False):
             if not note:
@@ -203,7 +203,7 @@ class Found(Sessions):
             self.assertTrue(session.has_client())
 
     def test_takes_none(self):
-        """Where who listens takes no connection nothing is done, and that is told."""
+        """If a listener accepts no connection nothing is done, and that is reported."""
         patched = mock.patch.object(session_processes, "ASK_WAIT", 0.02)
         patched.start()
         self.addCleanup(patched.stop)
@@ -222,7 +222,7 @@ class Found(Sessions):
             self.assertEqual(self.names(), before)
 
     def test_killed(self):
-        """It is ended as any other."""
+        """It is ended like any other."""
         server = self.listening("clients")
         (self.folder / "state.json").unlink()
         session = Window(self.base / "main")
@@ -235,14 +235,14 @@ class Found(Sessions):
 
 
 class Starts(Sessions):
-    """Starts of what belongs to a session."""
+    """Starts of a session's processes."""
 
     def setUp(self):
         super().setUp()
         self.session = Window(self.base / "new")
 
     def test_half_way(self):
-        """What was started ends again where the rest can't be, and no folder stays where nothing was logged."""
+        """Started processes end again if the rest fails, and no folder remains without a log."""
         with self.session.locked():
             self.session.state = {"version": WINDOWS_VERSION}
             with self.assertRaisesRegex(Fault, "^session new: the pty host cannot be started: /no/such: No such file"):
@@ -253,7 +253,7 @@ class Starts(Sessions):
         self.assertFalse(self.session.folder.exists())
 
     def test_logged(self):
-        """Where something was logged the folder stays with its log alone, and the fault has what was said in one line."""
+        """With a log the folder stays with its log alone, and the error quotes the output in one line."""
         with self.session.locked():
             self.session.state = {"version": WINDOWS_VERSION}
             with self.assertRaisesRegex(Fault, "^session new: the client process did not start: one; two$"):
@@ -263,7 +263,7 @@ class Starts(Sessions):
         self.assertEqual(self.names(self.session.folder), ["lock", "log"])
 
     def test_unnoted(self):
-        """A process that can't be noted isn't started, and the fault tells what and why."""
+        """A process that can't be recorded isn't started, and the error names it and the reason."""
         with self.session.locked():
             self.session.state = {"version": WINDOWS_VERSION}
             with mock.patch.object(self.session, "note_own", side_effect=OSError(28, "No space left on device")):
@@ -277,7 +277,7 @@ class Starts(Sessions):
                     self.session.spawned("relay", ["sleep", "60"])
 
     def test_relay(self):
-        """A try to reach another machine that fails leaves no folder; one where something is logged leaves the log."""
+        """A failed connection to another machine leaves no folder; with a log it leaves the log."""
         for logged in (False, True):
             near = RemoteSession(self.base / "ssh:there:main", "main")
             with near.locked(), mock.patch("roam_live.session.roles.TOOLS", self.base), mock.patch("roam_live.session.remote.in_front"):
@@ -288,7 +288,7 @@ class Starts(Sessions):
             self.assertEqual(near.folder.exists() and self.names(near.folder), logged and ["lock", "log"])
 
     def test_lock(self):
-        """A lock whose file was removed, with the folder, isn't taken for the one that others find."""
+        """A lock whose file was removed, with the folder, is not the current one."""
         with self.session.locked():
             other = Window(self.session.folder)
             self.session.forget()
@@ -298,7 +298,7 @@ class Starts(Sessions):
                     pass
 
     def test_folder_of_another(self):
-        """Nothing is made in a folder of another user."""
+        """Nothing is created in a folder of another user."""
         with mock.patch("os.getuid", return_value=os.getuid() + 1):
             with self.assertRaisesRegex(Fault, "is not a directory of yours"), Window(self.base / "main").locked():
                 pass
@@ -307,10 +307,10 @@ class Starts(Sessions):
 
 
 class Ends(Sessions):
-    """What is said where the process that serves a session has ended."""
+    """The messages after the end of a session's serving process."""
 
     def met(self, near=False):
-        """A session whose server ran, and runs no more."""
+        """Return a session whose server ran, and has ended."""
         process = subprocess.Popen(["sleep", "60"])
         self.addCleanup(process.wait)
         moment = begun(process.pid)
@@ -320,7 +320,7 @@ class Ends(Sessions):
         return session, process
 
     def test_killed(self):
-        """One that was killed isn't told as an end of the session."""
+        """A killed one isn't reported as the session's end."""
         session, process = self.met()
         process.kill()
         process.wait()
@@ -329,7 +329,7 @@ class Ends(Sessions):
         self.assertTrue(said.startswith("[the server was killed or failed, and its session is gone; "))
 
     def test_ended(self):
-        """One that was ended on purpose is; what is noted of another process is nothing."""
+        """An intended end is; a record of another process is not."""
         session, process = self.met()
         note_end(self.folder, process.pid, 1)
         self.assertEqual(session.ending()[1], 1)
@@ -338,7 +338,7 @@ class Ends(Sessions):
         self.assertEqual(session.ending(), ("[the session has ended]", 0))
 
     def test_by_hand(self):
-        """So it is with a server that was started by hand."""
+        """The same for a server that was started by hand."""
         process = subprocess.Popen(["sleep", "60"])
         self.addCleanup(process.wait)
         session = Window(self.folder, server=process.pid)
@@ -349,7 +349,7 @@ class Ends(Sessions):
         self.assertEqual(Window(self.folder, server=os.getpid()).ending()[1], 1)
 
     def test_relay(self):
-        """A relay that was ended leaves the session; one that was told of the end tells it; else its log tells why it ended."""
+        """A relay that was ended leaves the session; one that got the end reports it; otherwise its log gives the reason."""
         session, process = self.met(near=True)
         self.assertEqual(session.ending()[1], 1)
         session.end_all()

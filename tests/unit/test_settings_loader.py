@@ -1,4 +1,4 @@
-"""Settings files: lines in tmux's words with what comes of each, whole files of forms that are in use, and files that aren't read."""
+"""Settings files: lines in tmux's words with their effects, whole files of common forms, and unread files."""
 import os
 import unittest
 from unittest import mock
@@ -11,7 +11,7 @@ from roam_live.config.parser import BadWord, key_named
 ENVIRONMENT = {"HOME": "/home/me", "USER": "me", "EMPTY": "", "SHELL": "/bin/zsh"}
 COMMANDS = {"split-window", "kill-pane", "select-pane", "source-file", "display", "run-shell", "new-window", "resize-pane", "send-keys"}
 
-# Lines, and what comes of them: options, bindings, what is run and said, and behind `!` what is told.
+# Lines, and their effects: options, bindings, shell commands and messages, and after `!` the reports.
 LINES = (
     # Options.
     ("set -g prefix C-a", "prefix=C-a"), ("set-option -g prefix ^A", "prefix=C-a"), ("set -g prefix C-A", "prefix=C-a"),
@@ -93,7 +93,7 @@ LINES = (
     ("bind r kill-pane; unbind r", "(prefix r)"), ("bind r kill-pane; unbind -a", "(prefix all)"), ("unbind", "! 1: unbind needs a key"),
     ("unbind MouseDown1Pane", "! 1: MouseDown1Pane is not a known key"),
     ("unbind -T copy-mode x", "! 1: roam has no key table copy-mode"),
-    # What is run and told.
+    # Commands with effects and reports.
     ("run-shell 'echo x'", "<echo x>"), ("run -b ~/.tmux/plugins/tpm/tpm", "</home/me/.tmux/plugins/tpm/tpm>"),
     ("run-shell", "! 1: run-shell takes one shell command"), ("display-message 'hello\\nthere'", '"hello\\nthere"'),
     ('display "a\x1b]0;x\x07"', '"a?]0;x?"'), ("display -p x", '"x"'), ("display", ""),
@@ -109,7 +109,7 @@ LINES = (
     ("%endif", "! 1: %endif without %if"), ("%if 1\nset -g mouse on", "mouse=on ! 2: %if has no %endif"),
 )
 
-# Whole files of forms that are in use, and how many lines of each are told.
+# Whole files of common forms, and the number of reported lines in each.
 FILES = (
     ("""# plug-ins
 set -g @plugin 'tmux-plugins/tpm'
@@ -187,7 +187,7 @@ set -g mouse on
 
 
 def summary(found):
-    """What settings have, on a line."""
+    """Return settings in one line."""
     parts = [f"{name}={value}" for name, value in found.values.items()]
     for (table, key), binding in found.bindings.items():
         words = " ; ".join(" ".join(command) for command in binding.commands) if binding else ""
@@ -197,7 +197,7 @@ def summary(found):
 
 
 def taken(text):
-    """The settings that a text comes to, the lines of what is told with a blank before."""
+    """Return the settings in a text, with the lines of the report after a blank."""
     found = FileSettings(ENVIRONMENT, COMMANDS)
     found.take_text(text, "conf")
     found.told = [told.replace("conf:", " ", 1).strip() for told in found.told]
@@ -208,13 +208,13 @@ class Lines(unittest.TestCase):
     """Lines."""
 
     def test_lines(self):
-        """What comes of each."""
+        """Check the effect of each line."""
         self.assertGreaterEqual(len(LINES), 120)
         for text, wanted in LINES:
             self.assertEqual(summary(taken(text)), wanted, text)
 
     def test_files(self):
-        """Of a whole file all is had that roam has, and each other line is told once."""
+        """All supported lines of a whole file apply, and each other line is reported once."""
         for text, count, values in FILES:
             found = taken(text)
             numbers = [told.partition(":")[0] for told in found.told]
@@ -222,7 +222,7 @@ class Lines(unittest.TestCase):
             self.assertEqual({name: found.values.get(name) for name in values}, values, text)
 
     def test_once(self):
-        """What is told is told once, so many lines of it, and printable, however long it is."""
+        """A report appears once, up to a number of lines, printable, however long it is."""
         found = FileSettings(ENVIRONMENT)
         for _ in range(2):
             found.take_text("foo\n" * (MOST_TOLD + 50), "/home/me/conf")
@@ -232,13 +232,13 @@ class Lines(unittest.TestCase):
         self.assertTrue(all(len(told) <= LONGEST_TOLD and told.isprintable() for told in found.told))
 
     def test_bounds(self):
-        """Long words, and braces that stand deep in one another, are told and cost little."""
+        """Long words, and deeply nested braces, are reported and cost little."""
         for text, count in (("set -g status-left " + "x" * 100_000, 1), ("a { " * 1000, 1), ("a '" + "x" * 100_000, 1), ("${" * 1000, 1),
                             ("\\" * 1001, 1), ("{ " * 50 + "} " * 50, 1), ("a {\n" * 1000, 48), ("x \"\n" * 1001, MOST_TOLD)):
             self.assertEqual(len(taken(text).told), count, text[:20])
 
     def test_keys(self):
-        """Keys by their names."""
+        """Keys by name."""
         for name, wanted in (("a", "a"), ("A", "A"), ("C-a", "C-a"), ("C-A", "C-a"), ("^a", "C-a"), ("M-S-x", "M-S-x"),
                              ("S-M-Up", "M-S-up"), ("C-M-Left", "C-M-left"), ("-", "-"), ("NPage", "pagedown"), ("F12", "f12"),
                              ("C--", "C--"), ("M-", None), ("F13", "f13"), ("F21", None), ("", None), ("\x1b", None),
@@ -250,26 +250,26 @@ class Lines(unittest.TestCase):
 
 
 class Files(Case):
-    """Files that are read, and that aren't."""
+    """Files that are read, and others."""
 
     def setUp(self):
         self.folder = self.made_folder()
 
     def made(self, name, data, mode=0o600):
-        """A file of this name."""
+        """Create a file of this name."""
         path = self.folder / name
         path.write_bytes(data)
         path.chmod(mode)
         return str(path)
 
     def read(self, path):
-        """The settings of a file."""
+        """Return the settings of a file."""
         found = FileSettings(ENVIRONMENT)
         found.read(path)
         return found
 
     def test_refused(self):
-        """A file that others may write, another user's, one that is no text, or too large, or none: told, and nothing of it is had."""
+        """A file that others may write, of another user, with invalid text, too large, or absent is reported, and nothing of it applies."""
         text = b"set -g mouse on\nrun-shell 'touch /tmp/evil'\n"
         other = os.stat_result((0o100600, 5, 5, 1, os.getuid() + 77, 0, len(text), 0, 0, 0))
         for path, why in (
@@ -287,12 +287,12 @@ class Files(Case):
         self.assertEqual((found.told, found.values), (["c: not read: it belongs to another user"], {}))
 
     def test_pipe(self):
-        """What isn't a file doesn't keep anybody waiting."""
+        """A pipe in place of a file blocks nobody."""
         os.mkfifo(self.folder / "pipe", 0o600)
         self.assertEqual(self.read(str(self.folder / "pipe")).told, ["pipe: not read: it is not a regular file"])
 
     def test_root(self):
-        """Root's files are read, and links are followed to what is judged."""
+        """Root's files are read, and links are followed to the checked file."""
         path = self.made("a", b"set -g mouse on\n", 0o644)
         (self.folder / "link").symlink_to(path)
         self.assertEqual(self.read(str(self.folder / "link")).values, {"mouse": "on"})
@@ -300,7 +300,7 @@ class Files(Case):
         self.assertEqual(self.read(str(self.folder / "link")).told, ["link: not read: other users may write to it"])
 
     def test_sources(self):
-        """Other files are read in their place, from the folder of the one that names them; a pattern names several, in order."""
+        """Included files are read in place, relative to the folder of the including one; a pattern names several, in order."""
         (self.folder / "more").mkdir()
         self.made("more/b.conf", b"set -g status-left b\nset -g mouse on\n")
         self.made("more/a.conf", b"set -g status-left a\n")
@@ -310,7 +310,7 @@ class Files(Case):
         self.assertEqual(found.told, ["none: cannot be read: No such file or directory"])
 
     def test_loops(self):
-        """Files that name one another in a ring, or too deep, or ever more of them: told, and it ends."""
+        """Files that include one another in a ring, too deep, or without end are reported, and reading ends."""
         ring = self.made("ring", b"source-file other\nset -g mouse on\n")
         self.made("other", b"source-file ring\n" * 5)
         found = self.read(ring)

@@ -1,4 +1,4 @@
-"""Decisions about size, as tables: whose size a session has, which part of it a terminal shows, and what a zoom asks for."""
+"""Decisions about size, as tables: the size of a session, the part that a terminal shows, and the size request of a zoom."""
 import unittest
 
 from roam_live.common.tty import MOST
@@ -15,10 +15,10 @@ NOTE = ZoomNote((24, 80), ((24, 160),))
 
 
 class Whose(unittest.TestCase):
-    """Whose size the session has."""
+    """The size of the session."""
 
     def test_fitting(self):
-        """The first of these that applies decides: a zoom, a session launched just now, what cannot change, who else is attached."""
+        """The first applicable rule decides: a zoom, a session launched just now, an impossible change, the other terminals."""
         session, larger = (24, 80), (30, 100)
         for case, step in (
             ((session, larger, False, True, True, True), sizes.ZOOMS),
@@ -37,13 +37,13 @@ class Whose(unittest.TestCase):
             self.assertEqual(sizes.fit_step(*case), step, case)
 
     def test_first(self):
-        """Nothing is cut in a new session; else the panes are awaited."""
+        """Nothing is cut in a new session; otherwise the panes are awaited."""
         for case, step in (((True, True), sizes.IS_NEW), ((True, False), sizes.IS_NEW), ((False, True), sizes.LATER),
                            ((False, False), sizes.FITS)):
             self.assertEqual(sizes.first_step(*case), step, case)
 
     def test_follows(self):
-        """A session grows for who is alone, and shrinks for who showed all of it and is alone by what the pty host reports."""
+        """A session grows for a lone user, and shrinks for one who showed all of it and is alone by the pty host's report."""
         size = (24, 80)
         for own, showed_all, has_others, is_told, follows in (
             ((30, 100), False, False, False, True), ((24, 80), False, False, True, True), ((30, 80), True, False, False, True),
@@ -56,7 +56,7 @@ class Whose(unittest.TestCase):
             self.assertIs(sizes.follows(*case), follows, case)
 
     def test_latest(self):
-        """A session of a known size takes another one that it may have."""
+        """A session of a known size takes another permitted one."""
         for size, room, takes in (((24, 80), (30, 100), True), ((24, 80), (20, 70), True), ((24, 80), (24, 80), False),
                                   (NO_SIZE, (24, 80), False), ((24, 80), (3, 80), False), ((24, 80), (24, 7), False),
                                   (MOST, (MOST[0] + 9, MOST[1] + 9), False), ((24, 80), (4, 8), True)):
@@ -64,10 +64,10 @@ class Whose(unittest.TestCase):
 
 
 class Parts(unittest.TestCase):
-    """Which part a terminal shows."""
+    """The part that a terminal shows."""
 
     def test_part(self):
-        """The last row is the front end's own; a part has a row and four columns at least, and no more than the session."""
+        """The last row is the front end's own; a part has at least a row and four columns, and is no larger than the session."""
         pane = Rect(1, 41, 23, 40)
         for case, part in (
             (((24, 80), True, (24, 80), None, False), (23, 80)),
@@ -91,13 +91,13 @@ class Parts(unittest.TestCase):
             self.assertEqual(sizes.part_for(*case), part, case)
 
     def test_all(self):
-        """A part has all if the session's status row alone is left out."""
+        """A part is complete if it omits only the session's status row."""
         for size, part, is_all in (((24, 80), (23, 80), True), ((24, 80), (22, 80), False), ((24, 80), (23, 79), False),
                                    ((24, 80), None, False), (NO_SIZE, (-1, 0), False)):
             self.assertIs(sizes.has_all(size, part), is_all, (size, part))
 
     def test_places(self):
-        """A part that stays where it is lies within the panes; one that reaches beyond them is found."""
+        """A part that stays in place is within the panes; one that reaches beyond them is detected."""
         for size, part, place, kept, is_beyond in (
             ((24, 80), (10, 40), (0, 0), (0, 0), False), ((24, 80), (10, 40), (13, 40), (13, 40), False),
             ((24, 80), (10, 40), (14, 40), (13, 40), True), ((24, 80), (10, 40), (13, 41), (13, 40), True),
@@ -107,7 +107,7 @@ class Parts(unittest.TestCase):
         self.assertIs(sizes.is_beyond(NO_SIZE, (10, 40), (5, 5)), False)
 
     def test_visible(self):
-        """What a terminal shows of a rectangle, whole, cut on each side, or nothing."""
+        """The visible part of a rectangle: whole, cut on each side, or nothing."""
         rect = Rect(5, 11, 10, 20)
         for place, extent, shown in (
             ((0, 0), (23, 80), rect), ((4, 10), (23, 80), Rect(1, 1, 10, 20)), ((6, 12), (23, 80), Rect(1, 1, 8, 18)),
@@ -125,7 +125,7 @@ class Parts(unittest.TestCase):
 
 
 class Zooms(unittest.TestCase):
-    """What a zoom asks for."""
+    """The size requests of a zoom."""
 
     def test_places_at(self):
         """Panes keep their share of another size."""
@@ -139,13 +139,13 @@ class Zooms(unittest.TestCase):
             self.assertEqual(sizes.zoom_refusal(places, area), why, area)
 
     def test_unzoomed(self):
-        """A size that a zoom asked for gives way to the session's own."""
+        """A size requested by a zoom gives way to the session's own."""
         for size, note, own in (((24, 80), None, (24, 80)), ((24, 160), NOTE, (24, 80)), ((30, 90), NOTE, (30, 90)),
                                 ((24, 80), NOTE, (24, 80))):
             self.assertEqual(sizes.unzoomed_size(size, note), own, size)
 
     def test_size(self):
-        """A size is asked for until the pane has it, each once, and MOST_ASKED times in all."""
+        """A size is requested until the pane has it, each once, and MOST_ASKED times in all."""
         fresh = ZoomNote((24, 80), ())
         size = sizes.zoom_size(HALVES, 2, (23, 80), fresh)
         self.assertEqual(sizes.places_at(HALVES, size).rects[2], Rect(1, 81, 23, 80))
@@ -156,7 +156,7 @@ class Zooms(unittest.TestCase):
             self.assertEqual(sizes.zoom_size(places, 2, area, note), asked, (area, note))
 
     def test_told(self):
-        """A zoom ends with its focus or its panes, is lost by another size, and goes on by its own."""
+        """A zoom ends with its focus or its panes, is lost by another size, and continues by its own."""
         asked, shown = (HALVES, {}), (None, WIDE.rects)
         partly = WIDE._replace(rects={1: Rect(1, 1, 23, 39), 2: Rect(1, 81, 23, 80)})
         moved = WIDE._replace(rects={1: Rect(1, 1, 23, 78), 2: Rect(1, 80, 23, 81)})
@@ -174,7 +174,7 @@ class Zooms(unittest.TestCase):
                          [sizes.STAYS, sizes.ASKS, sizes.LOST])
 
     def test_left(self):
-        """A zoom that was left gives the session its size back once no other zoom can have asked for that."""
+        """An abandoned zoom's session gets its old size back once no other zoom can have requested that."""
         for note, size, was_unseen, has_others, is_late, step in (
             (None, (24, 160), False, False, True, sizes.NOTHING), (NOTE, NO_SIZE, False, False, True, sizes.NOTHING),
             (NOTE, (24, 80), False, False, False, sizes.UNSEEN), (NOTE, (24, 80), True, True, True, sizes.UNSEEN),

@@ -21,11 +21,11 @@ class Shell(Case):
         self.master, self.command = self.pair()
 
     def joined(self):
-        """A command's terminal and a pane, joined."""
+        """Return a command's terminal and a pane, joined."""
         return shell.JoinedCommand(self.master.fileno(), self.pane.fileno(), StillLoop())
 
     def test_carried(self):
-        """Bytes go both ways until the command's end, whose last words are written."""
+        """Bytes go both ways until the command's end, whose last output is written."""
         self.command.send(b"out")
         self.server.send(b"in")
         joined = self.joined()
@@ -37,7 +37,7 @@ class Shell(Case):
         self.assertEqual(read_now(self.server), b"last")
 
     def test_pane_first(self):
-        """A pane that ends first hangs the command up, also where it takes nothing more."""
+        """If the pane ends first the command gets a hangup, even if it accepts nothing more."""
         self.server.close()
         self.assertFalse(self.joined().run())
         self.command.send(b"x")
@@ -46,13 +46,13 @@ class Shell(Case):
             self.assertFalse(self.joined().run())
 
     def test_first_end(self):
-        """Where both have ended the command's status counts."""
+        """If both have ended the command's status counts."""
         for end in (self.server, self.command):
             end.close()
         self.assertTrue(self.joined().run())
 
     def test_limits(self):
-        """Nothing is read of a command while 65,536 bytes wait for the pane; what is typed above as many is dropped, which is told once."""
+        """A command's output stays unread while 65,536 bytes wait for the pane; input above as many is dropped, which is reported once."""
         joined = self.joined()
         command = joined.loop.sources[self.master.fileno()]
         joined.to_pane += bytes(65535)
@@ -67,7 +67,7 @@ class Shell(Case):
         self.assertEqual(self.said.getvalue().count("the program does not read input; above 65536 bytes it is dropped\n"), 1)
 
     def test_words(self):
-        """Its size and command are as asked, and its status is the command's; 0 where the pane ended first."""
+        """Its size and command are as requested, and its status is the command's; 0 if the pane ended first."""
         self.environment(SHELL="/bin/zsh")
         self.patch_of(shell, "connected", return_value=self.pane)
         starts, joins = self.patch_of(shell, "spawned", return_value=(7, 8)), self.patch_of(shell, "JoinedCommand")
@@ -93,7 +93,7 @@ class Shell(Case):
         self.assertIn("the pane's socket is missing", self.said.getvalue())
 
     def test_started(self):
-        """The command has TERM of a VT220, and nothing of another terminal."""
+        """The command has TERM of a VT220, and no variable of another terminal."""
         self.environment(LINES="5", COLORTERM="x", ROAM_WHY="1", KEPT="one")
         with mock.patch.object(shell.spawn, "forked", return_value=(0, 0)), mock.patch.object(shell.spawn, "become") as becomes, \
                 mock.patch.object(shell.os, "_exit", side_effect=InterruptedError) as exits:
@@ -110,7 +110,7 @@ class Shell(Case):
         self.assertFalse(os.get_blocking(self.master.fileno()))
 
     def test_rest(self):
-        """All that waits is written at the end, however long the pane takes."""
+        """All waiting output is written at the end, however slow the pane is."""
         waiting = bytearray(b"abc")
         shell.write_rest(self.pane.fileno(), waiting)
         self.assertEqual((waiting, read_now(self.server), os.get_blocking(self.pane.fileno())), (b"", b"abc", True))
@@ -127,7 +127,7 @@ class Attach(Case):
         self.said = self.heard()
 
     def attach(self, *words):
-        """What it does with words."""
+        """Run it with these words."""
         self.words("attach", *words)
         return attach.main()
 
@@ -144,7 +144,7 @@ class Attach(Case):
         self.assertEqual((place.by_hand, is_read_only, prediction), (7, True, "never"))
 
     def test_known_server(self):
-        """Where its process is named nobody has to listen yet."""
+        """If its process is named the server need not listen yet."""
         self.assertEqual(self.attach("--server", str(os.getpid()), str(self.folder)), 5)
 
     def test_port(self):

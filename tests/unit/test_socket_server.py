@@ -1,4 +1,4 @@
-"""The host's socket `host`: who is at a session, as each terminal says it and the others are told."""
+"""The host's socket `host`: reports of the terminals at a session."""
 import os
 import socket
 import time
@@ -27,7 +27,7 @@ NAMED = "00112233445566aa"
 
 
 class Sockets(Case):
-    """The socket in a folder of its own, at which the host has a name."""
+    """The socket in a folder of its own, with a named host."""
 
     def setUp(self):
         self.folder = self.made_folder()
@@ -36,7 +36,7 @@ class Sockets(Case):
         self.serve()
 
     def serve(self, rows=None, name=NAMED):
-        """Has a host listen in the folder, of one window."""
+        """Let a host listen in the folder, of one window."""
         self.socket = HostSocket(self.loop, rows)
         self.channel = WindowChannel(self.socket)
         self.socket.listen(self.folder)
@@ -44,7 +44,7 @@ class Sockets(Case):
         self.addCleanup(self.socket.close)
 
     def connect(self, text=b""):
-        """One who connects, and says this."""
+        """Connect, and send this."""
         one = socket.socket(socket.AF_UNIX, socket.SOCK_STREAM)
         self.addCleanup(one.close)
         one.connect(str(self.folder / "host"))
@@ -54,16 +54,16 @@ class Sockets(Case):
         return one
 
     def say(self, one, text):
-        """Has one say this."""
+        """Send this from a peer."""
         one.send(text)
         self.loop.turns(3)
 
 
 class Told(Sockets):
-    """What those are told who ask."""
+    """The reports to subscribers."""
 
     def test_others(self):
-        """Who asks is told who else is there, and each change; itself it isn't told of, nor who has said nothing."""
+        """A subscriber gets the other terminals, and each change, but not itself, nor silent ones."""
         first = self.connect(f"here {A}\nwho\n".encode())
         self.assertEqual(read_now(first), f"host {NAMED}\nothers 0\n".encode())
         self.connect()
@@ -80,7 +80,7 @@ class Told(Sockets):
         self.assertEqual(read_now(second), b"gone 1\nothers 0\n")
 
     def test_at_once(self):
-        """Of what comes at once the newest is told, and each number once."""
+        """Of simultaneous changes the newest is reported, and each number once."""
         first = self.connect(b"who\n")
         self.connect("".join(f"here {A.replace('24', str(rows))}\n" for rows in range(1, 31)).encode())
         self.assertEqual(read_now(first), f"host {NAMED}\nothers 0\n".encode() + f"there 2 {A.replace('24', '30')}\nothers 1\n".encode())
@@ -96,7 +96,7 @@ class Told(Sockets):
             self.loop.turns(2)
 
     def test_bad(self):
-        """What is no line is answered so, and the connection goes on."""
+        """An invalid line is answered as such, and the connection continues."""
         one = self.connect(b"who\n")
         read_now(one)
         for line in ("", "whom", "here", f"here {A} x", "here a\x1b[2J 24 80 read-write", "here a 0 80 read-write", "here a 24 80 reads",
@@ -108,7 +108,7 @@ class Told(Sockets):
         self.assertEqual((read_now(one), [peer.presence for peer in self.socket.peers]), (b"bad line\n", [None]))
 
     def test_long(self):
-        """Who says what is longer than a line is let go."""
+        """A peer whose line is too long is disconnected."""
         one = self.connect(b"x" * (LONGEST_HOST_LINE - 1))
         self.assertEqual(len(self.socket.peers), 1)
         self.say(one, b"x")
@@ -118,7 +118,7 @@ class Told(Sockets):
 
 
 class Commands(Sockets):
-    """What runs in front in panes."""
+    """Foreground programs of panes."""
 
     def setUp(self):
         super().setUp()
@@ -126,7 +126,7 @@ class Commands(Sockets):
         self.channel.host = mock.Mock(look_at_fronts=lambda: self.asked.append(self.channel.has_asked_commands()))
 
     def test_told(self):
-        """Who asks is told, each name of a making once; others aren't."""
+        """A subscriber gets each name of a generation once; others get nothing."""
         other, first = self.connect(b"who\n"), self.connect(b"commands\n")
         read_now(other)
         self.assertEqual((self.asked, read_now(first)), ([True], b""))
@@ -140,7 +140,7 @@ class Commands(Sockets):
         self.assertEqual((read_now(late), read_now(first), read_now(other), len(self.asked)), (b"command 1 5 less a\n", b"", b"", 2))
 
     def test_wanted(self):
-        """It isn't wanted where nobody asked, nor once those have left."""
+        """It isn't wanted without subscribers, nor once those have left."""
         one = self.connect(b"who\n")
         self.assertFalse(self.channel.has_asked_commands())
         self.say(one, b"commands\n")
@@ -151,7 +151,7 @@ class Commands(Sockets):
 
 
 class Fronts(Case):
-    """When it is looked up what runs in front."""
+    """The lookups of foreground programs."""
 
     def setUp(self):
         self.loop, self.told = StillLoop(lambda: self.now), []
@@ -162,13 +162,13 @@ class Fronts(Case):
         self.patch_of(foreground_watch, "name_of", side_effect=lambda group: f"a{group}")
 
     def touch(self, seconds=0.0):
-        """Has something be typed in a pane, and so many seconds pass."""
+        """Type something in a pane, and let so many seconds pass."""
         self.fronts.touched(self.pane)
         self.now += seconds
         self.loop.do_due()
 
     def test_looks(self):
-        """A tenth of a second after something came, twice a second at most, and never while nothing comes."""
+        """It looks up a tenth of a second after output, twice a second at most, and never without output."""
         self.touch(0.09)
         self.assertEqual(self.told, [])
         self.touch(0.011)
@@ -186,7 +186,7 @@ class Fronts(Case):
         self.assertEqual(self.looks.call_count, count)
 
     def test_unwanted(self):
-        """Where nobody wants it nothing is looked up; and nothing is told of a pane that has no terminal, or in which none is in front."""
+        """Without subscribers there is no lookup; and nothing is reported of a pane without a terminal, or without a foreground program."""
         self.fronts.is_wanted = False
         self.touch(1)
         self.assertEqual((self.looks.call_count, self.loop.due), (0, {}))
@@ -198,7 +198,7 @@ class Fronts(Case):
         self.assertEqual((self.looks.call_count, self.told), (1, []))
 
     def test_gone(self):
-        """A pane that is gone isn't looked at."""
+        """A pane that is gone isn't looked up."""
         self.touch()
         self.fronts.drop(3)
         self.now += 1
@@ -207,10 +207,10 @@ class Fronts(Case):
 
 
 class Replaced(Sockets):
-    """A host in the place of another, whose terminals reconnect."""
+    """A host that replaces another, whose terminals reconnect."""
 
     def test_reconnect(self):
-        """Nobody is told who else is there before the terminals had time to come again; all is told then."""
+        """No terminal gets the others before all had time to reconnect; then all are reported."""
         self.socket.await_terminals()
         one = self.connect(f"here {A}\nwho\n".encode())
         self.assertEqual(read_now(one), f"host {NAMED}\n".encode())
@@ -225,14 +225,14 @@ class Replaced(Sockets):
 
 
 class Bounds(Sockets):
-    """What is bounded."""
+    """Limits."""
 
     def test_numbers(self):
         """The numbers are those in docs/HOST_PROTOCOL.md."""
         self.assertEqual((MOST_PEERS, LONGEST_HOST_LINE, HostPeer.most), (256, 256, 65536))
 
     def test_most(self):
-        """256 are connected; one more waits, which costs nobody anything, until another has left."""
+        """256 are connected; one more waits without cost until another has left."""
         there = [self.connect(f"here {A}\n".encode()) for _ in range(MOST_PEERS)]
         late = self.connect(b"who\n")
         found = self.loop.found
@@ -243,7 +243,7 @@ class Bounds(Sockets):
         self.assertTrue(read_now(late).endswith(b"others 255\n"))
 
     def test_unread(self):
-        """Who never reads is let go once 65,536 bytes wait, and the others are told all the same."""
+        """A peer that never reads is disconnected once 65,536 bytes wait, and the others still get their lines."""
         slow, other, moves = self.connect(b"who\n"), self.connect(b"who\n"), self.connect()
         most, got = 0, b""
         for count in range(20000):
@@ -258,7 +258,7 @@ class Bounds(Sockets):
         self.assertTrue(slow)
 
     def test_flood(self):
-        """So is one who says what is no line again and again."""
+        """So is one that sends invalid lines again and again."""
         one = self.connect()
         for _ in range(3000):
             try:
@@ -269,13 +269,13 @@ class Bounds(Sockets):
         self.assertEqual(self.socket.peers, [])
 
     def test_another_user(self):
-        """One of another user is let go."""
+        """A connection of another user is closed."""
         with mock.patch("os.getuid", return_value=os.getuid() + 1):
             one = self.connect()
         self.assertEqual((one.recv(1), self.socket.peers), (b"", []))
 
     def test_no_descriptor(self):
-        """Who comes while the system has no descriptor waits, and is taken a second later."""
+        """A connection waits while the system has no descriptor, and is accepted a second later."""
         with mock.patch.object(self.socket.listener, "end", mock.Mock(accept=mock.Mock(side_effect=OSError(24, "none")))):
             one = self.connect(b"who\n")
         self.assertEqual(read_now(one), b"")
@@ -284,7 +284,7 @@ class Bounds(Sockets):
         self.assertEqual(read_now(one), f"host {NAMED}\nothers 0\n".encode())
 
     def test_taken(self):
-        """Where another listens there it is left to it, which is told, and nobody is known to be there."""
+        """If another process listens there it stays, which is reported, and no terminals are known."""
         said = self.heard()
         other = HostSocket(StillLoop())
         other.listen(self.folder)
@@ -298,7 +298,7 @@ class Links(Sockets):
     """A front end's connection there."""
 
     def link(self, is_read_only=False, folder=None, size=(24, 80)):
-        """One of a terminal."""
+        """Return a terminal's link."""
         sizes = [size]
         one = LinkedClient(folder or self.folder, StillLoop(lambda: self.now), lambda: sizes[-1], is_read_only,
                            lambda: self.known.append(one))
@@ -311,14 +311,14 @@ class Links(Sockets):
         self.known = []
 
     def turn(self, *links, count=6):
-        """Turns of all."""
+        """Take turns of all."""
         for _ in range(count):
             for link in links:
                 link.loop.turn()
             self.loop.turn()
 
     def test_known(self):
-        """It is awaited for two seconds whether somebody else types, and known then; who watches doesn't type."""
+        """It waits two seconds for the other terminals, and then knows them; a read-only one doesn't type."""
         one = self.link()
         self.assertEqual((one.is_awaited(), one.has_others(), KNOWS), (True, None, 2.0))
         self.turn(one)
@@ -334,7 +334,7 @@ class Links(Sockets):
         self.assertEqual(one.has_others(), False)
 
     def test_sizes(self):
-        """A new size is said, and the same isn't."""
+        """A new size is reported, and an equal one isn't."""
         one, other = self.link(), self.link()
         one.sizes.append((12, 40))
         one.say_here()
@@ -344,7 +344,7 @@ class Links(Sockets):
         self.assertEqual(one.waiting, b"")
 
     def test_lost(self):
-        """Without the host nothing is known; it is connected to again after pauses, says again that it is there and is told all."""
+        """Without the host nothing is known; it reconnects after pauses, reports itself again and gets everything."""
         one, other = self.link(), self.link()
         self.turn(one, other)
         self.socket.close()
@@ -356,8 +356,9 @@ class Links(Sockets):
         self.assertEqual((one.has_others(), other.has_others()), (True, True))
 
     def test_zoom(self):
-        """A zoom is told of at once, anew to a host that comes, and stays noted where its terminal has left; who comes is told of it
-        before it knows of the others."""
+        """A zoom is reported at once, and again to a new host, and stays after its terminal has left. A new terminal gets it before the
+        others.
+        """
         one, other = self.link(), self.link()
         self.turn(one, other)
         note = ZoomNote((24, 80), ((48, 160),))
@@ -381,8 +382,9 @@ class Links(Sockets):
         self.assertEqual(read_now(late).splitlines(), [b"zoomed none", b"others 1"])
 
     def test_zoom_left(self):
-        """Who is killed before all of his zoom was taken, or before he told that it is over, leaves none behind: some seconds later it is
-        noted no more where the window has another size; but not sooner, since what he typed may come late."""
+        """A front end killed before its zoom, or its end, was complete leaves none behind: some seconds later it is dropped if the window
+        has another size. It stays until then, since the last input may come late.
+        """
         for size, told in (((24, 80), b"zoomed none\nothers 0\n"), ((48, 160), b""), (None, b"")):
             one, other = self.connect(f"here {A}\n".encode()), self.connect(f"here {B}\nwho\n".encode())
             self.say(one, b"zoom 24 80 48 160\n")
@@ -411,7 +413,7 @@ class Links(Sockets):
         self.assertEqual(self.loop.due, {})
 
     def test_no_zoom(self):
-        """Who watches makes none, and neither do lines that tell of none."""
+        """A read-only terminal makes none, and neither do lines without one."""
         for text in (f"here {B}\nzoom 24 80 48 160\n", "zoom\n", "zoom 24 80\n", "zoom 24 80 48 999\n", "zoom 24 80 \x1b[c 160\n"):
             one = self.connect(text.encode())
             self.assertEqual((read_now(one), self.channel.zoom.note), (b"bad line\n", None), text)
@@ -421,7 +423,7 @@ class Links(Sockets):
         self.assertEqual(link.zoomed, (0, ZoomNote((24, 80), ((48, 160),))))
 
     def test_environment_sent(self):
-        """What a terminal brings is brought once to each host, and not again where a connection to the same one comes again."""
+        """A terminal sends its environment once to each host, and not again after a reconnection to the same one."""
         one = self.link()
         one.link.environment = ["environment DISPLAY 3a37", "environment SSH_CONNECTION none"]
         self.turn(one)
@@ -435,7 +437,7 @@ class Links(Sockets):
             self.assertEqual(values["DISPLAY"], wanted)
 
     def test_colours(self):
-        """A terminal that edits tells each host once what colours it has, as soon as it has answered; one that watches tells none."""
+        """A read-write terminal reports its colours once to each host, as soon as it has answered; a read-only one reports none."""
         one, watcher = self.link(), self.link(is_read_only=True)
         one.tell_colour("\x1b]10;rgb:ff/ff/ff\x07")
         watcher.tell_colour("\x1b]11;rgb:0/0/0\x07")
@@ -460,11 +462,11 @@ class Links(Sockets):
         self.assertEqual((read_now(rude), self.socket.colours.known["foreground"]), (b"bad line\n", "ffff/ffff/ffff"))
 
     def test_none(self):
-        """Where nobody knows the socket, or tells nothing, nothing is known, and that isn't awaited for long; no folder has none."""
+        """If nobody knows the socket, or reports anything, nothing is known, without a long wait; without a folder there is none."""
         folder = self.made_folder()
         one = self.link(folder=folder)
         self.assertEqual((one.has_others(), one.is_awaited(), one.peer, one.takes_texts()), (None, True, None, False))
-        # One that was launched just before is tried again and again.
+        # A host that was launched just before is retried again and again.
         for _ in range(20):
             self.now += PAUSES[0]
             one.loop.turn()
@@ -486,7 +488,7 @@ class Links(Sockets):
         self.assertEqual((nowhere.loop.due, nowhere.is_connecting(), nowhere.is_awaited()), ({}, False, False))
 
     def test_ended_at_once(self):
-        """A socket that ends each connection at once, as a relay's to a host that is gone, is tried ever more seldom."""
+        """A socket that ends each connection at once, such as a relay's to a host that is gone, is tried ever more rarely."""
         folder = self.made_folder()
         listener = self.listening(folder / "host")
         one, waits = self.link(folder=folder), []
@@ -503,7 +505,7 @@ class Lines(unittest.TestCase):
     """The lines."""
 
     def test_said(self):
-        """What says that a terminal is there; its name comes in printable ASCII, bounded, without a terminal too."""
+        """The line that reports a terminal; its name is in printable ASCII, bounded, also without a terminal."""
         self.assertEqual(presence_said(f"here {A}"), Presence("here:/dev/pts/1", 24, 80, "read-write"))
         self.assertEqual(f"here {presence_said(f'here {B}')}", f"here {B}")
         for path in ("/dev/pts/7", "/dev/a b\x1b\u00e9" * 20):
@@ -513,7 +515,7 @@ class Lines(unittest.TestCase):
             self.assertTrue(terminal_name().endswith(":?"))
 
     def test_told(self):
-        """What can't be told is nothing, all is known once as many were told as there are, and no more are kept than may be."""
+        """Invalid reports do nothing, all is known once as many were reported as there are, and no more than the limit are stored."""
         told = OtherTerminals()
         for line in (f"there 0 {A}", f"there 1 {A} 1", "there 1 a 24 80 wants", "gone", "gone 0", "others", "others 100", "others -1",
                      "other 1", f"there \u00b2 {A}"):
@@ -526,7 +528,7 @@ class Lines(unittest.TestCase):
         self.assertEqual(presence.WHO, "who")
 
     def test_attended(self):
-        """A terminal that comes again within five seconds is there since it came first; later it is there anew."""
+        """A terminal that returns within five seconds keeps its arrival; later it gets a new one."""
         clock = [5000.7]
         attended = Attended(lambda: clock[0])
         self.assertEqual(attended.comes("a", 100.0), 5000)
@@ -534,13 +536,13 @@ class Lines(unittest.TestCase):
         for left, again, since in ((110.0, 110.0 + STAYS, 5000), (120.0, 120.01 + STAYS, 6000), (130.0, 131.0, 6000)):
             attended.leaves("a", left)
             self.assertEqual(attended.comes("a", again), since, left)
-        # One that is there, as at another window, and one that nobody knows.
+        # A terminal that is still there, for example at another window, and an unknown one.
         clock[0] = 7000.0
         attended.leaves("other", 140.0)
         self.assertEqual((attended.comes("a", 900.0), attended.comes("other", 141.0)), (6000, 7000))
 
     def test_attended_bounded(self):
-        """Of too many the one that came first is forgotten."""
+        """Above the limit the earliest one is forgotten."""
         clock = [1.0]
         attended = Attended(lambda: clock[0])
         for number in range(MOST_ATTENDED + 1):

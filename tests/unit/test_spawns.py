@@ -1,4 +1,4 @@
-"""Commands that are handed over for new panes and windows: at the host's socket, at a front end, and from outside."""
+"""Start options of new panes and windows: at the host's socket, at a front end, and from outside."""
 import os
 import unittest
 from unittest import mock
@@ -21,7 +21,7 @@ RIGHT, BELOW, ELSEWHERE = Rect(1, 42, 23, 39), Rect(13, 1, 11, 80), Rect(1, 90, 
 
 
 class Packed(unittest.TestCase):
-    """The bytes of one."""
+    """The bytes of one upload."""
 
     def test_packed(self):
         for begins in (Begins(["htop"]), Begins([], "/tmp", "name"), Begins(["a b", "", "\udcff"], "~", "")):
@@ -29,14 +29,14 @@ class Packed(unittest.TestCase):
         self.assertEqual([unpacked(data) for data in (b"", b"a", b"a\0b\x1b", b"\0\0")], [None] * 4)
 
     def test_command(self):
-        """A single word is one of the shell."""
+        """A single word is a shell command."""
         with mock.patch.dict(os.environ, {"SHELL": "/bin/zsh"}):
             self.assertEqual(Begins(["htop -d 5"]).command(), ["/bin/zsh", "-c", "htop -d 5"])
         self.assertEqual((Begins(["htop", "-d"]).command(), Begins([]).command()), (["htop", "-d"], []))
 
 
 class AtHost(Sockets):
-    """The socket at which they are handed over."""
+    """The socket for uploads."""
 
     def setUp(self):
         super().setUp()
@@ -44,7 +44,7 @@ class AtHost(Sockets):
         self.channel.handed.folder_beside = lambda pane: str(self.folder)
 
     def hand(self, beside, begins, name=NAME, one=None):
-        """Hands one over, and tells who did and what he is told."""
+        """Upload start options, and return the peer and its answers."""
         data = begins.packed()
         text = f"run {name} {beside} {len(data)}\n".encode() + data
         if one:
@@ -54,7 +54,7 @@ class AtHost(Sockets):
         return one, read_now(one).decode()
 
     def test_pane(self):
-        """The next pane beside the one that is named has it, once."""
+        """The next pane beside the named one gets it, once."""
         for rect in (RIGHT, BELOW):
             one, told = self.hand("1 7", Begins(["htop"], "src"))
             self.assertEqual(told, f"run {NAME} refused the directory does not exist\n")
@@ -68,7 +68,7 @@ class AtHost(Sockets):
             os.rmdir(self.folder / "src")
 
     def test_scroll_paint(self):
-        """So has one along a side that the pane has got since, as where a zoom ended."""
+        """So has one along a side that the pane got since, for example after a zoom's end."""
         self.hand("1 7", Begins(["htop"]))
         beside = Rect(1, 101, 40, 50)
         self.assertIsNone(self.channel.handed.for_pane(beside))
@@ -76,7 +76,7 @@ class AtHost(Sockets):
         self.assertTrue(self.channel.handed.for_pane(beside))
 
     def test_late(self):
-        """Where none comes in two seconds that is told, and a later one hasn't it."""
+        """If none comes in two seconds that is reported, and a later one doesn't get it."""
         one, _ = self.hand("1 7", Begins(["htop"]))
         self.now += 2.1
         self.loop.turns(3)
@@ -84,7 +84,7 @@ class AtHost(Sockets):
         self.assertIsNone(self.channel.handed.for_pane(RIGHT))
 
     def test_window(self):
-        """One for a window is that of its name, and of no pane."""
+        """One for a window goes to that of its name, and to no pane."""
         one, told = self.hand("window", Begins(["htop"], "", "logs"))
         self.assertEqual(told, f"run {NAME} ready\n")
         self.assertIsNone(self.channel.handed.for_pane(RIGHT))
@@ -94,7 +94,7 @@ class AtHost(Sockets):
         self.assertIsNone(self.channel.handed.for_window(NAME))
 
     def test_refused(self):
-        """A pane that isn't there, too many, too long ones, and those of who only watches; one who has left has none any more."""
+        """A missing pane, too many, too long ones, and those of a read-only peer are refused; a disconnected peer has none any more."""
         self.assertEqual(self.hand("1 8", Begins(["htop"]))[1], f"run {NAME} refused the pane does not exist\n")
         data = b"x" * 70000
         one = self.connect(f"run {NAME} 1 7 {len(data)}\n".encode() + data[:60000])
@@ -116,10 +116,10 @@ class AtHost(Sockets):
 
 
 class InWindow(Case):
-    """A command that a person types in a window."""
+    """A command that a user types in a window."""
 
     def test_split(self):
-        """The window's own part hands it over, made as it is first needed, and the pane is split then."""
+        """The window's own part, made on first use, uploads it, and then the pane is split."""
         self.stop_clock()
         self.patch_of(spawn_commands, "random_name", return_value=NAME)
         person = Person(24, 80, told=Places({1: FIRST}, 1))
@@ -136,7 +136,7 @@ class InWindow(Case):
 
 
 class AtFrontEnd(Case):
-    """A person's front end."""
+    """A user's front end."""
 
     def setUp(self):
         self.loop, self.commands, self.acts = StillLoop(lambda: self.now), mock.Mock(), mock.Mock()
@@ -151,11 +151,11 @@ class AtFrontEnd(Case):
         self.runner = CommandRunner(mock.Mock(loop=self.loop, **{"commands.return_value": self.commands}), mock.Mock())
 
     def told(self):
-        """What the person is told."""
+        """Return the messages to the user."""
         return [one.args[0] for one in self.commands.display.row.tell.call_args_list]
 
     def test_split(self):
-        """The pane is split once the command waits; what stands behind in the line is done then."""
+        """The pane is split once the command waits; later commands of the line follow then."""
         self.runner.typed("split-window -h htop -d 5; send-keys x")
         data = Begins(["htop", "-d", "5"]).packed()
         self.acts.host.ask_with.assert_called_once_with(f"run {NAME} 1 7 {len(data)}", data)
@@ -171,7 +171,7 @@ class AtFrontEnd(Case):
         self.assertEqual(self.told(), ["not run: no pane was created"])
 
     def test_scroll_paint(self):
-        """It is split where the person asked for that, and with -d the focus is there again."""
+        """It is split at the user's pane of the request, and with -d the focus is restored."""
         self.runner.typed("splitw -d htop")
         self.acts.places.return_value = Places({1: FIRST, 2: RIGHT}, 2)
         self.acts.host.ran(f"{NAME} ready")
@@ -185,7 +185,7 @@ class AtFrontEnd(Case):
             self.windows.waiting.open.assert_called_once_with(NAME, stays)
 
     def test_awaited(self):
-        """Where it isn't known yet which pane is in focus, or no connection is there, that is waited for, no longer than two seconds."""
+        """An unknown focus, or a missing connection, is awaited, no longer than two seconds."""
         self.acts.awaits_focus.return_value = True
         self.runner.typed("splitw htop")
         self.now += 0.1
@@ -203,7 +203,7 @@ class AtFrontEnd(Case):
         self.assertEqual(self.told()[-1], "not run: the pty host is not connected")
 
     def test_refused(self):
-        """Why nothing is run is told, and nothing is split then."""
+        """The reason of a failure is reported, and nothing is split then."""
         self.runner.typed("splitw htop; send-keys x")
         self.acts.host.ran(f"{NAME} refused the folder \x1b isn't there")
         self.runner.typed("splitw htop; send-keys x")
@@ -224,7 +224,7 @@ class Outside(Case):
     """`mux cmd`."""
 
     def asked(self, *told):
-        """A connection that is told this."""
+        """Return a connection that gets these lines."""
         asked = WindowsAsked.__new__(WindowsAsked)
         asked.session, asked.told, asked.said = mock.Mock(), list(told), []
         asked.session.name = "main"

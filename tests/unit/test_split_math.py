@@ -1,4 +1,4 @@
-"""The layout's rule of splits: at which size a pane has so much, where panes are at another size, and what gives even shares."""
+"""The layout's rule of splits: the session's size for a pane's size, pane positions at another size, and acts for even sizes."""
 import unittest
 
 from lived import Lived, by_chance
@@ -11,7 +11,7 @@ SIZES = ((24, 80), (50, 160))
 
 
 def is_pushed(parts, rects):
-    """Whether a part is as short as it can be: then it isn't told how far the border is from the middle."""
+    """Return True if a part has its least length: then the border's shift from the middle is unknown."""
     if isinstance(parts, int):
         return False
     halves = [area_of({pane: rects[pane] for pane in row_of_panes(part)}) for part in parts[1:]]
@@ -20,20 +20,20 @@ def is_pushed(parts, rects):
 
 
 def row_of_panes(parts):
-    """The panes of parts."""
+    """Return the panes of parts."""
     return [parts] if isinstance(parts, int) else row_of_panes(parts.first) + row_of_panes(parts.second)
 
 
 def size_at(size, splits):
-    """Return a pane's rows and columns if the session has a size."""
+    """Return a pane's rows and columns at a size of the session."""
     return length_at(size[0] - 1, splits, "down"), length_at(size[1], splits, "right")
 
 
 class Rule(unittest.TestCase):
-    """What the rule comes to."""
+    """The results of the rule."""
 
     def test_same(self):
-        """At the size that there is, the panes are where they are."""
+        """At the current size, the panes keep their positions."""
         for seed in range(40):
             session = by_chance(seed, *SIZES[seed % 2])
             rects = session.rects()
@@ -43,7 +43,7 @@ class Rule(unittest.TestCase):
                 self.assertEqual(size_at(size, above(pane, session.parts, rects)), (rect.rows, rect.cols), (seed, pane))
 
     def test_other_size(self):
-        """At another size they are where a session has them, but where that isn't told."""
+        """At another size they are at the session's positions, unless those are unreported."""
         count = 0
         for seed in range(40):
             session = by_chance(seed)
@@ -55,8 +55,7 @@ class Rule(unittest.TestCase):
         self.assertGreater(count, 20)
 
     def test_size_for(self):
-        """A pane has just the rows and columns that are wanted, and one less in a session that is smaller; or the session is as large as it
-        can be."""
+        """A pane has exactly the wanted rows and columns, and one less in a smaller session; or the session has its largest size."""
         for seed in range(40):
             session = by_chance(seed, *SIZES[seed % 2])
             rects, size = session.rects(), session.places().size()
@@ -70,7 +69,7 @@ class Rule(unittest.TestCase):
                 self.assertTrue(size_at(less, splits)[side] < wanted[side] or found[side] == size[side], (seed, found))
 
     def test_never_smaller(self):
-        """A session that is larger than is wanted stays as it is."""
+        """A session larger than wanted stays unchanged."""
         session = Lived(50, 200)
         session.do("split right")
         self.assertEqual(size_for((23, 80), (50, 200), above(2, session.parts, session.rects())), (50, 200))
@@ -78,7 +77,7 @@ class Rule(unittest.TestCase):
 
 
 class Shares(unittest.TestCase):
-    """Even shares."""
+    """Even split sizes."""
 
     def test_shares(self):
         for whole, least, wanted in ((80, [4, 4], [39, 40]), (80, [4, 4, 4], [26, 26, 26]), (81, [4, 4, 4], [26, 26, 27]),
@@ -92,7 +91,7 @@ class Shares(unittest.TestCase):
             self.assertEqual(growths(3, by), ["focus 3", *acts])
 
     def test_even(self):
-        """The acts give even shares, each pane where that is told; what no pane's own split has stays, and is told."""
+        """The acts give even sizes for each pane with known splits; a border without an owner stays, and is reported."""
         for seed in range(40):
             session = by_chance(seed, *SIZES[seed % 2])
             for _ in range(10):
@@ -108,7 +107,7 @@ class Shares(unittest.TestCase):
                 self.each_even(session.parts, session.rects())
 
     def each_even(self, parts, rects):
-        """Sees that what stands side by side has shares that differ by one at most, but where one is as short as it can be."""
+        """Check that adjacent parts differ by one at most, unless one has its least length."""
         if isinstance(parts, int):
             return
         row = row_of(parts, parts.way)

@@ -1,4 +1,4 @@
-"""What a person is told where lines that were typed aren't taken, though the server is heard."""
+"""The message if typed lines aren't taken, though the server is alive."""
 import unittest
 
 from aids import Case, StillLoop, record
@@ -7,40 +7,40 @@ from test_app import Fronts
 
 
 class Link:
-    """A link of which so many lines were given and taken."""
+    """A link with so many sent and taken lines."""
 
     def __init__(self):
         self.lines, self.taken, self.peer = 5, 4, object()
 
     def is_done(self):
-        """Whether all are taken."""
+        """Return True if all are taken."""
         return self.taken >= self.lines
 
 
 class Display:
-    """What is told."""
+    """Records messages."""
 
     told, silent = "", 0
 
     def tell(self, text, seconds):
-        """Keeps a line, which stands until it is ended."""
+        """Record a message, which stays until it is removed."""
         assert seconds is None
         self.told = text
 
     def end_told(self):
-        """Ends it."""
+        """End the message."""
         self.told = ""
 
 
 class Lines(Case):
-    """Lines that were given, and what is told of them."""
+    """Lines sent, and the messages about them."""
 
     def setUp(self):
         self.loop, self.one, self.display = StillLoop(lambda: self.now), Link(), Display()
         self.lines = UntakenLines(lambda: self.one, self.display, self.loop)
 
     def wait(self, seconds, paints=False):
-        """Lets seconds pass, in each of which something may be painted."""
+        """Let seconds pass, each with or without a painting."""
         for _ in range(int(seconds)):
             self.now += LOOKS
             if paints:
@@ -48,7 +48,7 @@ class Lines(Case):
             self.loop.do_due()
 
     def test_painted(self):
-        """After two seconds in which something was painted a person is told, until a line is taken."""
+        """After two seconds with paintings the user is informed, until a line is taken."""
         self.lines.note_sent()
         self.wait(1, True)
         self.assertEqual(self.display.told, "")
@@ -66,7 +66,7 @@ class Lines(Case):
         self.assertEqual((self.display.told, self.loop.due), ("", {}))
 
     def test_unpainted(self):
-        """Where nothing is painted that isn't known before a silence would have been told; what was painted just before isn't that."""
+        """Without paintings that is unknown until a silence would have been reported; a painting just before doesn't count."""
         self.lines.note_sent()
         self.lines.painted = self.now
         self.wait(UNTAKEN_SILENTLY - 1)
@@ -75,7 +75,7 @@ class Lines(Case):
         self.assertEqual((self.display.told, UNTAKEN_SILENTLY), (NOT_TAKEN, 12.0))
 
     def test_answered(self):
-        """A server that answers while no line is taken shows that soon; each look asks it again."""
+        """A server that answers while no line is taken reveals that soon; each check asks it again."""
         asked = []
         self.lines.asks = lambda: asked.append(self.now)
         self.lines.note_sent()
@@ -87,7 +87,7 @@ class Lines(Case):
         self.assertEqual((self.display.told, len(asked)), (NOT_TAKEN, 3))
 
     def test_silent(self):
-        """A silence of the server is told instead, and so is anything else."""
+        """A silence of the server is reported instead, and so is any other message."""
         self.lines.note_sent()
         self.display.silent = 10
         self.wait(30, True)
@@ -103,7 +103,7 @@ class Lines(Case):
         self.assertEqual(self.display.told, "")
 
     def test_elsewhere(self):
-        """In another window, or without the connection, it is counted anew, or isn't."""
+        """In another window, or without the connection, the count restarts or pauses."""
         self.lines.note_sent()
         self.wait(2, True)
         self.one = Link()
@@ -116,7 +116,7 @@ class Lines(Case):
         self.assertEqual((self.display.told, self.loop.due), ("", {}))
 
     def test_progress(self):
-        """While lines are taken, however slowly, nothing is told."""
+        """While lines are taken, however slowly, there is no message."""
         self.one.lines = 99
         self.lines.note_sent()
         for _ in range(20):
@@ -129,7 +129,7 @@ class Keys(Fronts):
     """A front end whose keys aren't taken."""
 
     def test_told(self):
-        """It is told of keys that aren't taken while the session is painted."""
+        """Keys that aren't taken while the session is painted are reported."""
         client = self.connect()
         self.paints()
         client.send(record("taken", self.front.views.link.lines))

@@ -1,4 +1,4 @@
-"""The state of a session as values: written as JSON and read back, and refused where it is malformed."""
+"""The state of a session as values: written as JSON and read back, and refused if malformed."""
 import copy
 import json
 import os
@@ -19,7 +19,7 @@ NAME, OTHER = "0123456789abcdef", "fedcba9876543210"
 
 
 def full_state():
-    """A state in which each field has another value than at first."""
+    """Return a state in which each field differs from its initial value."""
     buffers, paste = PasteBuffers(), PendingPaste.of(NAME, b"a\r\xff\x00b", False)
     buffers.add(b"one")
     buffers.add(bytes(range(256)))
@@ -37,7 +37,7 @@ def full_state():
 
 
 def places_in(value, path=()):
-    """The paths of all values in one of JSON, but that of the whole."""
+    """Return the paths of all values in JSON, except the whole."""
     items = value.items() if isinstance(value, dict) else enumerate(value) if isinstance(value, list) else ()
     for key, item in items:
         yield (*path, key)
@@ -45,7 +45,7 @@ def places_in(value, path=()):
 
 
 def put(value, path, new):
-    """A copy with another value at a path."""
+    """Return a copy with another value at a path."""
     made = copy.deepcopy(value)
     parent = made
     for key in path[:-1]:
@@ -55,10 +55,10 @@ def put(value, path, new):
 
 
 class Written(unittest.TestCase):
-    """What is written and read back."""
+    """States that are written and read back."""
 
     def test_round(self):
-        """All of it comes back, in its order, and as the same types."""
+        """All of it is restored, in order, and with the same types."""
         for made in (SessionState(), full_state()):
             text = written(made)
             found = state_in(text)
@@ -73,7 +73,7 @@ class Written(unittest.TestCase):
         self.assertEqual(found.pastes[NAME].data, OPENS + b"a\r\xff\x00b" + CLOSES)
 
     def test_paste_goes_on(self):
-        """A paste that was read back is stopped like the one that was written: brackets that are begun are closed."""
+        """A restored paste stops like the original one: begun brackets are closed."""
         for typed in (0, 3, len(OPENS), len(OPENS) + 1):
             for made in (full_state(), state_in(written(full_state()))):
                 paste = made.pastes[NAME]
@@ -85,7 +85,7 @@ class Written(unittest.TestCase):
                 self.assertTrue(state_in(written(SessionState(pastes={NAME: paste}))).pastes[NAME].is_over)
 
     def test_bounds(self):
-        """What is as much as may be is read back: each row puts one value at its bound."""
+        """Values at their limits are read back: each row puts one value at its bound."""
         value = plain(full_state())
         pane, paste, window = ("windows", "7", "panes", "1"), ("pastes", OTHER), ("windows", "7")
         lost = {f"{number:016x}": "lost" for number in range(1024)}
@@ -105,7 +105,7 @@ class Written(unittest.TestCase):
             self.assertEqual(written(state_in(text)), text, path)
 
     def test_fields(self):
-        """Each field differs from its first value in the state that is tried, so that none is left out."""
+        """Each field differs from its initial value in the tested state, so that none is omitted."""
         first = {SessionState: SessionState(), WindowState: WindowState(), PasteBuffers: PasteBuffers(), NotedZoom: NotedZoom(),
                  PaneState: PaneState(number=9, generation=9, size=(9, 9)), PendingPaste: PendingPaste(name="a" * 16, data=b"-", length=1)}
         whole = full_state()
@@ -116,16 +116,16 @@ class Written(unittest.TestCase):
 
 
 class MalformedStates(unittest.TestCase):
-    """What is refused, and by which words."""
+    """Refusals, and their words."""
 
     def refused(self, text):
-        """Why a text is no state."""
+        """Return the reason that a text is no state."""
         with self.assertRaises(Malformed) as raised:
             state_in(text)
         return str(raised.exception)
 
     def test_texts(self):
-        """What is no JSON, or another value, is refused by name."""
+        """Text that is no JSON, or another value, is refused by name."""
         for text in ("", "{", "nul", "[" * 100000, '"a', "{} {}", "\0", '{"version": ' + "9" * 5000 + "}"):
             self.assertEqual(self.refused(text), "SessionState: not JSON", text[:20])
         for text in ("null", "[]", "1", '"a"', "{}", "true", "NaN"):
@@ -135,7 +135,7 @@ class MalformedStates(unittest.TestCase):
                              ("SessionState: longer than 100 characters", "SessionState: not JSON"))
 
     def test_table(self):
-        """Each row names a value, what stands in its place, and why that is refused."""
+        """Each row names a value, its replacement, and the reason of the refusal."""
         value = plain(full_state())
         pane, paste, window = ("windows", "7", "panes", "1"), ("pastes", NAME), ("windows", "7")
         for path, new, why in (
@@ -210,7 +210,7 @@ class MalformedStates(unittest.TestCase):
         self.assertLess(len(self.refused(json.dumps(put(value, ("windows", "x" * 5000), {})))), 100)
 
     def test_chance(self):
-        """Whatever stands in the place of a value is read as one that is written alike, or refused by name."""
+        """Any replacement of a value is read as one with the same text, or refused by name."""
         value, chance = plain(full_state()), random.Random(7)
         values = (None, True, -1, 0, 1, 9, 10**30, 1.5, "", "a", "\x1b[2J", "YQ==", [], [1], [1, 2], {}, {"1": 1}, "x" * 200000, NAME)
         places, refused = list(places_in(value)), 0
@@ -220,7 +220,7 @@ class MalformedStates(unittest.TestCase):
                 try:
                     made = put(made, path, chance.choice(values))
                 except (TypeError, KeyError, IndexError):
-                    # The place before it was put in another's stead.
+                    # The position before the replacement.
                     pass
             text = json.dumps(made)
             try:
@@ -243,7 +243,7 @@ class Records(unittest.TestCase):
         note = 5
 
     def test_made(self):
-        """It has its fields, those that are named and the first values of others; and no other fields."""
+        """It has its fields, the named ones and the initial values of others; and no other fields."""
         point = self.Point(row=3)
         self.assertEqual((point.row, point.is_set, point.name, point.note), (3, False, "", 5))
         self.assertEqual(repr(point), "Point(row=3, is_set=False, name='')")
@@ -253,7 +253,7 @@ class Records(unittest.TestCase):
                 self.Point(**wrong)
 
     def test_bounds(self):
-        """Both ends of a range are in it."""
+        """Both ends of a range are included."""
         for row in (0, 9):
             self.assertEqual(read_back(self.Point, written(self.Point(row=row, name="abc")), 50), self.Point(row=row, name="abc"))
         for row in (-1, 10):
@@ -263,27 +263,27 @@ class Records(unittest.TestCase):
             read_back(self.Point, " " * 11, 10)
 
     def test_keys(self):
-        """A key is a number only as that is written."""
+        """A key is a number only in its canonical form."""
         for key, found in (("0", 0), ("12", 12), ("01", None), ("-1", None), ("", None), ("\u0661", None), ("9" * 19, int("9" * 19)),
                            ("1" + "0" * 19, None), ("a", None), ("1.0", None), ("+1", None)):
             self.assertEqual(record.decimal(lambda value, path: value)(key, ""), found, key)
 
 
 class Buffers(unittest.TestCase):
-    """Which texts can be buffers."""
+    """The texts that can be buffers."""
 
     def test_refusal(self):
-        """One has 1 byte to a megabyte, and four megabytes come at once."""
+        """One has 1 byte to a megabyte, and at most four megabytes arrive at once."""
         for length, coming, why in ((0, 0, BUFFER_EMPTY), (1, 0, ""), (MOST_BUFFER, 0, ""), (MOST_BUFFER + 1, 0, BUFFER_TOO_LONG),
                                     (2, MOST_COMING - 2, ""), (2, MOST_COMING - 1, BUFFERS_TOO_MANY)):
             self.assertEqual(PasteBuffers.refusal(length, coming), why, (length, coming))
 
 
 class Live(Host):
-    """The state of a host that runs is such a value, and its only copy."""
+    """The state of a running host is such a value, and its only copy."""
 
     def test_live(self):
-        """What happens to panes, and what comes at the socket, stands there; read back it is the same."""
+        """Events of panes, and input at the socket, are in the state; read back it is the same."""
         panes = self.begin()
         one = Asker(self, self.folder)
         one.send(b"here a:/dev/pts/1 24 80 read-write\nzoom 24 80 48 160\n")

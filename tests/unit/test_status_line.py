@@ -1,29 +1,29 @@
-"""The text of the last row: what is cut where it is narrow, and which windows are shown there."""
+"""The text of the last row: the parts cut on a narrow terminal, and the visible windows."""
 import unittest
 
 from roam_live.frontend.status_line import columns, cut, fitted, label_at, row_text, tail, window_label, windows_shown
 
-# A text, a width, and what of it has room; what is wide is two columns.
+# A text, a width, and the part that fits; a wide character takes two columns.
 CUTS = (("abc", 5, "abc"), ("abc", 3, "abc"), ("abc", 2, "ab"), ("abc", 0, ""), ("abc", -1, ""), ("中文", 4, "中文"), ("中文", 3, "中"),
         ("中文", 1, ""), ("a中", 2, "a"), ("e\u0301e", 1, "e\u0301"), ("a\x1b[2Jb", 9, "a?[2Jb"), ("\u202eab\x07", 9, "?ab?"),
         ("\u200bab", 1, "?"))
 
 LABELS = ["1:bash-", "2:vim*", "3:top#", "4:中文!"]
 
-# How many columns there are, which label is that of the window where one is, and what is shown.
+# The number of columns, the current window's label, and the visible text.
 SHOWN = ((40, 1, "1:bash- 2:vim* 3:top# 4:中文!"), (29, 1, "1:bash- 2:vim* 3:top# 4:中文!"), (28, 1, "< 2:vim* 3:top# 4:中文!"),
          (23, 1, "< 2:vim* 3:top# 4:中文!"), (22, 1, "< 2:vim* 3:top# >"), (16, 1, "1:bash- 2:vim* >"), (10, 1, "< 2:vim* >"),
          (9, 1, "2:vim*"), (6, 1, "2:vim*"), (4, 1, "2:vi"), (0, 1, ""), (18, 0, "1:bash- 2:vim* >"), (9, 0, "1:bash- >"),
          (18, 3, "< 3:top# 4:中文!"), (9, 3, "< 4:中文!"), (8, 3, "4:中文!"), (6, 3, "4:中文"), (5, 3, "4:中"))
 
-# The panes, what stands at the end, the width, and the row, of which blanks at its end aren't told.
+# The panes, the text at the end, the width, and the row, without trailing blanks.
 ROWS = (("[1] 2 ", "", 40, "[1] 2  1:bash- 2:vim* 3:top# 4:中文!"), ("[1] 2 ", "", 30, "[1] 2  < 2:vim* 3:top# 4:中文!"), ("[1]", "", 3, "[1]"),
         ("[1]", "", 2, "[1"), ("", "", 30, "1:bash- 2:vim* 3:top# 4:中文!"), ("[1]", "C-b r fits", 30, "[1] < 2:vim* >      C-b r fits"),
         ("[1]", "C-b r fits", 14, "[1] C-b r fits"), ("[1]", "C-b r fits", 13, "   C-b r fits"), ("[1]", "C-b r fits", 9, "[1] 2:vim"))
 
 
 class LastRow(unittest.TestCase):
-    """What stands there."""
+    """The contents of the row."""
 
     def test_cut(self):
         for text, width, wanted in CUTS:
@@ -31,11 +31,11 @@ class LastRow(unittest.TestCase):
             self.assertEqual(fitted(text, max(0, width)), wanted + " " * (max(0, width) - columns(wanted)))
 
     def test_bounded(self):
-        """No text is written that has more characters than a row has room for, whatever stands on one place."""
+        """No text has more characters than a row has room for, whatever shares one cell."""
         self.assertEqual((len(cut("a" + "\u0301" * 9999, 10)), len(tail("\u0301" * 9999, 10)), tail("abc中", 3)), (40, 40, "c中"))
 
     def test_windows(self):
-        """Where not all have room those are shown round the one where the person is, with marks."""
+        """If not all fit those around the current one are shown, with marks."""
         for width, place, wanted in SHOWN:
             self.assertEqual(windows_shown(LABELS, place, width), wanted, (width, place))
         self.assertEqual((windows_shown([], 0, 9), window_label(3, "", "*"), window_label(3, "a b", "")), ("", "3*", "3:a b"))
@@ -50,14 +50,14 @@ class LastRow(unittest.TestCase):
         self.assertEqual(label_at("< 11:sh >", labels, 0, 4), 2)
 
     def test_many(self):
-        """Of 99 windows that is shown in any width which is of this terminal."""
+        """Of 99 windows the current one is visible at any width."""
         labels = [window_label(number, "sh", "*" * (number == 50)) for number in range(1, 100)]
         for width in range(6, 200):
             shown = windows_shown(labels, 49, width)
             self.assertTrue("50:sh*" in shown and columns(shown) <= width, width)
 
     def test_row(self):
-        """Which key fits the session goes before the panes, and these before the windows."""
+        """The key that fits the session has precedence over the panes, and these over the windows."""
         for panes, end, width, wanted in ROWS:
             self.assertEqual(row_text(panes, LABELS, 1, end, width).rstrip(" "), wanted, (panes, end, width))
         for width in range(1, 60):

@@ -1,4 +1,4 @@
-"""What is said of a locale and of a terminal inside another multiplexer, as a front end attaches."""
+"""The message about a locale, and about a terminal inside another multiplexer, on attach."""
 import unittest
 from unittest import mock
 
@@ -36,7 +36,7 @@ class Advice(unittest.TestCase):
         for environment, prefix, pane, line in ROWS:
             with mock.patch.object(surroundings, "own_pane", return_value=(pane, 1 if pane else 0)):
                 self.assertEqual(advice(prefix, environment), line, (environment, prefix, pane))
-                # It has room in a terminal of 80 columns.
+                # It fits a terminal of 80 columns.
                 self.assertLessEqual(len(line), 80)
 
 

@@ -1,4 +1,4 @@
-"""What `mux ls` asks of all sessions' sockets, side by side."""
+"""The parallel queries of `mux ls` to all sessions' sockets."""
 import socket
 import threading
 import time
@@ -12,14 +12,14 @@ LINES = b"1 1 1 23 39 1\n2 1 41 23 40 1\nfocus 1\nclients 1 of 64\nwatchers 0 of
 
 
 class Surveys(Case):
-    """Sockets that are played by a thread, each with what it answers at once; None takes nobody."""
+    """Sockets played by a thread, each with its immediate answer; None accepts nobody."""
 
     def setUp(self):
         self.base = self.made_folder()
         self.asked = {}
 
     def serve(self, name, panes=None, host=None):
-        """A folder at whose sockets this is answered."""
+        """Create a folder with sockets that give these answers."""
         folder = self.base / name
         folder.mkdir()
         for socket_name, answer in (("panes", panes), ("host", host)):
@@ -34,7 +34,7 @@ class Surveys(Case):
         return str(folder)
 
     def answer(self, listener, name, answer):
-        """Takes one, and answers what it asks."""
+        """Accept a connection, and answer its request."""
         try:
             peer = listener.accept()[0]
         except OSError:
@@ -48,7 +48,7 @@ class Surveys(Case):
             peer.recv(1)
 
     def test_answers(self):
-        """Each is asked at its own sockets, in any chunks; a session without a host is known by its panes."""
+        """Each is queried at its own sockets, in any chunks; a session without a host is known by its panes."""
         one = self.serve("one", [LINES[:20], LINES[20:]], [b"0 client 3 a:/b 24 80 1 5 read-write\n0 cli", b"ents 1\n"])
         two = self.serve("two", [LINES], None)
         found = Survey([one, two], [one, two], 5)
@@ -57,7 +57,7 @@ class Surveys(Case):
         self.assertEqual((found.places(self.base / "three"), found.terminals(self.base / "three")), (None, None))
 
     def test_silent(self):
-        """Those that don't answer take so many seconds in all, however many they are; what others answered is known."""
+        """Silent ones take so many seconds in all, however many they are; the answers of others are known."""
         silent = [self.serve(f"silent{number}", [b""], [b"0 clients\n"]) for number in range(4)]
         good = self.serve("good", [LINES], [b"0 clients 7\n"])
         none = self.serve("none", [LINES[:9]])
@@ -69,7 +69,7 @@ class Surveys(Case):
         self.assertEqual(ANSWERS, 0.3)
 
     def test_hostile(self):
-        """What can't be an answer is none, and one who ends at once isn't waited for."""
+        """An invalid answer is none, and one that ends at once causes no wait."""
         odd = self.serve("odd", None, [
             b"0 clients 99999\n0 clients x\n1 clients 1\nclients 1\n0 clients 1 2\n\xff\n" + b"9" * 70000 + b"\n0 clients 2\n"])
         self.assertEqual(Survey([], [odd], 5).terminals(odd), 2)

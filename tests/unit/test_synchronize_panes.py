@@ -1,4 +1,4 @@
-"""Keys that go to all panes of a window: what is typed, in which lines, and what isn't."""
+"""Keys to all panes of a window: the input, its lines, and the exceptions."""
 import random
 import unittest
 
@@ -8,7 +8,7 @@ from roam_live.frontend.synchronize_panes import AGAIN, FOCUS_WAIT, HIDES, MOST_
 
 
 def typed_in(lines, focus):
-    """What each pane is typed by lines of acts, and the focus behind each of them."""
+    """Return the input of each pane by lines of acts, and the focus after each."""
     found, behind = {}, []
     for line in lines:
         for act in line:
@@ -25,7 +25,7 @@ class Lines(unittest.TestCase):
     """The lines of acts."""
 
     def test_lines(self):
-        """Each pane has all keys in their order, the focus is back behind each line, and no line has more acts than may be."""
+        """Each pane has all keys in order, the focus is restored after each line, and no line exceeds the limit of acts."""
         chance = random.Random(5)
         for count in range(2, 10):
             for _ in range(8):
@@ -44,10 +44,10 @@ class Lines(unittest.TestCase):
 
 
 class Person(Attached):
-    """A person whose keys go to all panes."""
+    """A user whose keys go to all panes."""
 
     def begin(self, panes=3, **more):
-        """A person at a session of so many panes, where the last is in focus."""
+        """Return a user at a session of so many panes, the last focused."""
         session = Lived()
         for place in range(panes - 1):
             session.do("split right" if place % 2 else "split down")
@@ -62,11 +62,11 @@ class Person(Attached):
         self.predicted = []
 
     def switch(self):
-        """Switches it."""
+        """Toggle it."""
         self.person.keyboard.grant("synchronize")
 
     def test_switched(self):
-        """Keys go to all panes while it is on, which the last row tells, and nothing is predicted; then to the one in focus."""
+        """Keys go to all panes while it is on, which the last row shows, without predictions; then to the focused one."""
         self.begin()
         self.switch()
         self.assertEqual((self.commands.display.row.told, self.commands.display.row.panes_label()),
@@ -80,7 +80,9 @@ class Person(Attached):
                          (["char 63"], ["never", "adaptive"], " 1  2 [3]"))
 
     def test_focus_by_another(self):
-        """Once another has moved the focus, or its pane has ended, no predictions are shown for a moment; by this person's moves they are."""
+        """After another user has moved the focus, or its pane has ended, predictions are hidden for a moment; after this user's moves they
+        aren't.
+        """
         self.begin(3)
         self.types(b"\x02q1")
         self.assertEqual(self.predicted, [])
@@ -113,7 +115,7 @@ class Person(Attached):
         self.assertEqual(self.predicted, [])
 
     def test_commands(self):
-        """What isn't a key goes where it always does: the prefix moves the focus, and the keys behind wait until that is told."""
+        """Other input has its usual target: the prefix moves the focus, and later keys wait until that is reported."""
         self.begin(2)
         self.switch()
         self.person.keyboard.fed(b"\x02ox")
@@ -130,7 +132,7 @@ class Person(Attached):
         self.assertEqual(self.person.said()[-1:], ["next"])
 
     def test_together(self):
-        """While much is on its way keys wait, and go together then."""
+        """While much is in flight keys wait, and then go together."""
         self.begin(2)
         self.switch()
         self.commands.link.has_taken = False
@@ -143,7 +145,7 @@ class Person(Attached):
         self.assertEqual(self.person.said(), ["char 61 ; char 62 ; focus 1 ; char 61 ; char 62 ; focus 2"])
 
     def test_many(self):
-        """What a command types is typed in all panes, however much it is, in order."""
+        """A command's input is typed in all panes, however long it is, in order."""
         self.begin(2)
         self.switch()
         acts = [f"char {letter:x}" for letter in range(0x61, 0x61 + 20)]
@@ -153,7 +155,7 @@ class Person(Attached):
         self.assertEqual((found, behind), ({1: acts, 2: acts}, {2}))
 
     def test_awaited(self):
-        """In a window whose panes aren't told yet keys wait until they are."""
+        """In a window with unreported panes keys wait until the report."""
         self.begin(2)
         self.switch()
         panes, told = self.person.panes, self.session.places()
@@ -166,7 +168,7 @@ class Person(Attached):
         self.assertEqual((self.person.said(), self.commands.is_full()), (["char 78 ; focus 1 ; char 78 ; focus 2"], False))
 
     def test_alone(self):
-        """One pane has what is typed as ever, and so has one that is zoomed; who only watches types nothing."""
+        """A single pane gets input as usual, and so does a zoomed one; a read-only user types nothing."""
         self.begin(1)
         self.switch()
         self.types(b"a")
@@ -186,7 +188,7 @@ class Person(Attached):
         self.assertFalse(self.commands.synchronizing.is_on())
 
     def test_windows(self):
-        """What was switched is a window's, and known where its person comes back."""
+        """The switch belongs to a window, and is remembered when its user returns."""
         self.begin(2)
         switched = {}
         for number, is_on in ((1, False), (2, False)):

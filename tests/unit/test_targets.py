@@ -1,4 +1,4 @@
-"""Sessions and panes as words name them, and what commands do with a pane: type, paste, capture and close there."""
+"""Sessions and panes by name, and commands on a pane: type, paste, capture and close there."""
 import io
 import subprocess
 import unittest
@@ -25,7 +25,7 @@ SCREEN = ("3 8 2 6 visible\n" + "\x1b[0;1m\x1b[31ma\x1f\x1b[0;4mb\x1fc\x1f|\x1f\
 
 
 class Names(unittest.TestCase):
-    """What a word names."""
+    """The target in a word."""
 
     def test_target(self):
         for word, target in (
@@ -54,7 +54,7 @@ class Lines(unittest.TestCase):
     """The lines that type acts in a pane."""
 
     def test_lines(self):
-        """A pane that isn't in focus is for its lines alone, unless an act moves the focus."""
+        """An unfocused pane is focused only for its lines, unless an act moves the focus."""
         acts = ["char 61", "key up"]
         self.assertEqual(lines_in_pane(acts, 0, 0), ["char 61 ; key up"])
         self.assertEqual(lines_in_pane(acts, 1, 1), ["char 61 ; key up"])
@@ -66,16 +66,16 @@ class Lines(unittest.TestCase):
         self.assertEqual([line.count(";") + 1 for line in lines_in_pane(["char 61"] * 65, 0, 0)], [32, 32, 1])
 
     def test_placeholder(self):
-        """A placeholder stands in one line, also in another pane."""
+        """A placeholder is in one line, also for another pane."""
         lines = lines_in_pane(placeholder_acts("0" * 16), 2, 1, "paste ; ")
         self.assertEqual((len(lines), lines[0][:28], lines[0][-20:]), (1, "paste ; focus 2 ; char 9f ; ", " ; char 9c ; focus 1"))
 
 
 class Parts(unittest.TestCase):
-    """A pane of a screen that is told."""
+    """A pane of a reported screen."""
 
     def test_part(self):
-        """It has the cells and the styles of the screen there, and the cursor where it is inside."""
+        """It has the cells and the styles of the screen there, and the cursor if it is inside."""
         whole = cells_of(SCREEN)
         for rect, cursor in ((PLACES.rects[1], (1, 1, False)), (PLACES.rects[2], (2, 2, True)), (Rect(1, 1, 3, 8), (2, 6, True))):
             part = cells_of(part_of(SCREEN, rect))
@@ -90,7 +90,7 @@ class Captures(Case):
     """`mux capture NAME.P`."""
 
     def test_pane(self):
-        """The rows of a pane are printed, or drawn; one that has just got another place is told of."""
+        """The rows of a pane are printed, or drawn; one that has just moved is reported."""
         session = mock.Mock(places=lambda: PLACES)
         session.name = "main"
         plain = "\n".join("\x1f".join(text.rpartition("m")[2] if text.startswith("\x1b") else text for text in line.split("\x1f"))
@@ -111,7 +111,7 @@ class Captures(Case):
 
 
 class Panes(Case):
-    """A server that tells panes, by hand."""
+    """A server that reports panes, played by hand."""
 
     def setUp(self):
         self.stop_clock()
@@ -122,7 +122,7 @@ class Panes(Case):
         self.patch_of(panes, "comes", self.comes)
 
     def comes(self, peer, seconds):
-        """What the server tells while it is waited for."""
+        """Send the server's lines during a wait."""
         self.server = self.server or self.taken(self.listener)
         self.asked += read_now(self.server)
         answer = self.answers.pop(0) if self.answers else b""
@@ -136,7 +136,7 @@ class Panes(Case):
         return bool(ready(peer, 1, 0))
 
     def test_closed(self):
-        """A pane is closed by its life, and that is waited for."""
+        """A pane is closed by its generation, and the call waits for that."""
         self.answers = [b"1 1 1 2 3 7\n2 1 5 2 4 9\n", b"focus 1\nclients 1 of 64\n", b"watchers 0 of 16\n"]
         with mock.patch.object(targets.AskedPanes, "hear_all", lambda asked, *more: [asked.heard(1) for _ in range(3)]):
             self.answers += [b"modes 1 7\n", b"2 gone\nfocus 1\n"]
@@ -144,7 +144,7 @@ class Panes(Case):
         self.assertEqual(self.asked, b"close 2 9\n")
 
     def test_not_closed(self):
-        """One that isn't there, the last one, and one that isn't closed in time are told of."""
+        """A missing one, the last one, and one that isn't closed in time are reported."""
         panes = b"1 1 1 2 3 7\nfocus 1\nclients 1 of 64\nwatchers 0 of 16\n"
         for answers, pane, why in (([panes], 2, "session main has no pane 2"), ([], 1, "session main has no pane 1"),
                                    ([panes, b"", b"last pane\n"], 1, "pane 1 is the last one, and ends with its session"),
@@ -159,7 +159,7 @@ class Panes(Case):
         self.assertFalse(wants_brackets(self.session, 1))
 
     def test_making(self):
-        """A pane, or that in focus, and its life; one that isn't there, and a server that tells nothing, are told of."""
+        """A pane, by default the focused one, and its generation; a missing one, and a silent server, are reported."""
         panes = b"1 1 1 2 3 7\n2 1 5 2 4 9\nfocus 2\nclients 1 of 64\nwatchers 0 of 16\n"
         for pane, making in ((1, (1, 7)), (2, (2, 9)), (0, (2, 9))):
             self.server, self.answers = None, [panes]
@@ -174,7 +174,7 @@ class Panes(Case):
             targets.making_of(self.session, 0)
 
     def test_brackets(self):
-        """Whether a program wants brackets is asked of the server; what is told right behind the places counts."""
+        """The server reports bracketed paste; lines right after the positions count."""
         panes = b"1 1 1 2 3 7\n2 1 5 2 4 9\nfocus 1\nclients 1 of 64\nwatchers 0 of 16\n"
         for pane, wanted in ((0, False), (1, False), (2, True)):
             self.server, self.asked, self.answers = None, b"", [panes[:20], panes[20:], b"modes 2 9 paste\n"]
@@ -184,7 +184,7 @@ class Panes(Case):
 
 
 class Given(Sockets):
-    """`mux paste` and `mux send -l`, with a host here and a start that is played."""
+    """`mux paste` and `mux send -l`, with a host here and a simulated client."""
 
     def setUp(self):
         super().setUp()
@@ -202,14 +202,14 @@ class Given(Sockets):
         self.is_inserted = True
 
     def ready(self, end, events, seconds):
-        """Has the host go on; where nothing comes the time passes."""
+        """Let the host continue; without an event the time passes."""
         self.loop.turns(3)
         found = ready(end, events, 0)
         self.pass_time(0.0 if found else seconds)
         return found
 
     def type(self, session, link, lines):
-        """The session takes lines, and the host finds the placeholder."""
+        """Let the session take lines, and the host find the placeholder."""
         self.typed += lines
         if self.is_inserted:
             text = self.socket.uploads.texts.placed("0123456789abcdef")
@@ -218,7 +218,7 @@ class Given(Sockets):
             self.socket.close()
 
     def test_given(self):
-        """A text is given, its placeholder typed in one line, and it ends once the text is put there."""
+        """A text is stored, its placeholder typed in one line, and the call returns once the text is inserted."""
         text = "\u00e9" * 100000
         self.assertEqual(paste.type_text(self.session, text, 0, False), 0)
         self.assertEqual(self.texts, [(text.encode(), False)])
@@ -228,7 +228,7 @@ class Given(Sockets):
         self.assertEqual((self.texts[1:], self.typed[1][:18], self.typed[1][-7:]), ([(b"ab", True)], "paste ; focus 2 ; ", "focus 1"))
 
     def test_no_host(self):
-        """Where no host takes it, it is typed as acts, between brackets where the program wants them and it isn't plain."""
+        """If no host takes it, it is typed as acts, bracketed if the program wants that and it isn't plain."""
         self.socket.close()
         paste.type_text(self.session, "a\r", 0, False)
         paste.type_text(self.session, "a\r", 0, True)
@@ -240,7 +240,8 @@ class Given(Sockets):
         self.assertEqual(self.typed[2], "paste ; char 62")
 
     def test_refused(self):
-        """What can't be is told, and nothing is typed: no text, too much of it, no room, no such pane, a host that takes nothing."""
+        """An impossible request is reported, and nothing is typed: no text, too much, no room, no such pane, a host that accepts nothing.
+        """
         for text, pane, why in (("", 0, "there is nothing to type"),
                                 ("x" * (MOST_BYTES + 1), 0, "a text has at most 16 MB; nothing was typed"),
                                 ("x", 3, "session main has no pane 3")):
@@ -255,13 +256,13 @@ class Given(Sockets):
         self.assertEqual((self.typed, INSERTED), ([], "inserted"))
 
     def test_lost(self):
-        """Where the host ends before the placeholder comes that is told."""
+        """The end of the host before the placeholder is reported."""
         self.is_inserted = None
         with self.assertRaisesRegex(Fault, "^session main: the pty host ended; nothing was typed$"):
             paste.type_text(self.session, "x", 0, False)
 
     def test_read(self):
-        """Standard input is cleaned; raw it keeps escapes, and has no bracket."""
+        """Standard input is cleaned; raw input keeps escapes, but no brackets."""
         for is_raw, wanted in ((False, "a[20[201~1~\rb\ufffd"), (True, "a\rb\ufffd")):
             with mock.patch("sys.stdin", mock.Mock(buffer=io.BytesIO(b"a\x1b[20\x1b[201~1~\r\nb\x00\x07\xff"))):
                 self.assertEqual(paste.read_text(is_raw), wanted)
@@ -270,7 +271,7 @@ class Given(Sockets):
                 paste.read_text(False)
 
     def test_sent(self):
-        """Acts for a pane are looked at with it in focus."""
+        """Acts for a pane are checked with it in focus."""
         with mock.patch.object(send, "demand_acts"), mock.patch.object(send, "demand_doable") as demands, \
                 mock.patch.object(send, "opened"), mock.patch.object(send, "type_lines") as types:
             send.send(self.session, ["close"], 2)

@@ -1,4 +1,4 @@
-"""What is written to terminals and logs: printable words, and not too many."""
+"""The output to terminals and logs: printable words, and not too many."""
 import contextlib
 import os
 import pathlib
@@ -16,7 +16,7 @@ from roam_live.common.text import SAID_LIMIT, Said, decimal_in, one_line, printa
 from roam_live.session.foreground import foreground
 from roam_live.session.processes import Processes
 
-# ECMA-48's controls C0 and C1, DEL, and what Unicode calls controls, formats, separators, surrogates and unassigned.
+# ECMA-48's controls C0 and C1, DEL, and Unicode's controls, formats, separators, surrogates and unassigned characters.
 UNPRINTABLE = [*map(chr, range(0x20)), *map(chr, range(0x7F, 0xA0)), "\u00ad", "\u200b", "\u200e", "\u202e", "\u2028", "\u2029", "\u2066",
                "\ufeff", "\ud800", "\udcff", "\ue000", "\U000e0041"]
 
@@ -38,7 +38,7 @@ class Printable(unittest.TestCase):
 
 
 class Sayings(unittest.TestCase):
-    """What another program says."""
+    """Messages of another program."""
 
     def test_cut_anywhere(self):
         text = "caf\u00e9\tis\x1b[2J here\r\n".encode() + b"\xff\n"
@@ -61,7 +61,7 @@ class Sayings(unittest.TestCase):
 
 
 class Logs(unittest.TestCase):
-    """A log's bound."""
+    """The limit of a log."""
 
     def test_newest_stay(self):
         with tempfile.TemporaryDirectory() as folder:
@@ -75,7 +75,7 @@ class Logs(unittest.TestCase):
                 kept = path.read_bytes()
                 self.assertLessEqual(len(kept), KEPT)
                 self.assertTrue(b"".join(lines).endswith(b"\n" + kept))
-                # Whoever had it open goes on at its end.
+                # A writer that had it open continues at its end.
                 log.write(b"later\n")
             self.assertEqual(path.read_bytes(), kept + b"later\n")
 
@@ -92,7 +92,7 @@ class Logs(unittest.TestCase):
         make_room("/nonexistent/log", files.LOG_LIMIT)
 
     def test_each_writer(self):
-        """Whoever says a line in a session's log, or fails there, or starts a process that writes there, keeps it small."""
+        """Each writer to a session's log, by a message, a failure or a started process, keeps it small."""
         def fails():
             with self.assertRaises(SystemExit), mock.patch("_signal.signal"), mock.patch.dict(os.environ):
                 errors.run_tool(lambda: [][0])
@@ -122,7 +122,7 @@ class Names(unittest.TestCase):
 
     @staticmethod
     def name_of(given):
-        """What is told of a program with a terminal that named itself so, by what the system tells of it."""
+        """Return the reported name of a program with a terminal that named itself so, by the system's data."""
         stat = "7 (sh) S 1 7 7 34816 9 4194304"
         told = mock.patch.object(FilePath, "read_bytes", return_value=given + b"\n")
         with mock.patch.object(FilePath, "read_text", return_value=stat), told:
@@ -130,27 +130,27 @@ class Names(unittest.TestCase):
 
 
 class Faults(unittest.TestCase):
-    """What a tool ends with."""
+    """The end of a tool."""
 
     def test_printable(self):
-        """It is printable, also what ends a process."""
+        """It is printable, also the end of a process."""
         code = "def main(): raise Fault('no \\x1b[c\\nname \\u202e')\nrun_tool(main)"
         words = [sys.executable, "-c", f"import sys; sys.path.insert(0, {str(TOOLS)!r})\nfrom roam_live.common.errors import *\n{code}"]
         run = subprocess.run(words, stderr=subprocess.PIPE, check=False)
         self.assertEqual((run.returncode, run.stderr), (1, b"-c: no ?[c; name ?\n"))
 
     def test_closed(self):
-        """A standard output that is closed from the beginning is nothing to complain of."""
+        """A standard output that is closed from the beginning causes no error."""
         with mock.patch("sys.stdout", None), mock.patch("_signal.signal"), mock.patch.dict(os.environ), self.assertRaises(SystemExit) as way:
             errors.run_tool(lambda: print("x"))
         self.assertIsNone(way.exception.code)
 
 
 class Numbers(unittest.TestCase):
-    """Numbers in words that others say."""
+    """Numbers in words from others."""
 
     def test_decimal(self):
-        """Decimal digits without a zero before them, from 0 to the most; nothing else, however long it is."""
+        """Decimal digits without leading zeros, from 0 to the most, are valid, and nothing else, however long it is."""
         for word, most, found in (("0", 0, 0), ("1", 0, None), ("0", 9, 0), ("9", 9, 9), ("10", 9, None), ("10", 10, 10), ("11", 10, None),
                                   ("99", 99, 99), ("100", 99, None), ("00", 99, None), ("01", 99, None), ("", 9, None), ("-1", 9, None),
                                   ("+1", 9, None), ("1 ", 99, None), ("1_0", 999, None), ("\u0661", 9, None), ("\u00b2", 9, None),

@@ -1,4 +1,4 @@
-"""What lasts of a session's folder where a cleaner removes what is old."""
+"""The protection of a session's folder from a cleaner of old files."""
 import os
 import pathlib
 import socket
@@ -13,7 +13,7 @@ OLD = 1_000_000.0
 
 
 class Lasts(unittest.TestCase):
-    """A folder with what a session has there, all of it old."""
+    """A folder with a session's files, all of them old."""
 
     def setUp(self):
         made = tempfile.TemporaryDirectory()
@@ -24,7 +24,7 @@ class Lasts(unittest.TestCase):
         self.lasting = Lasting(str(self.folder), lambda: self.now)
 
     def fill(self):
-        """Makes the folder."""
+        """Create the folder."""
         (self.folder / "relays").mkdir(parents=True)
         (self.folder / "w/2").mkdir(parents=True)
         for name in ("state.json", "log", "lock", "front_ends", "relays/ab", "w/last", "w/2/name"):
@@ -36,22 +36,22 @@ class Lasts(unittest.TestCase):
         self.age()
 
     def age(self):
-        """Makes all of it old."""
+        """Make all of it old."""
         for path in [self.folder, *self.folder.rglob("*")]:
             os.utime(path, (OLD, OLD), follow_symlinks=False)
 
     def old(self):
-        """What is old."""
+        """Return the old files."""
         paths = [self.folder, *self.folder.rglob("*")]
         return [path.name for path in paths if path.lstat().st_mtime == OLD or path.lstat().st_atime == OLD]
 
     def look(self):
-        """Has it look now."""
+        """Check now."""
         self.lasting.due = 0.0
         return self.lasting.turn()
 
     def test_used(self):
-        """All of it is marked as used, at first and then each six hours: the folder, its sockets, the notes of clients, and windows."""
+        """All of it is marked as used, at first and then every six hours: the folder, its sockets, the notes of clients, and windows."""
         self.assertTrue(self.look())
         self.assertEqual(self.old(), [])
         self.age()
@@ -63,8 +63,9 @@ class Lasts(unittest.TestCase):
         self.assertEqual(self.old(), [])
 
     def test_held(self):
-        """It is held while the process is there, also where another held it at first, and that which was made in its place once that is
-        its own; a window's isn't. No descriptor is left behind."""
+        """It is locked while the process is there, even if another process had the lock at first, and so is its own replacement; a window's
+        folder isn't. No descriptor leaks.
+        """
         before = os.listdir("/proc/self/fd")
         other = Lasting(str(self.folder))
         other.hold()
@@ -88,7 +89,7 @@ class Lasts(unittest.TestCase):
         Lasting("/no/such/folder").hold()
 
     def test_clock(self):
-        """Also where the day's clock was put back."""
+        """The same if the wall clock was set back."""
         self.look()
         self.age()
         self.now -= 400 * USED_EACH
@@ -96,7 +97,7 @@ class Lasts(unittest.TestCase):
         self.assertEqual(self.old(), [])
 
     def test_session(self):
-        """The session's id is there again, for this user alone."""
+        """The session's id is restored, for this user alone."""
         self.look()
         (self.folder / "session").unlink()
         self.look()
@@ -105,7 +106,7 @@ class Lasts(unittest.TestCase):
         self.assertEqual([path.name for path in self.folder.iterdir() if path.name.startswith("session.")], [])
 
     def test_another_folder(self):
-        """What another session made in the place of the folder is left alone."""
+        """A replacement of the folder by another session is left alone."""
         self.look()
         kept = self.folder.with_name("kept")
         self.folder.rename(kept)
@@ -120,7 +121,7 @@ class Lasts(unittest.TestCase):
             self.lasting.demand()
 
     def test_gone(self):
-        """A folder that isn't there is no fault."""
+        """A missing folder is no error."""
         self.lasting.demand()
         self.folder.rename(self.folder.with_name("away"))
         self.assertFalse(self.look())

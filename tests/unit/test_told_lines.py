@@ -1,4 +1,4 @@
-"""Lines that other processes tell are read by words: each line that these patterns allow is taken, and no other."""
+"""Lines of other processes are parsed by words: each line that these patterns allow is taken, and no other."""
 import random
 import re
 
@@ -15,7 +15,7 @@ WINDOWS = (r"window [1-9]\d? (?:-|(?:[0-9a-f]{2}){1,256})|gone [1-9]\d?|windows 
            r"|runs [1-9]\d? .{1,255}")
 OPENED = r"opened (?:[1-9]\d?|none .{1,200})"
 
-# Lines at the borders of what is allowed.
+# Lines at the limits of the patterns.
 LINES = """1 1 1 23 80 1|9 9999 9999 9999 9999 9999999999999999999|0 1 1 23 80 1|1 1 1 23 80 10000000000000000000
 1 1 1 23 10000 1|1 1 1 23 80|1 1 1 23 80 1 1|1 1 1 23 80 |1 gone|0 gone|1 gone |1 gone 1|10 gone|focus 1|focus 0
 focus 10|focus|focus 1 |clients 1|clients 1 of 64|clients 1 of|clients 1 off 64|clients 10000|clients 1 of 64 
@@ -38,18 +38,18 @@ class Told(Case):
     """The readers of such lines."""
 
     def agree(self, line):
-        """Whether a line is taken as the patterns have it."""
+        """Check that a line is taken exactly if the patterns allow it."""
         for pattern, takes in ((PANES, PanesState().take(line)), (WINDOWS, WindowsState().take(line) is not None),
                                (OPENED, opened_by(line) is not None)):
             self.assertEqual(takes, re.fullmatch(pattern, line, re.ASCII) is not None, (pattern[:20], line))
 
     def test_borders(self):
-        """Lines at the borders."""
+        """Lines at the limits are read right."""
         for line in LINES:
             self.agree(line)
 
     def test_random(self):
-        """Lines that are nearly such."""
+        """Lines that are almost valid are read right."""
         told = random.Random(7)
         for _ in range(20000):
             line = list(told.choice(LINES)[:60])

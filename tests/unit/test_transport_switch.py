@@ -1,5 +1,4 @@
-"""Both ends of a relay with an encrypted path beside the command: real sockets of loopback, a clock that stands, and commands made by
-hand."""
+"""Both ends of a relay with an encrypted path beside the command: real sockets of loopback, a stopped clock, and commands made by hand."""
 import argparse
 import contextlib
 import os
@@ -24,12 +23,12 @@ KEY = b"k" * 32
 
 
 def drained(path):
-    """What came over a path."""
+    """Return the data received over a path."""
     return list(path.received())
 
 
 class Both(Case):
-    """What tests of both ends share."""
+    """Common parts of tests of both ends."""
 
     def setUp(self):
         self.stop_clock()
@@ -41,24 +40,24 @@ class Both(Case):
         self.said = self.heard()
 
     def asked(self, **more):
-        """The words of a command line."""
+        """Return the options of a command line."""
         known = {"far": False, "greeted": False, "owner": None, "alone": None, "log": None, "host": "", "dir": str(self.folder),
                  "session": None, "server": None, "port": None, "command": ["ssh", "there"]}
         return argparse.Namespace(**{**known, **more})
 
     def place(self, port):
-        """A port of this machine, as a socket of both families has it."""
+        """Return a port of this machine as an address for both families."""
         return path_setup.places_of("127.0.0.1", port, self.family)[0]
 
     @contextlib.contextmanager
     def ends(self):
-        """What is done here ends the relay, with status 0."""
+        """End the relay, with status 0."""
         with self.assertRaises(Ended) as way:
             yield
         self.assertEqual(way.exception.status, 0)
 
     def end(self):
-        """A UDP socket of this test's own."""
+        """Return a UDP socket of this test's own."""
         one = udp_end()
         self.family = one.family
         self.addCleanup(one.close)
@@ -66,7 +65,7 @@ class Both(Case):
 
 
 class Near(Both):
-    """The end beside the clients, with a far end of the test's own."""
+    """The near end, with a far end of the test's own."""
 
     def setUp(self):
         super().setUp()
@@ -83,19 +82,19 @@ class Near(Both):
         self.waiting, self.is_open, self.came = Waiting(), True, []
 
     def close(self):
-        """Ends it."""
+        """End it."""
         if not self.is_closed:
             self.is_closed = True
             self.patch_of(near, "finish")
             self.near.close()
 
     def new_link(self, command, session, may_ask):
-        """A command that is started."""
+        """Return a simulated command."""
         self.links.append(FakeLink(self, session))
         return self.links[-1]
 
     def run_for(self, seconds):
-        """Lets so many seconds pass at both ends, in small steps."""
+        """Let so many seconds pass at both ends, in small steps."""
         end = self.now + seconds
         while self.now < end:
             self.now += 0.05
@@ -109,7 +108,7 @@ class Near(Both):
             self.near.turn()
 
     def answer(self, tells=True):
-        """Has the newest command's other end answer, and tell of the path."""
+        """Let the newest command's other end answer, and offer the path."""
         self.near.turn()
         self.links[-1].say(greeting("abc"))
         self.near.turn()
@@ -118,17 +117,17 @@ class Near(Both):
         self.near.turn()
 
     def validate(self):
-        """Has the path be sound."""
+        """Validate the path."""
         self.answer()
         self.run_for(2)
         self.assertTrue(self.near.ways.is_validated() and self.far.is_validated())
 
     def frames(self, number=-1):
-        """What a command was told, without the counts."""
+        """Return the frames to a command, without the acknowledgements."""
         return [frame for frame in self.links[number].other.frames() if frame[1][:1] != HAD or frame[0]]
 
     def test_asks(self):
-        """Once the other end has answered it asks for a path, by the name that its folder keeps; and by none where UDP isn't wanted."""
+        """After the other end's answer it requests a path, with the name stored in its folder; and none if UDP is off."""
         self.answer(False)
         name = bytes.fromhex((self.folder / "name").read_text(encoding="ascii"))
         self.assertEqual(self.frames(), [(0, wish(name))])
@@ -140,7 +139,7 @@ class Near(Both):
         self.assertEqual((len(self.frames()), self.near.ways.path), (1, None))
 
     def test_forwards(self):
-        """Before the path is validated the command carries all, and then the path; both ways."""
+        """Before the path is validated the command carries everything, and then the path; both ways."""
         self.answer()
         self.near.waiting.add(3, typed(1)[0])
         self.near.turn()
@@ -158,7 +157,7 @@ class Near(Both):
         delivered.assert_called_once_with(3, shown(1)[0])
 
     def test_told(self):
-        """The end that the far end tells over the path ends this one, which says that it heard."""
+        """An end reported by the far end over the path ends this one, which acknowledges it."""
         self.validate()
         self.far.tell(0, KILLED)
         with self.ends():
@@ -169,7 +168,7 @@ class Near(Both):
         self.assertEqual((self.folder / "ended").read_text(encoding="utf-8"), "killed")
 
     def test_rests(self):
-        """Once the path has been validated for 5 s nothing goes over the command, which stays, and nothing else is started."""
+        """Once the path has been validated for 5 s the command is silent and stays, and nothing else is started."""
         self.validate()
         self.run_for(6)
         count = len(self.links[0].other.text)
@@ -182,7 +181,7 @@ class Near(Both):
         self.assertEqual(self.said.getvalue(), "")
 
     def test_rests_and_acknowledges(self):
-        """What comes over a command that rests is acknowledged all the same."""
+        """Data over an idle command is acknowledged all the same."""
         self.validate()
         self.run_for(6)
         self.frames()
@@ -201,7 +200,7 @@ class Near(Both):
         self.assertEqual(self.said.getvalue(), "")
 
     def test_falls_silent_beside_a_command(self):
-        """Where the path falls silent the command that is there carries what waits, at once; one that is silent too is followed."""
+        """If the path becomes silent the existing command carries the queue at once; a silent one is replaced."""
         self.validate()
         self.run_for(60)
         self.is_open = False
@@ -220,7 +219,7 @@ class Near(Both):
         self.assertIn("the other end is silent\n", self.said.getvalue())
 
     def test_comes_back(self):
-        """A path that is heard again carries all, and what was started meanwhile is ended."""
+        """A path that is heard again carries everything, and the command started meanwhile is ended."""
         self.validate()
         self.links[0].hang_up()
         self.run_for(20)
@@ -236,7 +235,7 @@ class Near(Both):
         self.assertIn("the other end answers again\n", self.said.getvalue())
 
     def test_another_command(self):
-        """Another command that answers is asked for another path, and the old one is dropped."""
+        """Another command that answers gets a request for another path, and the old one is dropped."""
         self.validate()
         self.links[0].hang_up()
         self.is_open = False
@@ -247,7 +246,7 @@ class Near(Both):
         self.assertEqual((self.near.ways.path, path.fileno(), self.frames()[0][1][:1]), (None, -1, b"w"))
 
     def test_spent(self):
-        """A path without numbers is dropped, and another asked for over the command that is there; else one is started."""
+        """A path without counters is dropped, and another requested over the existing command; else one is started."""
         self.validate()
         self.near.ways.path.batches.last = MOST_BATCHES
         self.near.turn()
@@ -256,7 +255,7 @@ class Near(Both):
         self.assertEqual([text[:1] for _, text in self.frames()].count(b"w"), 2)
 
     def test_leaves(self):
-        """Where it ends it tells the far end so, as long as that hears, and a second at most."""
+        """At its end it informs the far end, as long as that hears, and for a second at most."""
         self.validate()
         begun = self.now
         self.is_closed = True
@@ -267,7 +266,7 @@ class Near(Both):
         self.assertLess(self.now - begun, 0.5)
 
     def test_leaves_nobody(self):
-        """Where nobody hears it ends after a second; without an answer over the path at once."""
+        """If nobody hears it ends after a second; without an answer over the path at once."""
         self.validate()
         self.is_closed, begun = True, self.now
         self.patch_of(common, "comes", lambda end, seconds: self.pass_time(seconds))
@@ -275,7 +274,7 @@ class Near(Both):
         self.assertAlmostEqual(self.now - begun, near.END_WAIT, delta=0.1)
 
     def test_hostile(self):
-        """Whatever the far end tells of paths, one is kept at most, and descriptors don't become more."""
+        """Whatever the far end offers, one path is stored at most, and no descriptors leak."""
         self.answer()
         self.near.turn()
         before = len(os.listdir("/proc/self/fd"))
@@ -288,7 +287,7 @@ class Near(Both):
         self.assertEqual(self.near.ways.path.aead.cipher.key, bytes([49]) * 32)
 
     def test_update_paint(self):
-        """A path that goes on from another port is heard there."""
+        """A path that moves to another port is heard there."""
         self.validate()
         self.near.ways.path.hop(self.now)
         self.waiting.add(3, shown(1)[0])
@@ -301,7 +300,7 @@ class Near(Both):
 
 
 class Far(Both):
-    """The end beside the server, with a near end of the test's own."""
+    """The far end, with a near end of the test's own."""
 
     def setUp(self):
         super().setUp()
@@ -323,13 +322,13 @@ class Far(Both):
             self.far.loop.add(end, known.reads, known.writes, hears=known.hears, has_more=known.has_more)
 
     def part(self, signals):
-        """What would let the command go, in this very process."""
+        """Return the descriptor that would release the command, in this same process."""
         self.letting_go, held = os.pipe()
         self.addCleanup(os.close, self.letting_go)
         return held
 
     def run_for(self, seconds):
-        """Lets so many seconds pass at both ends, in small steps."""
+        """Let so many seconds pass at both ends, in small steps."""
         end = self.now + seconds
         while self.now < end:
             self.now += 0.05
@@ -342,13 +341,13 @@ class Far(Both):
             self.far.turn()
 
     def ask(self, *more):
-        """Has the other end greet, and ask for a path."""
+        """Let the other end greet, and request a path."""
         os.write(self.said_end, greeting("-") + packed((0, wish(b"12345678")), *more))
         for _ in range(3):
             self.far.turn()
 
     def validate(self, asks=True):
-        """Has the path be sound."""
+        """Validate the path."""
         if asks:
             self.ask()
         told = next(text for peer, text in self.other.frames() if text[:1] == b"s")
@@ -357,11 +356,11 @@ class Far(Both):
         self.assertTrue(self.near.is_validated() and self.far.ways.is_validated())
 
     def frames(self):
-        """What the other end was told over the command, without the counts."""
+        """Return the frames to the other end over the command, without the acknowledgements."""
         return [frame for frame in self.other.frames() if frame[1][:1] != HAD or frame[0]]
 
     def test_makes(self):
-        """It goes on in another process, notes itself for the next one, and tells port, key and address."""
+        """It continues in another process, records itself for the next one, and reports port, key and address."""
         self.ask()
         kind, version, port, key = AEAD_HEAD.unpack_from(self.frames()[0][1])
         self.assertEqual((kind, version, key, self.frames()[0][1][AEAD_HEAD.size :]), (b"s", 1, KEY, b"127.0.0.1"))
@@ -372,7 +371,7 @@ class Far(Both):
         self.assertFalse(list((self.folder / "relays").iterdir()))
 
     def test_makes_none(self):
-        """Without the wish, the library, a port, a process, or a version that it knows, there is none, and the command is all."""
+        """Without a request, the library, a port, a process, or a known version, there is none, and only the command remains."""
         self.ask()
         self.far.ways.drop_path()
         for patch in (mock.patch.dict(os.environ, ROAM_UDP="never"), mock.patch.object(path_setup, "cipher", return_value=None),
@@ -385,14 +384,14 @@ class Far(Both):
         self.assertIsNone(self.far.ways.path)
 
     def test_asked_again(self):
-        """Asked again it makes another key and port in the same process, and drops those before."""
+        """A repeated request gets another key and port in the same process, and the old ones are dropped."""
         self.ask((0, wish(b"12345678")))
         told = [text for _, text in self.frames() if text[:1] == b"s"]
         self.assertEqual((len(told), self.parts.call_count), (2, 1))
         self.assertEqual(self.far.ways.path.end.getsockname()[1], AEAD_HEAD.unpack_from(told[1])[2])
 
     def test_forwards(self):
-        """A validated path carries all, both ways."""
+        """A validated path carries everything, both ways."""
         self.validate()
         self.assertEqual(self.came, [])
         sent = self.patch_of(self.far, "send")
@@ -405,7 +404,7 @@ class Far(Both):
         self.assertNotIn((3, shown(1)[0]), self.frames())
 
     def test_command_ends(self):
-        """Where the command ends it goes on, and lets the process go that held it; its terminals stay."""
+        """After the command's end it continues, and releases the process that kept it open; its terminals stay."""
         self.validate()
         ends = self.patch_of(self.far.ways.path.streams, "end_named")
         ended(self.said_end)
@@ -416,7 +415,7 @@ class Far(Both):
         self.assertEqual((self.far.is_called, ends.call_count), (True, 0))
 
     def test_command_ends_without_a_path(self):
-        """Without a path the command's end is its own; so it is where what holds it can't be let go."""
+        """Without a path the command's end is its own; the same if the command can't be released."""
         self.far.turn()
         ended(self.said_end)
         with self.ends():
@@ -427,12 +426,12 @@ class Far(Both):
             self.far.let_go()
 
     def ask_by_hand(self):
-        """Makes a path without the other end's wish."""
+        """Make a path without the other end's request."""
         self.far.stream.session = "-"
         self.far.make_path("ab")
 
     def test_never_called(self):
-        """A path that was never called is left 30 s after the command."""
+        """A path that was never called is dropped 30 s after the command."""
         self.ask()
         self.run_for(20)
         ended(self.said_end)
@@ -441,7 +440,7 @@ class Far(Both):
             self.run_for(0.5)
 
     def test_silent_command(self):
-        """A command that is silent for 30 s is let go where the path was called, and is the end where it wasn't."""
+        """A command that is silent for 30 s is released if the path was used, and otherwise is the end."""
         self.validate()
         self.is_open = False
         self.run_for(30)
@@ -456,7 +455,7 @@ class Far(Both):
             self.run_for(32)
 
     def test_rests(self):
-        """While the path is validated the command's silence is no fault, and nothing is said over it."""
+        """While the path is validated the command's silence is no error, and nothing is sent over it."""
         self.validate()
         self.run_for(6)
         self.frames()
@@ -484,7 +483,7 @@ class Far(Both):
             self.far.turn()
 
     def test_asleep_leaves(self):
-        """Who sleeps isn't at the session: its connections to the pty host end there, and no others."""
+        """A sleeping near end isn't at the session: its connections to the pty host end there, and no others."""
         self.validate()
         ended(self.said_end)
         self.run_for(1)
@@ -503,7 +502,7 @@ class Far(Both):
             ends["panes"].recv(1)
 
     def test_session_ends(self):
-        """The session's end is told by the path alone, until it is acknowledged, 30 s at most."""
+        """The session's end is reported by the path alone, until it is acknowledged, for 30 s at most."""
         self.validate()
         self.patch_of(common, "comes", lambda end, seconds: self.pass_time(seconds) or self.came.extend(drained(self.near))
                       or self.near.fill(self.waiting))
@@ -515,7 +514,7 @@ class Far(Both):
         self.assertLess(self.now - begun, 1)
 
     def test_session_ends_unheard_by_the_path(self):
-        """Where nobody hears by the path it is told by the command."""
+        """If nobody hears by the path, the command reports it."""
         self.validate()
         self.patch_of(common, "comes", lambda end, seconds: self.pass_time(seconds))
         self.patch_of(far, "is_taken", return_value=True)
@@ -524,7 +523,7 @@ class Far(Both):
         self.assertIn((0, ENDED), self.frames())
 
     def test_session_ends_unheard(self):
-        """The same where nobody hears."""
+        """The same if nobody hears."""
         self.validate()
         ended(self.said_end)
         self.run_for(1)
@@ -535,14 +534,14 @@ class Far(Both):
         self.assertAlmostEqual(self.now - begun, far.ALONE, delta=1)
 
     def test_left(self):
-        """It ends where the near end leaves."""
+        """It ends if the near end leaves."""
         self.validate()
         self.near.tell(0, LEAVES)
         with self.ends():
             self.run_for(1)
 
     def test_spent(self):
-        """A path without numbers is followed by another, told of over the command; without one it ends."""
+        """A path without counters is replaced, with a report over the command; without a command it ends."""
         self.validate()
         self.far.ways.path.batches.last = MOST_BATCHES
         self.run_for(0.1)
@@ -554,7 +553,7 @@ class Far(Both):
             self.far.turn()
 
     def test_blocked_later(self):
-        """Where the path falls silent all goes by the command that is there, which is said at once."""
+        """If the path becomes silent everything goes by the existing command, with a heartbeat at once."""
         self.validate()
         self.run_for(20)
         self.frames()
@@ -570,10 +569,10 @@ class Far(Both):
 
 
 class Choice(Both):
-    """Which way carries what waits."""
+    """The transport that carries the queue."""
 
     def test_chosen(self):
-        """A validated path, else the stream where it is there, else the path."""
+        """A validated path, else the stream if it is there, else the path."""
         both = common.Ways(StillLoop())
         self.assertIsNone(both.chosen(False))
         both.stream = mock.Mock(resume=mock.Mock())

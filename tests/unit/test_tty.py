@@ -1,4 +1,4 @@
-"""The outer terminal: its modes, sizes and names, and what is written there."""
+"""The outer terminal: its modes, sizes and names, and its output."""
 import contextlib
 import errno
 import fcntl
@@ -16,10 +16,10 @@ from roam_live.common import spawn, tty
 
 
 class Resets(Case):
-    """What stands for a reset."""
+    """The replacement of a reset."""
 
     def test_erases(self):
-        """It has no reset, which would erase what scrolled off a person's own screen, and ends with all erased and the cursor at home."""
+        """It has no reset, which would erase the user's own scrollback, and ends with everything erased and the cursor at home."""
         for text in (tty.CLEARED, tty.ENTERED, tty.LEFT):
             self.assertNotIn(b"\x1bc", text)
             self.assertNotIn(b"\x1b[3J", text)
@@ -32,7 +32,7 @@ class Resets(Case):
 
 
 class Sizes(Case):
-    """The sizes that a session may have, and a terminal that shows a part of it."""
+    """The sizes of a session, and a terminal that shows a part of it."""
 
     def test_limits(self):
         """A session has 4 to 200 rows and 8 to 500 columns."""
@@ -53,7 +53,7 @@ class Modes(Case):
             self.addCleanup(os.close, end)
 
     def test_raw(self):
-        """Each byte comes as it is, and all is as before in the end."""
+        """Each byte arrives unchanged, and finally the modes are restored."""
         before = termios.tcgetattr(self.slave)
         self.assertEqual(tty.make_raw(self.slave), before)
         os.write(self.master, b"\x03\x1a\r\x13\x04x\x7f\x16\x0f")
@@ -69,7 +69,7 @@ class Modes(Case):
             os.read(self.slave, 64)
 
     def test_bits(self):
-        """Those modes are changed that POSIX names for it, and no others."""
+        """It changes the modes that POSIX names for it, and no others."""
         modes = [-1, -1, -1 & ~termios.CSIZE | termios.CS7, -1, 1, 2, [b"\x09"] * 32]
         found = tty.raw(list(modes))
         off = termios.BRKINT | termios.ICRNL | termios.INLCR | termios.IGNCR | termios.INPCK | termios.ISTRIP | termios.IXON
@@ -80,13 +80,13 @@ class Modes(Case):
         self.assertEqual((found[6][termios.VMIN], found[6][termios.VTIME], found[4:6]), (1, 0, [1, 2]))
 
     def test_no_terminal(self):
-        """What is none can't be made raw, and to restore it is no fault."""
+        """A file that is no terminal can't be made raw, and its restoration is no error."""
         reader, _ = self.pipe()
         self.assertIsNone(tty.make_raw(reader))
         tty.restore(reader, [0] * 6 + [[b"\0"] * 32])
 
     def test_interrupted(self):
-        """A signal between has it asked for anew; another fault is one."""
+        """After an interrupting signal it tries again; another error is raised."""
         interrupted = termios.error(errno.EINTR, "Interrupted")
         with mock.patch("termios.tcsetattr", side_effect=[interrupted, interrupted, None]) as sets:
             tty.set_modes(self.slave, termios.TCSADRAIN, [])
@@ -95,7 +95,7 @@ class Modes(Case):
             tty.set_modes(self.slave, termios.TCSADRAIN, [])
 
     def test_size(self):
-        """A size is given and told; a terminal that tells none has 24 by 80."""
+        """A size is set and returned; a terminal without one has 24 by 80."""
         tty.set_size(self.slave, 33, 101)
         self.assertEqual(tty.size_of(self.master), (33, 101))
         self.assertEqual(struct.unpack("HHHH", fcntl.ioctl(self.slave, termios.TIOCGWINSZ, bytes(8))), (33, 101, 0, 0))
@@ -103,7 +103,7 @@ class Modes(Case):
         self.assertEqual(tty.size_of(self.slave), (24, 80))
 
     def test_opened(self):
-        """A terminal is opened anew and doesn't wait there; what has no name is taken twice."""
+        """A second descriptor of a terminal doesn't block; one without a name is duplicated."""
         for end in (self.slave, self.pipe()[1]):
             opened = tty.opened_for_writing(end)
             self.addCleanup(os.close, opened)
@@ -114,7 +114,7 @@ class Modes(Case):
         self.assertTrue(os.get_blocking(self.slave))
 
     def test_opened_controlling(self):
-        """One that can't be opened by its name is opened as the terminal that controls this process, where it does."""
+        """If its name can't be opened, the controlling terminal of this process is used."""
         opened, flags = [], os.O_WRONLY | os.O_NOCTTY | os.O_NONBLOCK
         self.patch("os.ttyname", return_value="/dev/pts/9")
         dups = self.patch("os.dup", return_value=7)
@@ -133,7 +133,7 @@ class Modes(Case):
             self.assertEqual((opened, dups.call_count), (names, not is_controlling))
 
     def test_frozen(self):
-        """Neither to be made raw nor to be given back waits until the terminal has shown what was written."""
+        """Neither raw mode nor its end waits until the terminal has shown all output."""
         with mock.patch("termios.tcsetattr") as sets:
             before = tty.make_raw(self.slave)
             tty.restore(self.slave, before)
@@ -141,10 +141,10 @@ class Modes(Case):
 
 
 class Commands(Case):
-    """What a command becomes."""
+    """The execution of a command."""
 
     def test_become(self):
-        """It erases characters of UTF-8, and no signal is kept from it."""
+        """It erases UTF-8 characters, and receives all signals."""
         master, slave = pty.openpty()
         for end in (master, slave):
             self.addCleanup(os.close, end)
@@ -162,7 +162,7 @@ class Commands(Case):
         self.assertEqual(runs.call_args_list[0][0], ("sh", ["sh", "-c", "x"], {"A": "b"}))
 
     def test_instead(self):
-        """Where it can't be run that is told, and another shell is there, which is named as the shell."""
+        """A failure is reported, and another shell runs, under its name as the shell."""
         for name in ("_signal.set_wakeup_fd", "_signal.signal"):
             self.patch(name)
         self.patch("termios.tcgetattr", side_effect=termios.error(5, "gone"))
@@ -173,7 +173,7 @@ class Commands(Case):
         self.assertEqual(runs.call_args[0], ("/bin/sh", ["/bin/sh"], {"A": "b", "SHELL": "/bin/sh"}))
 
     def forked(self, size):
-        """What a shell tells of its terminal that is forked there, and its process."""
+        """Return the terminal that a forked shell reports, and its process."""
         process, master = spawn.forked(size)
         if process == 0:
             os.execvp("sh", ["sh", "-c", "stty size; tty; ps -o sid= -p $$; ls -l /proc/$$/fd | grep -c ptmx"])
@@ -186,14 +186,15 @@ class Commands(Case):
         return process, text.decode().split()
 
     def test_forked(self):
-        """A process on a terminal of its own, which has its size before the process is there, and nothing of the other end."""
+        """A process on a terminal of its own has its size from the start, and no descriptor of the other end."""
         process, words = self.forked((7, 33))
         self.assertEqual((words[:2], words[2].startswith("/dev/pts/"), int(words[3])), (["7", "33"], True, process))
         self.assertEqual(words[4], "0")
 
     def test_signalled(self):
-        """A signal that comes to a process that was just forked ends that one, and isn't told where this one is told of its own: as where a
-        pane is closed that is being split off."""
+        """A signal to a just forked process ends that one, and does not reach this one's own pipe, for example if a new pane is closed at
+        once.
+        """
         reader, writer = self.pipe()
         before = signal.signal(signal.SIGHUP, lambda number, frame: None), signal.set_wakeup_fd(writer, warn_on_full_buffer=False)
         self.addCleanup(lambda: (signal.set_wakeup_fd(before[1]), signal.signal(signal.SIGHUP, before[0])))
@@ -210,8 +211,8 @@ class Commands(Case):
         self.assertEqual(read_now(reader), bytes([signal.SIGHUP]))
 
     def test_not_forked(self):
-        """Where no process or no size is to be had nothing is left open."""
-        # What other tests left is closed before.
+        """Without a process or a size no descriptor leaks."""
+        # Leftovers of other tests are closed first.
         gc.collect()
         before = sorted(os.listdir("/proc/self/fd"))
         for name in ("os.fork", "roam_live.common.spawn.set_size"):
@@ -235,7 +236,7 @@ class Names(Case):
         self.environment(HOME=str(self.folder / "home"), TERMINFO=None, TERMINFO_DIRS=None)
 
     def enter(self, place, name):
-        """Has an entry in a folder, below its first letter or that letter's number."""
+        """Create an entry in a folder, below its first letter or that letter's number."""
         path = self.folder / place / name
         path.parent.mkdir(parents=True, exist_ok=True)
         path.touch()
@@ -248,7 +249,7 @@ class Names(Case):
         self.assertEqual(spawn.names()["TERM"], "tmux-256color")
 
     def test_places(self):
-        """It is looked for where terminfo is: in TERMINFO, the home, TERMINFO_DIRS, and by a letter or its number."""
+        """It is searched in the folders of terminfo: in TERMINFO, the home, TERMINFO_DIRS, and by a letter or its number."""
         places = (("own/74", {"TERMINFO": "own"}), ("home/.terminfo/t", {}), ("b/t", {"TERMINFO_DIRS": "a:b"}))
         for place, words in places:
             with self.subTest(place):
@@ -261,7 +262,7 @@ class Names(Case):
                 self.assertFalse(spawn.has_entry("tmux-256color"))
 
     def test_empty(self):
-        """An empty name of a folder isn't the root."""
+        """An empty folder name isn't the root."""
         self.environment(TERMINFO="", TERMINFO_DIRS="::")
         with mock.patch("os.path.exists", return_value=False) as looks:
             self.assertFalse(spawn.has_entry("vt220"))

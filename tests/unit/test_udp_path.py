@@ -1,4 +1,4 @@
-"""Paths between two ends that are made by hand, over a network and a clock of their own."""
+"""Paths between two ends made by hand, over a network and a clock of their own."""
 import errno
 import random
 import unittest
@@ -19,24 +19,24 @@ NEAR, FAR = ("::1", 1, 0, 0), ("::2", 2, 0, 0)
 
 
 class Wire:
-    """A socket whose packets are kept, from a place."""
+    """A socket that records its packets, from an address."""
 
     def __init__(self, place):
         self.place, self.out, self.coming = place, [], []
 
     def fileno(self):
-        """No descriptor."""
+        """Return no descriptor."""
         return -1
 
     def close(self):
-        """Nothing is open."""
+        """Do nothing: nothing is open."""
 
     def sendmsg(self, packets, told, flags, place):
-        """Keeps a packet."""
+        """Record a packet."""
         self.out.append((packets[0], place))
 
     def recvmsg(self, size, more):
-        """What came."""
+        """Return the received packet."""
         if not self.coming:
             raise BlockingIOError
         packet, place = self.coming.pop(0)
@@ -46,7 +46,7 @@ class Wire:
 
 
 class Net(Case):
-    """Two ends, and a network between them that takes so long each way."""
+    """Two ends, and a network between them with a one-way delay."""
 
     DELAY = 0.05
 
@@ -61,11 +61,11 @@ class Net(Case):
         self.patch("roam_live.relay.udp_path.udp_end", return_value=None)
 
     def other(self, path):
-        """The other end."""
+        """Return the other end."""
         return self.far if path is self.near else self.near
 
     def run_for(self, seconds, also=lambda: None):
-        """Lets so many seconds pass, each thing done when it is due."""
+        """Let so many seconds pass, each thing done when it is due."""
         end = self.now + seconds
         while True:
             also()
@@ -85,7 +85,7 @@ class Net(Case):
                 self.got[path] += path.received()
 
     def carry(self, path):
-        """Has what an end sent on its way."""
+        """Put an end's packets in flight."""
         for packet, _ in path.end.out:
             self.count[path] += 1
             self.bytes[path] += len(packet)
@@ -95,21 +95,21 @@ class Net(Case):
         path.end.out.clear()
 
     def begin(self, seconds=3.0):
-        """Has the two find each other."""
+        """Let the two find each other."""
         self.run_for(seconds)
         self.assertTrue(self.near.is_validated() and self.far.is_validated())
 
     def send(self, path, peer, texts):
-        """Has an instruction wait."""
+        """Queue an instruction."""
         for text in texts:
             self.waiting[path].add(peer, text)
 
 
 class Generations(Net):
-    """How a path begins, falls silent and comes back."""
+    """The start, the silence and the return of a path."""
 
     def test_begins(self):
-        """The near end calls, asks for the largest size, and both are validated once a packet of it came each way."""
+        """The near end calls, requests the largest size, and both are validated once a packet of it came each way."""
         self.assertFalse(self.near.is_validated() or self.far.is_validated())
         self.assertEqual(self.far.due_at(), float("inf"))
         self.run_for(0.19)
@@ -120,21 +120,22 @@ class Generations(Net):
         self.assertLess(self.near.validated_since, 100.45)
 
     def test_small_alone(self):
-        """Where only small packets pass it is never sound, and little is sent."""
+        """If only small packets pass it is never validated, and little is sent."""
         self.loses = lambda path, packet: len(packet) > 500
         self.run_for(60)
         self.assertFalse(self.near.is_validated() or self.far.is_validated())
         self.assertLess(self.count[self.near] + self.count[self.far], 120)
 
     def test_small_alone_one_way(self):
-        """The same where it is the answers alone that don't pass."""
+        """The same if only the answers are lost."""
         self.loses = lambda path, packet: path is self.far and len(packet) > 500
         self.run_for(60)
         self.assertFalse(self.near.is_validated())
         self.assertLess(self.count[self.near] + self.count[self.far], 160)
 
     def test_blocked(self):
-        """Where nothing passes it is called after 0.2, 0.4 .. 5 s beside another way: below a kB a minute, and each second without one."""
+        """If nothing passes it is called after 0.2, 0.4 .. 5 s beside another transport: below a kB a minute, and every second without one.
+        """
         self.is_open = False
         self.run_for(60)
         calls = self.count[self.near]
@@ -146,7 +147,7 @@ class Generations(Net):
         self.assertIn(self.count[self.near] - calls, (59, 60, 61))
 
     def test_idle(self):
-        """Each end says something each 3.5 s, and asks where nothing was acknowledged for 4 s, so that it stays sound."""
+        """Each end sends something every 3.5 s, and requests an answer after 4 s without an acknowledgement, so that it stays validated."""
         self.begin()
         count = sum(self.count.values())
         for _ in range(60):
@@ -155,7 +156,7 @@ class Generations(Net):
         self.assertLess(sum(self.count.values()) - count, 800)
 
     def test_idle_session(self):
-        """A session in which nothing happens costs the packets of its cores, each 3 s both ways, and no more: each tells of the other."""
+        """An idle session costs the packets of its cores, every 3 s both ways, and no more: each acknowledges the other."""
         self.send(self.near, 1, typed(1))
         self.send(self.far, 1, shown(1))
         self.begin()
@@ -176,8 +177,9 @@ class Generations(Net):
         self.assertLess((sum(self.bytes.values()) - size) / 10 + 41 * 28, 4300)
 
     def test_silent(self):
-        """It is silent 4 s after what nobody answers, and 7 s after the last answer at most, and validated again with the first that
-        passes."""
+        """It is silent 4 s after an unanswered packet, and 7 s after the last answer at most, and validated again with the first packet
+        that passes.
+        """
         self.begin()
         self.is_open = False
         self.send(self.near, 1, typed(1))
@@ -193,7 +195,7 @@ class Generations(Net):
         self.assertEqual(self.got[self.far], [(1, typed(1)[0])])
 
     def test_silent_at(self):
-        """The moment of silence is 7 s after the last answer, and 4 s after what nobody answered; never heard it is silent."""
+        """The moment of silence is 7 s after the last answer, and 4 s after an unanswered packet; one never heard is silent."""
         self.assertEqual(self.near.silent_at(), float("-inf"))
         self.near.answered_at = self.now
         self.assertEqual(self.near.silent_at(), self.now + 7)
@@ -203,7 +205,7 @@ class Generations(Net):
         self.assertEqual(self.near.silent_at(), self.now + 7)
 
     def test_one_at_a_time(self):
-        """Over a silent path one packet at a time goes, which looks whether it still is."""
+        """Over a silent path one packet at a time is sent, as a probe."""
         self.begin()
         self.is_open = False
         self.send(self.near, 1, typed(1))
@@ -220,7 +222,7 @@ class Generations(Net):
         self.assertEqual({peer for peer, _ in self.got[self.far]}, set(range(1, 9)))
 
     def test_lost_answers(self):
-        """At 20 of 100 lost it stays sound for ten minutes."""
+        """With 20 of 100 lost it stays validated for ten minutes."""
         chance = random.Random(20)
         self.loses = lambda path, packet: chance.random() < 0.2
         self.begin(10)
@@ -229,7 +231,7 @@ class Generations(Net):
             self.assertTrue(self.near.is_validated() and self.far.is_validated(), self.now)
 
     def test_asleep(self):
-        """A far end to which nobody speaks for a minute says nothing and has no timer; the first packet wakes it, and what waited comes."""
+        """A far end without a call for a minute sends nothing and has no timer; the first packet wakes it, and the queue arrives."""
         self.begin()
         self.is_open = False
         self.run_for(70)
@@ -246,7 +248,7 @@ class Generations(Net):
         self.assertTrue(self.near.is_validated() and self.far.is_validated())
 
     def test_moves(self):
-        """Another near address is followed with its first packet; a late packet from the old one changes nothing."""
+        """Another near address is used from its first packet on; a late packet from the old one changes nothing."""
         self.begin()
         old = self.near.aead.encrypted(HEAD.pack(0, 0, 0) + ASKS)
         self.near.end.place = ("::9", 9, 0, 0)
@@ -258,7 +260,7 @@ class Generations(Net):
         self.assertEqual(self.far.place, ("::9", 9, 0, 0))
 
     def test_update_paint(self):
-        """A near end that hears nothing for 10 s goes on from another port, each 10 s, where there is one."""
+        """A near end without packets for 10 s uses another port, every 10 s, if there is one."""
         ends = []
 
         def another():
@@ -274,7 +276,7 @@ class Generations(Net):
         self.assertEqual(self.near.end.place, ("::1", 3, 0, 0))
 
     def test_all_places(self):
-        """A silent near end calls wherever the other may be, and where it was; a sound one speaks to where it is."""
+        """A silent near end calls all candidate addresses, and the last one; a validated one sends to the current one."""
         self.near.places = [FAR, ("::3", 1, 0, 0), FAR]
         self.near.place = ("::4", 1, 0, 0)
         self.near.call(self.now)
@@ -286,7 +288,7 @@ class Generations(Net):
         self.assertEqual([place for _, place in self.near.end.out], [FAR])
 
     def test_refused(self):
-        """What the system refuses is lost, and nothing more."""
+        """A packet that the system refuses is lost, and nothing more."""
         self.near.end.coming += [(OSError(errno.ECONNREFUSED, "no"), None), (b"", NEAR)]
         self.assertEqual(list(self.near.received()), [])
         self.near.end.sendmsg = mock.Mock(side_effect=OSError(errno.ENETUNREACH, "no"))
@@ -295,7 +297,7 @@ class Generations(Net):
 
 
 class Ends(Net):
-    """Counters and numbers of batches at their end."""
+    """The last counters and batch numbers."""
 
     def test_counter(self):
         """The last counter is used, and then nothing is sent; the path is spent, and waits for nothing."""
@@ -313,7 +315,7 @@ class Ends(Net):
         self.assertTrue(self.waiting[self.near].datagrams)
 
     def test_batches(self):
-        """The last batch comes, and none is begun behind it."""
+        """The last batch arrives, and none follows it."""
         self.begin()
         self.near.batches.last = MOST_BATCHES - 3
         for number in range(1, 9):
@@ -326,7 +328,7 @@ class Ends(Net):
         self.assertFalse(self.near.is_said())
 
     def test_counters_low_bits(self):
-        """What is told of by its lowest 32 bits is the newest that it may be."""
+        """An acknowledgement by its lowest 32 bits means the newest possible counter."""
         self.begin()
         self.near.aead.counter += 1 << 32
         self.send(self.near, 1, typed(1))
@@ -336,14 +338,14 @@ class Ends(Net):
 
 
 class Carries(Net):
-    """What goes, goes again, and goes twice."""
+    """Sent data, repeated data, and data sent twice."""
 
     def setUp(self):
         super().setUp()
         self.begin()
 
     def test_key(self):
-        """A key's act goes at once, and once where nothing is lost; its acknowledgement waits for something to ride on."""
+        """A key's act is sent at once, and only once without losses; its acknowledgement waits for other data."""
         count = dict(self.count)
         self.send(self.near, 1, typed(1))
         self.run_for(0.051)
@@ -355,7 +357,7 @@ class Carries(Net):
         self.assertEqual((self.near.sent, self.near.size), ({}, 0))
 
     def test_lost_key(self):
-        """A lost one goes again after a round trip and what it varies, until it has come."""
+        """A lost one is sent again after a round trip and its variation, until it has arrived."""
         lost = []
 
         def loses(path, packet):
@@ -371,7 +373,7 @@ class Carries(Net):
         self.assertLess(lost[-1] - begun, 1.0)
 
     def test_large(self):
-        """A large instruction comes whole, whatever is lost of it, and its lost chunks alone go again."""
+        """A large instruction arrives whole, whatever is lost of it, and only its lost chunks are sent again."""
         chance = random.Random(6)
         texts = datagrams(1, noise(300_000), 1)
         self.loses = lambda path, packet: chance.random() < 0.1
@@ -383,7 +385,7 @@ class Carries(Net):
         self.assertEqual((self.far.sent, self.far.size), ({}, 0))
 
     def test_small_before_large(self):
-        """What is small begins at once, whatever waits, and drops what is on its way to that peer."""
+        """Small data begins at once, whatever waits, and replaces the data in flight to that peer."""
         self.send(self.far, 1, datagrams(1, noise(600_000), 1))
         self.run_for(0.2)
         self.assertTrue(self.far.fresh)
@@ -393,7 +395,7 @@ class Carries(Net):
         self.assertEqual(self.got[self.near], [(1, shown(2)[0]), (2, shown(1)[0])])
 
     def test_twice(self):
-        """Where more than 1 of 100 are lost a small chunk goes twice, 20 ms apart; a large one doesn't, nor what goes once."""
+        """With more than 1 of 100 packets lost a small chunk is sent twice, 20 ms apart; a large one isn't, nor one of the once kind."""
         self.far.trips.lost = 0.5
         count = self.count[self.far]
         self.send(self.far, 1, shown(1))
@@ -408,7 +410,7 @@ class Carries(Net):
         self.assertFalse(self.far.twice)
 
     def test_moment(self):
-        """What shows nothing new waits 40 ms, and then goes once; what shows something takes its place."""
+        """An instruction without visible news waits 40 ms, and then is sent once; one with news replaces it."""
         self.send(self.far, 1, shown(1))
         self.run_for(1)
         count = self.count[self.far]
@@ -426,7 +428,7 @@ class Carries(Net):
         self.assertEqual([text for _, text in self.got[self.near]][-2:], [shown(2, 1)[0], cell[0]])
 
     def test_repeat_on_its_way(self):
-        """What is said again while it is on its way isn't sent, and goes again at once where it should have been told of."""
+        """A repeat of data in flight isn't sent, and is sent again at once if an acknowledgement is overdue."""
         self.send(self.near, 1, typed(1))
         self.run_for(1)
         self.is_open = False
@@ -442,7 +444,7 @@ class Carries(Net):
         self.assertEqual(len(self.near.end.out), 1)
 
     def test_lacks_base(self):
-        """A base that isn't there is told of, and what is said next comes."""
+        """A missing base is reported, and the next data arrives."""
         for number in (1, 2):
             self.send(self.near, 1, typed(number))
             self.run_for(1)
@@ -457,7 +459,7 @@ class Carries(Net):
         self.assertGreater(self.near.batches.going[1].base, 0)
 
     def test_many_peers(self):
-        """256 peers that speak at once all come, no packet is too long, and what of each came whole is told in several packets."""
+        """256 simultaneous peers all get through, no packet is too long, and several packets acknowledge their batches."""
         for peer in range(1, 257):
             self.send(self.near, peer, typed(1))
             self.send(self.far, peer, datagrams(1, noise(1100, peer), 1))
@@ -467,7 +469,7 @@ class Carries(Net):
         self.assertTrue(all(path.batches.going[peer].base for path in (self.near, self.far) for peer in range(1, 257)))
 
     def test_sizes(self):
-        """No packet is longer than the longest, whatever is told in it."""
+        """No packet is longer than the limit, whatever its contents."""
         sizes = []
         self.loses = lambda path, packet: sizes.append(len(packet))
         for peer in range(1, 50):
@@ -478,9 +480,9 @@ class Carries(Net):
         self.assertLessEqual(max(sizes), LONGEST_PACKET)
 
     def test_repeated_and_turned_round(self):
-        """Packets that come thrice and in any order bring each instruction once, rising."""
+        """Packets that arrive three times and in any order bring each instruction once, in increasing order."""
         chance, packets = random.Random(5), []
-        # Without bases, since those that the other end below has whole are others.
+        # Without bases, since those of the other end below are others.
         self.patch_of(self.near.batches, "note_whole", return_value=False)
         self.loses = lambda path, packet: packets.append(packet) if path is self.near else False
         for number in range(1, 200):
@@ -496,7 +498,7 @@ class Carries(Net):
         self.assertEqual(numbers[-1], 199)
 
     def test_forged(self):
-        """What isn't authentic, was cut, repeated, or goes the other way changes nothing and is answered by nothing."""
+        """A packet that is forged, cut, repeated, or in the wrong direction changes nothing and gets no answer."""
         packets = []
         self.loses = lambda path, packet: packets.append((path, packet))
         self.send(self.near, 1, typed(1))
@@ -513,7 +515,7 @@ class Carries(Net):
             self.assertEqual(repr(after), before)
 
     def test_texts_of_chance(self):
-        """Authentic texts that no end sends raise nothing."""
+        """Authentic random texts raise nothing."""
         mate, chance = AeadPackets(Foolish(b""), True), random.Random(9)
         mate.counter = 1 << 20
         for _ in range(1500):
@@ -527,7 +529,7 @@ class Carries(Net):
             self.assertGreaterEqual(self.far.due_at(), float("-inf"))
 
     def test_takes_turns(self):
-        """What takes long to unpack is taken in several turns."""
+        """Data that takes long to unpack is handled in several turns."""
         self.send(self.near, 1, typed(1))
         self.near.fill(self.waiting[self.near])
         packet = self.near.end.out[-1][0]
@@ -538,10 +540,10 @@ class Carries(Net):
 
 
 class Told(Net):
-    """What the ends tell each other of themselves."""
+    """The messages of the ends about themselves."""
 
     def test_states(self):
-        """The newest of each comes, and nothing twice; what nobody knows is passed over."""
+        """The newest of each arrives, and nothing twice; unknown ones are ignored."""
         self.begin()
         for text in (b"p1 1 1 23 80\n", b"b\3\0\0\0\1", b"k\1\1", ENDED, KILLED):
             self.far.tell(0, text)
@@ -555,7 +557,7 @@ class Told(Net):
         self.assertEqual(self.got[self.near], [])
 
     def test_lost(self):
-        """What was lost with its base is told anew."""
+        """Messages lost with their base are sent again."""
         self.begin()
         self.far.tell(0, ENDED)
         self.run_for(1)
@@ -566,7 +568,7 @@ class Told(Net):
         self.assertTrue(self.far.is_said())
 
     def test_end_over_bad_network(self):
-        """An end is told where half of all is lost."""
+        """An end is reported although half of all packets are lost."""
         self.begin()
         chance = random.Random(4)
         self.loses = lambda path, packet: chance.random() < 0.5
@@ -575,7 +577,7 @@ class Told(Net):
         self.assertIn((0, ENDED), self.got[self.near])
 
     def test_wrong(self):
-        """What can't be told is nothing."""
+        """Invalid messages do nothing."""
         states = States()
         for text in (b"", b"b", b"b\1\0\0\0\1", b"k\1", ENDED + b"x", b"z", b"s" + bytes(50), b"h" + bytes(8), b"p" + bytes(5000)):
             self.assertIsNone(states.news(text), text)
@@ -584,13 +586,13 @@ class Told(Net):
 
 
 class Parts(Case):
-    """What a path stands on."""
+    """The parts of a path."""
 
     def setUp(self):
         self.stop_clock()
 
     def test_best(self):
-        """The largest of the last 5 to 10 seconds."""
+        """It is the largest of the last 5 to 10 seconds."""
         best = Best()
         self.assertEqual(best.value(), 0)
         best.note(5)
@@ -607,7 +609,7 @@ class Parts(Case):
         self.assertEqual(best.value(), 0)
 
     def test_pace(self):
-        """Twelve packets go where nothing is known, and then one at a time; nothing is found out where nothing more waits."""
+        """Twelve packets go without measurements, and then one at a time; without a queue nothing is measured."""
         pace = PathPace()
         went = 0
         while pace.lets(1200, self.now):
@@ -621,7 +623,7 @@ class Parts(Case):
         self.assertEqual((pace.arrived, pace.rate.value()), (1200, 0))
 
     def test_pace_rises_and_stays(self):
-        """The rate is what went through while a packet was on its way; after three rounds without a rise it goes a quarter above."""
+        """The rate is the bytes that passed while a packet was in flight; after three rounds without growth it sends a quarter above."""
         pace = PathPace()
         pace.note_round(0.1)
         for _ in range(12):
@@ -642,7 +644,7 @@ class Parts(Case):
         self.assertEqual((pace.rises, pace.window()), (True, FIRST))
 
     def test_pace_rise(self):
-        """A rate that has grown by more than a quarter in a round is a rise; one that has grown by less isn't."""
+        """A rate that has grown by more than a quarter in a round is rising; one that has grown by less isn't."""
         for growth, flat in ((1.2, 1), (1.3, 0)):
             pace = PathPace()
             pace.compared = 100_000.0
@@ -651,13 +653,13 @@ class Parts(Case):
             self.assertEqual((pace.flat, pace.rises), (flat, True), growth)
 
     def test_pace_at_least(self):
-        """Four packets may always be on their way."""
+        """Four packets may always be in flight."""
         pace = PathPace()
         pace.rises = False
         self.assertEqual(pace.window(), LEAST)
 
     def test_trips(self):
-        """Trip and spread are smoothed; a packet is lost sooner where a later one came, and later the more often nothing is told."""
+        """Round-trip time and variation are smoothed; a packet counts as lost sooner after a later arrival, and later after timeouts."""
         trips = Trips()
         self.assertEqual((trips.patience(HELD, False), trips.round()), (path_state.LATEST, path_state.ROUND))
         trips.note(0.1)
@@ -672,7 +674,7 @@ class Parts(Case):
         self.assertAlmostEqual(trips.patience(0.025, False), path_state.LATEST, places=3)
 
     def test_loss(self):
-        """Loss is known within some fifty packets; what came after all wasn't lost."""
+        """The loss rate is known within some fifty packets; a late arrival wasn't lost."""
         trips = Trips()
         for number in range(400):
             if number % 10:
@@ -685,7 +687,7 @@ class Parts(Case):
         self.assertAlmostEqual(trips.lost, before - 1 / 50)
 
     def test_frames(self):
-        """Frames of a text; behind what isn't known, or is cut, is none."""
+        """The frames of a text end at an unknown or cut one."""
         chunk = CHUNK.pack(b"p", 1, 2, 3, 4, 2) + b"xy"
         whole = b"w\0\1\0\0\0\7"
         self.assertEqual(list(frames_in(b"head" + ASKS + whole + chunk + ASKS_LARGE + bytes(9), 4)),
@@ -695,7 +697,7 @@ class Parts(Case):
         self.assertEqual(list(frames_in(b"q" + chunk, 0)), [(b"q", (), b"")])
 
     def test_arrivals(self):
-        """What came in the last second is told in a mask; of many peers it is told in turn."""
+        """Arrivals of the last second are acknowledged in a mask; those of many peers in turn."""
         arrivals = HeardPackets()
         for counter in (1, 2, 40):
             arrivals.window.note(counter)
@@ -726,7 +728,7 @@ class Parts(Case):
         self.assertEqual(arrivals.head(self.now)[HEAD.size :], b"\xff" * 32)
 
     def test_many_untold(self):
-        """After 32 packets it is told at once."""
+        """After 32 packets the acknowledgement is sent at once."""
         arrivals = HeardPackets()
         for counter in range(1, 33):
             self.assertNotEqual(arrivals.told_at, self.now)
@@ -735,10 +737,10 @@ class Parts(Case):
 
 
 class LateAnswers(Net):
-    """Acknowledgements that come late: a queue that is full is no loss."""
+    """Late acknowledgements: a full queue is no loss."""
 
     def test_late(self):
-        """Where a queue makes answers late what was given up counts when it is told of: trips are known, and loss isn't made up."""
+        """If a queue delays answers, a late acknowledgement still counts: round trips are measured, and no loss is invented."""
         self.begin()
         self.DELAY = 0.6
         for number in range(1, 12):
@@ -750,7 +752,7 @@ class LateAnswers(Net):
         self.assertLessEqual(len(self.far.gone), udp_path.MOST_GONE)
 
     def test_narrow(self):
-        """Over 100 kB a second with a long queue a stream of large screens takes what there is, and a key is shown soon after."""
+        """Over 100 kB a second with a long queue a stream of large screens takes the whole rate, and a key is shown soon after."""
         free = {}
         begin = self.begin
 

@@ -1,4 +1,4 @@
-"""Commands in tmux's words, keys that a person has bound, and the command line."""
+"""Commands in tmux's words, the user's own keys, and the command line."""
 import pathlib
 import subprocess
 import unittest
@@ -19,7 +19,7 @@ from roam_live.input.keys import Keys
 
 TOP = pathlib.Path(__file__).resolve().parents[2]
 
-# Words, and what they ask for: acts, a wish, and a text.
+# Words, and their requests: acts, a word for the front end, and a text.
 ASKED = (
     ("splitw -h", [], "split right", ""), ("splitw", [], "split down", ""),
     ("split-window -v -c #{pane_current_path}", [], "split down", ""),
@@ -50,7 +50,7 @@ WRONG = (("kill-pane -t 3", "kill-pane: unknown flag -t"), ("killw -a", "killw: 
 
 
 def keys_of(text):
-    """The keys of bytes that a terminal sends."""
+    """Return the keys of bytes from a terminal."""
     keys = Keys()
     return keys.fed(text) + keys.ended()
 
@@ -63,7 +63,7 @@ class Table(unittest.TestCase):
             self.assertEqual(tuple(asked_by(words.split(" ")))[:3], (acts, wish, text), words)
 
     def test_begins(self):
-        """What a new pane or window begins with: the words of a command, a folder, a name, and whether one stays."""
+        """The start options of a new pane or window: the words of a command, a folder, a name, and the flag to stay."""
         for words, wish, begins in (
             ("splitw htop", "split down", (["htop"], "", "", False)),
             ("splitw -h htop -d 5", "split right", (["htop", "-d", "5"], "", "", False)),
@@ -84,7 +84,7 @@ class Table(unittest.TestCase):
             self.assertEqual(str(raised.exception), why)
 
     def test_defaults(self):
-        """Each key behind the prefix stands for a command, and the help has it."""
+        """Each default key runs a command, and the help lists it."""
         wishes = {key: asked.wish or asked.acts[0] for key, asked in defaults().items()}
         self.assertEqual(len(wishes), len(DEFAULT_KEYS))
         keys = ("%", "up", "prev", " ", "\x1a", "C-left", "o", "0", "/")
@@ -98,7 +98,7 @@ class Table(unittest.TestCase):
             self.assertIn(told, left.split(" ") if " " not in told else left, name)
 
     def test_pages(self):
-        """The page of settings and completion have what the table has."""
+        """The page of settings and the completion match the table."""
         run = subprocess.run([str(TOP / "tools/command_pages"), "--check"], stdout=subprocess.PIPE, check=False)
         self.assertEqual((run.returncode, run.stdout), (0, b""))
 
@@ -107,10 +107,10 @@ class Table(unittest.TestCase):
 
 
 class Bound(unittest.TestCase):
-    """Keys of a person's own."""
+    """The user's own key bindings."""
 
     def asked(self, own, text):
-        """What is asked for by what is typed."""
+        """Return the requests of input."""
         return PlayedModes(own=own).told(text)
 
     def test_rebound(self):
@@ -124,7 +124,7 @@ class Bound(unittest.TestCase):
             self.assertEqual(self.asked({("prefix", name): None}, b"\x02" + typed.encode())[-1], ([], "unknown"), key)
 
     def test_tables(self):
-        """A key of the root table needs no prefix; an unbound table has nothing but what is bound again."""
+        """A key of the root table needs no prefix; an unbound table has only later bindings."""
         own = {("root", "f5"): Binding([["next-window"]], False), ("prefix", "all"): None, ("prefix", "v"): Binding([["kill-pane"]], True)}
         self.assertEqual(self.asked(own, b"\x1b[15~a"), [([], "own root f5"), (["char 61"], "")])
         wishes = ["", "unknown", "", "own prefix v", "own prefix v", "", "unknown"]
@@ -139,14 +139,14 @@ class Bound(unittest.TestCase):
 
 
 class Line(Case):
-    """The command line, and what commands do."""
+    """The command line, and the effects of commands."""
 
     def setUp(self):
         self.loop, self.commands = Loop(), mock.Mock(**{"session.number": 2})
         self.runner = CommandRunner(mock.Mock(loop=self.loop, **{"commands.return_value": self.commands}), mock.Mock())
 
     def test_edited(self):
-        """Lines before are had by arrows, and names are completed as far as there is one way."""
+        """Arrows recall earlier lines, and names are completed as far as they are unique."""
         line = CommandLine(deque(["one", "two"]))
         for name, text in (("up", "two"), ("up", "one"), ("up", "one"), ("down", "two"), ("down", ""), ("n", "n"), ("e", "ne"),
                            ("\t", "ne"), ("w", "new"), ("\t", "new"), ("-", "new-"), ("\t", "new-window "), ("\x15", ""), ("é", "é"),
@@ -158,7 +158,7 @@ class Line(Case):
         self.assertEqual((line.text, line.line()), ("next; rename", ":next; rename"))
 
     def test_synchronized(self):
-        """Whether keys go to all panes is switched in the window, where it is another than it is; no other window has it then."""
+        """The switch for keys to all panes applies to the window, if it changes it; no other window has it then."""
         for was_on, line, is_switched in ((False, "setw synchronize-panes on", True), (True, "setw synchronize-panes on", False),
                                           (True, "setw synchronize-panes off", True), (True, "set -w synchronize-panes", True),
                                           (False, "setw synchronize-panes", True), (True, "setw -u synchronize-panes", True),
@@ -172,7 +172,7 @@ class Line(Case):
         self.commands.display.row.tell.assert_called_with("synchronize-panes is 'perhaps'; it may be on or off", 4.0)
 
     def test_done(self):
-        """Commands are done in order, up to one that can't be."""
+        """Commands run in order, up to one that fails."""
         self.runner.typed("splitw -h; send-keys 'a b' ; nosuch; killp")
         self.assertEqual([one.args[0] for one in self.runner.keyboard.grant.call_args_list], ["split right"])
         self.assertEqual([one.args for one in self.commands.type_key.call_args_list], [(["char 61", "char 20", "char 62"],)])
@@ -183,7 +183,7 @@ class Line(Case):
         self.assertEqual(len(self.runner.keyboard.grant.call_args_list), 1)
 
     def test_shell(self):
-        """The last line of what a shell says in the background is told, printable; nothing waits for it."""
+        """The last line of a background shell's output is shown, printable; nothing waits for it."""
         self.runner.typed("run -b 'echo one; printf \"two\\033[2J\"'")
         while not self.commands.display.row.tell.called:
             self.loop.turn()
@@ -192,7 +192,7 @@ class Line(Case):
         self.assertTrue(self.runner.runs[0].has_ended())
 
     def test_listed(self):
-        """All that a shell says is shown in a list; a single line, and where no list can be the last, is told."""
+        """A shell's whole output is shown in a list; a single line, and without a list the last one, as a message."""
         self.commands.lists.show_lines.return_value = True
         self.runner.typed("run 'echo \" one\"; printf \"two\\033\\tx\\n\\n\"'")
         while not self.commands.lists.show_lines.called:
@@ -209,7 +209,7 @@ class Line(Case):
         self.assertEqual(self.commands.lists.show_lines.call_count, 2)
 
     def test_told(self):
-        """A text is told with its formats filled; one of which roam hasn't all is refused."""
+        """A text is shown with its formats filled; one with unsupported parts is refused."""
         self.runner.settings.filled.side_effect = lambda text: text.replace("#S", "main")
         self.runner.typed("display '#S is it'")
         self.commands.display.row.tell.assert_called_once_with("main is it", 4.0)
@@ -218,7 +218,7 @@ class Line(Case):
         self.commands.display.row.tell.assert_called_with("roam does not support #{pid}", 4.0)
 
     def test_bound(self):
-        """Keys are bound and unbound at this terminal, beside those of the file; what can't be is told, and changes nothing."""
+        """Keys are bound and unbound at this terminal, in addition to those of the file; a failure is reported, and changes nothing."""
         self.addCleanup(OWN.__init__)
         OWN.found = FileSettings(commands=BY_NAME)
         OWN.found.bindings["prefix", "r"] = Binding([["kill-pane"]], False)
@@ -239,7 +239,7 @@ class Line(Case):
         self.assertEqual(OWN.found.bindings, {("prefix", "all"): None, ("root", "f5"): found["root", "f5"]})
 
     def test_set(self):
-        """An option is set at this terminal; one that can't be is told."""
+        """An option is set at this terminal; an invalid one is reported."""
         self.runner.typed("set -g nosuch 1")
         self.commands.display.row.tell.assert_called_with("nosuch is not an option of roam", 4.0)
         self.runner.settings.go_by.assert_not_called()

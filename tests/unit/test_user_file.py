@@ -1,4 +1,4 @@
-"""A person's settings file as a front end and the host go by it: options, what goes before them, and what stands in the last row."""
+"""The effects of a user's settings file on a front end and the host: options, their precedence, and the last row."""
 import os
 import unittest
 from unittest import mock
@@ -12,7 +12,7 @@ from roam_live.config.user_file import OWN, default_command, settings_path, undo
 from roam_live.frontend.display import Display
 from roam_live.frontend.settings import StatusRow, format_values
 
-# Lines of a file, a variable of the environment and its value, what is asked, and the answer.
+# Lines of a file, a variable of the environment and its value, the query, and the answer.
 CHOSEN = (
     ("set -g prefix C-a", {}, config_environment.chosen_prefix, "C-a"),
     ("set -g prefix C-a", {"ROAM_PREFIX": "C-x"}, config_environment.chosen_prefix, "C-x"),
@@ -46,7 +46,7 @@ class Own(Case):
         self.addCleanup(config_environment.choose_by_file, {})
 
     def read(self, text, **environment):
-        """Reads a file with this text."""
+        """Read a file with this text."""
         if text is not None:
             self.file.write_text(text)
         patched = mock.patch.dict(os.environ, {"XDG_CONFIG_HOME": str(self.folder), **environment})
@@ -57,13 +57,13 @@ class Own(Case):
         OWN.read()
 
     def test_chosen(self):
-        """An option does what it says, and what the environment says goes before it."""
+        """An option takes effect, and the environment has precedence."""
         for text, environment, asks, answer in CHOSEN:
             self.read(text, **environment)
             self.assertEqual(asks(), answer, (text, environment))
 
     def test_none(self):
-        """Where there is no file nothing is chosen or told; a folder of settings that isn't named from the top is none."""
+        """Without a file nothing is set or reported; a relative configuration folder is ignored."""
         self.read("set -g prefix C-a")
         self.file.unlink()
         self.read(None)
@@ -72,7 +72,7 @@ class Own(Case):
             self.assertEqual(settings_path(), "/home/a/.config/roam/roam.conf")
 
     def test_told(self):
-        """One line that isn't done is told as it is, of several how many there are."""
+        """A single unsupported line is shown literally, several as a count."""
         self.read("set -g prefix C-a\nfoo bar\n")
         self.assertEqual((OWN.line(), config_environment.chosen_prefix()), ("roam.conf:2: roam does not support foo", "C-a"))
         self.read("foo\nbind x nosuch\nbind y split-window -Q\nbind C-v split-window -h\n")
@@ -83,7 +83,7 @@ class Own(Case):
         self.assertEqual(OWN.line(), "good morning")
 
     def test_added(self):
-        """Another file is gone by too, and nothing of the first is lost that it doesn't say."""
+        """Another file is applied too, and everything of the first stays that it doesn't set."""
         self.read("set -g prefix C-a\nset -g mouse on\nbind x kill-pane\n")
         other = self.folder / "other.conf"
         other.write_text("set -g mouse off\nbind y next-window\nfoo\n")
@@ -95,7 +95,7 @@ class Own(Case):
         self.assertEqual(OWN.line(), "none: cannot be read: No such file or directory")
 
     def test_refused(self):
-        """A file that another may write is told of, and nothing of it done; nor is a value that can't be."""
+        """A file that others may write is reported, and nothing of it applies; neither does an invalid value."""
         self.file.write_text("set -g prefix C-a\n")
         self.file.chmod(0o666)
         self.read(None)
@@ -122,12 +122,12 @@ class Row(Case):
         self.addCleanup(config_environment.choose_by_file, {})
 
     def choose(self, left, right):
-        """Goes by formats."""
+        """Apply formats."""
         config_environment.choose_by_file({"status-left": left, "status-right": right})
         return self.row.choose()
 
     def test_ends(self):
-        """They stand before and behind the labels, in their styles; where there is less room they are cut."""
+        """They are before and after the labels, in their styles, and cut on a narrow terminal."""
         self.assertEqual(self.choose("[#S] ", " #[fg=red]#I:#W"), [])
         self.assertEqual(self.display.row.line(), "[main] [1]" + " " * 24 + " 2:vim")
         text = self.display.row.line_text(self.display.row.line(), 40)
@@ -153,21 +153,21 @@ class Row(Case):
         self.assertEqual((self.choose("", ""), self.display.row.line()), ([], "[1]" + " " * 37))
 
     def test_wrong(self):
-        """What isn't there in a format is told; a row without formats is as it always was."""
+        """Unsupported parts of a format are reported; a row without formats is unchanged."""
         self.assertEqual(self.choose("#(date)", ""), ["status-left: roam does not support #(date)"])
         self.choose("", "")
         self.assertEqual((self.display.row.status, self.display.row.line()), (None, "[1]" + " " * 37))
         self.assertEqual(self.display.row.parts[0] + [Styled("", "")], [Styled("", "")])
 
     def test_filled(self):
-        """A format alone is filled by the same values, without styles; what of it isn't there is told."""
+        """A format alone uses the same values, without styles; its unsupported parts are reported."""
         self.assertEqual(self.row.filled("#[fg=red]#S #I, #{window_name} 50% \x1b"), "main 2, vim 50% ?")
         with self.assertRaises(ValueError) as raised:
             self.row.filled("#S #{pane_pid}")
         self.assertEqual(str(raised.exception), "roam does not support #{pane_pid}")
 
     def test_clock(self):
-        """A clock of minutes is looked at once a minute, and none where there is none."""
+        """A clock of minutes is updated once a minute, and without a clock there are no updates."""
         with mock.patch("time.time", return_value=30.0):
             self.choose("%H:%M", "")
             self.assertIn("status", self.loop.due)

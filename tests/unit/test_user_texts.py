@@ -1,4 +1,4 @@
-"""What a user reads: the same sentences in `mux help`, --help, C-b ? and the man pages, and how plain README, guide and pages are."""
+"""Texts for users: the same sentences in `mux help`, --help, C-b ? and the man pages, and the plainness of README, guide and pages."""
 import importlib.machinery
 import importlib.util
 import pathlib
@@ -38,7 +38,7 @@ def plain_roff(text):
 
 
 class Same(unittest.TestCase):
-    """One sentence says what a command does, wherever that is read."""
+    """One sentence describes a command, in every place."""
 
     def test_mux(self):
         """`mux help` and roam-mux(1) have the sentence of each word's --help."""
@@ -50,7 +50,7 @@ class Same(unittest.TestCase):
                 self.assertEqual((name, sentence[:-1] in told, sentence[:-1] in page), (name, True, True))
 
     def test_keys(self):
-        """C-b ? and roam-mux(1) say of each key what the table of commands does."""
+        """C-b ? and roam-mux(1) describe each key like the table of commands."""
         page = (MAN / "roam-mux.1").read_text(encoding="utf-8")
         keys = plain_roff(page[page.index(".SH KEYS") : page.index(".SS The last row")])
         for words in DEFAULT_KEYS.values():
@@ -60,9 +60,9 @@ class Same(unittest.TestCase):
             self.assertEqual((name, does, does in flat(HELP), does in keys), (name, does, True, True))
 
 
-# ---- how plain it is
+# ---- plainness
 
-# Words that make a reader stop when they are said of software, or that have no antecedent; each has a standard term (docs/GLOSSARY.md).
+# Words that stop a reader when they are used of software, or that have no antecedent; each has a standard term (docs/GLOSSARY.md).
 FLAGS = re.compile(r"\b(?:tell|tells|told|telling|where|who|whoever|stand|stands|stood|standing|held|holds|hold|lies|lie|lain|to be had)\b"
                    r"|(?:^|[.:;] )[Ww]hat\b|\bwhat (?:is|was|stands|waits|comes|goes|came|has|they|it|a|the|panes)\b", re.M)
 LONGEST_SENTENCE, LONGEST_MEAN, MOST_FLAGS = 35, 17, 3
@@ -109,7 +109,7 @@ class Plain(unittest.TestCase):
     """README, guide and man pages are plain: short sentences, and standard words."""
 
     def test_plain(self):
-        """Of all pages together few words are flagged; no sentence of one is long."""
+        """All pages together have few flagged words; no sentence of one is long."""
         words = flagged = count = 0
         for path in TEXTS:
             text = path.read_text(encoding="utf-8")
@@ -121,7 +121,7 @@ class Plain(unittest.TestCase):
         self.assertLessEqual(words / count, LONGEST_MEAN)
 
     def test_messages(self):
-        """So are the messages of live/, as tools/user_messages lists them; lists of keys are no sentences."""
+        """The same holds for the messages of live/, as tools/user_messages lists them; lists of keys are no sentences."""
         lister = tool_module("user_messages")
         texts = [text for path in lister.files() for _, kind, text in lister.texts_in(path) if kind != "HELP"]
         found = [one for text in texts for one in sentences(text)]

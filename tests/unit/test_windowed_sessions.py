@@ -1,4 +1,4 @@
-"""Sessions with windows as commands find them: their folders, notes and names, and what is asked of their host."""
+"""Sessions with windows as commands find them: their folders, notes and names, and requests to their host."""
 import errno
 import fcntl
 import json
@@ -29,7 +29,7 @@ PLACES = Places({1: Rect(1, 1, 23, 80)}, 1, 1)
 
 
 class Sessions(Case):
-    """A folder of sessions, of which the processes are this one."""
+    """A folder of sessions, whose processes are this one."""
 
     def setUp(self):
         self.base = self.made_folder() / "roam"
@@ -41,14 +41,14 @@ class Sessions(Case):
         self.own = [os.getpid(), begun(os.getpid())]
 
     def noted(self, name, number=0, **processes):
-        """Notes processes of a session, or of a window of it."""
+        """Record processes of a session, or of a window of it."""
         folder = self.base / name / f"w/{number}" if number else self.base / name
         folder.mkdir(parents=True, exist_ok=True)
         (folder / "state.json").write_text(json.dumps({"version": WINDOWS_VERSION, **processes}), encoding="utf-8")
         return folder
 
     def session(self):
-        """A session of three windows, of which one has ended."""
+        """Return a session of three windows, one of which has ended."""
         self.noted("main", host=self.own)
         for number, server in ((2, self.own), (5, [1, 1]), (7, self.own)):
             self.noted("main", number, server=server)
@@ -56,11 +56,12 @@ class Sessions(Case):
 
 
 class Found(Sessions):
-    """How they are found."""
+    """Finding sessions."""
 
     def test_kinds(self):
         """A name is that of a session, and a folder that of a window: of a session's, or of one whose server was started by hand, which
-        is no session's."""
+        belongs to no session.
+        """
         self.assertIsInstance(session_named("new"), LocalSession)
         self.noted("main", host=self.own)
         (self.base / "main/clients").touch()
@@ -77,7 +78,7 @@ class Found(Sessions):
             session_named("a b")
 
     def test_windows(self):
-        """The windows are those whose servers run; where none is named it is that where somebody was last, else the first."""
+        """The windows are those whose servers run; the default is the one used last, else the first."""
         session = self.session()
         self.assertEqual([window.number for window in session.windows()], [2, 7])
         self.assertEqual((session.window(7).name, session.window().number, session.runs(), session.find()), ("main:7", 2, True, True))
@@ -93,8 +94,9 @@ class Found(Sessions):
             Window(self.base / "old").window(2)
 
     def test_spare(self):
-        """A server that only stands ready is no window, and can't be named: by its mark, or where that is lost by its environment, while
-        nobody has joined it."""
+        """A spare server is no window, and can't be named. It is recognized by its mark, or if that is lost by its environment, until it
+        becomes a window.
+        """
         session, server = self.session(), self.process(env={"ROAM_SPARE": "1"})
         folder = self.noted("main", 7, server=[server.pid, begun(server.pid)])
         comes(lambda: is_spare_server(server.pid))
@@ -111,7 +113,7 @@ class Found(Sessions):
         self.assertNotIn("2 windows", line_of(session))
 
     def test_held(self):
-        """Where neither notes nor sockets are left it is found by the process that holds its folder, and ended by that."""
+        """Without notes and sockets it is found by the lock on its folder, and can be ended."""
         folder = self.noted("main")
         (folder / "state.json").unlink()
         held = os.open(folder, os.O_RDONLY)
@@ -129,7 +131,7 @@ class Found(Sessions):
         self.assertEqual(near.process("relay"), os.getpid())
 
     def test_unreachable(self):
-        """A client that has had no socket for ten seconds is followed by another."""
+        """Another client replaces one without a socket for ten seconds."""
         session = self.session()
         window = session.window(2)
         self.noted("main", 2, server=self.own, client=self.own)
@@ -142,7 +144,7 @@ class Found(Sessions):
         self.assertTrue(window.has_client())
 
     def test_host_gone(self):
-        """Where its host has ended it is there while a server runs, and that is listed."""
+        """If its host has ended it exists while a server runs, and the list shows that."""
         session = self.session()
         self.noted("main", host=[1, 1])
         session.read()
@@ -154,7 +156,7 @@ class Found(Sessions):
         self.assertFalse(session.find() or session.runs())
 
     def test_line(self):
-        """Each window that has a name is listed by it, where there are several."""
+        """Each named window is listed by name, if there are several."""
         session = self.session()
         (self.base / "main/w/2/name").write_text("6162\n", encoding="ascii")
         (self.base / "main/w/7/name").write_text("1b5d\n", encoding="ascii")
@@ -166,7 +168,7 @@ class Found(Sessions):
         self.assertEqual(line_of(session, PLACES), "main         23 by 80     1 pane   0 terminals")
 
     def test_other_build(self):
-        """A line of `ls` and `mux upgrade` name another build by which a session was begun; this one, and an odd note, are not named."""
+        """A line of `ls` and `mux upgrade` name another build that started a session; this one, and an odd note, are not named."""
         session = self.session()
         begins = "main         23 by 80     2 panes  0 terminals, 2 windows: 2 7"
         for noted, told in ((identity(), ""), (7, ""), (None, ""), ("0.1.0 0123", ", runs roam 0.1.0 0123, which `mux upgrade` explains"),
@@ -184,7 +186,7 @@ class Found(Sessions):
         self.assertEqual(upgrade.report([])[1:], [upgrade.SAME])
 
     def test_ending(self):
-        """A window's end is on purpose where that was noted, beside others."""
+        """A window's end is intended if that was recorded, among others."""
         window = self.session().window(2)
         self.assertEqual(window.ending()[1], 1)
         window.note_end()
@@ -192,7 +194,7 @@ class Found(Sessions):
         self.assertEqual(window.ending(), ("[the session has ended]", 0))
 
     def test_busy(self):
-        """What runs in a window's panes is that window's."""
+        """The programs in a window's panes are that window's."""
         session = self.session()
         busy = {(str(self.base / "main/w/2"), 1): "vi", (str(self.base / "main/w/7"), 1): "top"}
         with mock.patch.object(foreground, "busy_programs", lambda host: busy):
@@ -203,7 +205,7 @@ class Found(Sessions):
             self.assertEqual((session.window(2).busy(), session.busy_programs()), (None, None))
 
     def test_clean(self):
-        """What one left that doesn't run goes, with its windows."""
+        """The rest of an ended one is removed, with its windows."""
         session = self.session()
         for number in (2, 5, 7):
             self.noted("main", number, server=[1, 1])
@@ -213,10 +215,10 @@ class Found(Sessions):
 
 
 class Unknown(Sessions):
-    """What can't be asked isn't taken for what isn't there."""
+    """An unknown state differs from absence."""
 
     def full(self):
-        """Has no descriptor be left for what follows."""
+        """Leave no free descriptor."""
         lowest = os.dup(0)
         os.close(lowest)
         before = resource.getrlimit(resource.RLIMIT_NOFILE)
@@ -225,7 +227,7 @@ class Unknown(Sessions):
         return lambda: resource.setrlimit(resource.RLIMIT_NOFILE, before)
 
     def test_noted(self):
-        """A session whose processes are noted runs, though none of them can be looked at."""
+        """A session with recorded processes runs, even if none of them can be checked."""
         session = self.session()
         again = self.full()
         found = session.find(), session.runs("host"), SessionFolder.runs(session, "host"), is_running(1 << 22, 1)
@@ -233,7 +235,7 @@ class Unknown(Sessions):
         self.assertEqual(found, (True, True, True, False))
 
     def test_unread(self):
-        """Where the note can't be read, or the folder, or a socket can't be asked, that is told, and nothing is removed."""
+        """An unreadable note or folder, or a socket that gives an error, is reported, and nothing is removed."""
         self.session()
         listener = self.listening(self.base / "main/w/2/clients")
         self.addCleanup(listener.close)
@@ -256,7 +258,7 @@ class Unknown(Sessions):
         self.assertFalse(is_listened(self.base / "none"))
 
     def test_front_ends(self):
-        """A session whose lock can't be asked may have front ends."""
+        """A session whose lock gives an error may have front ends."""
         folder = self.noted("main")
         (folder / "front_ends").touch()
         with mock.patch("os.open", side_effect=OSError(errno.EMFILE, "no descriptor")):
@@ -265,7 +267,7 @@ class Unknown(Sessions):
 
 
 class Launched(Sessions):
-    """How they are launched and ended, by processes that don't run here."""
+    """Starts and ends, with processes that don't run here."""
 
     def setUp(self):
         super().setUp()
@@ -279,14 +281,14 @@ class Launched(Sessions):
         self.new = session_named("new")
 
     def spawn(self, session, role, words):
-        """Notes what is spawned, but what can't be."""
+        """Record a spawned process, or refuse it."""
         if role == self.refused:
             raise Fault("it can't be had")
         self.spawned.append((role, words))
         session.state[role] = self.own
 
     def test_launched(self):
-        """The pty host is spawned first, and waits for the server of the first, in a folder of its own."""
+        """The pty host is spawned first, and waits for the first window's server, in a folder of its own."""
         self.new.launch(["vi", "x"])
         folder = self.base / "new/w/1"
         self.assertEqual(self.spawned, [
@@ -302,7 +304,7 @@ class Launched(Sessions):
         self.assertTrue(test())
 
     def test_half_way(self):
-        """Where the server can't be had all that was spawned is ended."""
+        """If the server fails all spawned processes are ended."""
         self.refused = "server"
         with self.assertRaisesRegex(Fault, "^it can't be had$"):
             self.new.launch()
@@ -310,7 +312,7 @@ class Launched(Sessions):
                                       ("new:1", "client")])
 
     def test_kept(self):
-        """The pty host is spawned where it doesn't run, and waited for until one is there, or a command has ended it."""
+        """The pty host is spawned if it doesn't run, and awaited until it is there, or a command has ended it."""
         session = self.session()
         session.demand_host()
         self.assertEqual(self.spawned, [])
@@ -332,7 +334,7 @@ class Launched(Sessions):
             self.assertEqual(self.waits[-1][1](), is_over)
 
     def test_revived(self):
-        """Nobody waits for another that spawns it, and one that has ended isn't begun again."""
+        """Nobody waits for another process that spawns it, and an ended one isn't started again."""
         session = self.session()
         self.noted("main", host=[1, 1])
         session.read()
@@ -344,7 +346,7 @@ class Launched(Sessions):
         self.assertEqual((session.revive_host(), self.spawned), (False, []))
 
     def test_answers(self):
-        """Where its note is lost it is known by who answers at its socket."""
+        """If its note is lost the process that answers at its socket identifies it."""
         session = self.session()
         self.noted("main")
         session.read()
@@ -354,7 +356,7 @@ class Launched(Sessions):
         self.assertEqual(session.state, {"version": WINDOWS_VERSION, "command": ["vi"], "host": self.own})
 
     def test_ends(self):
-        """The host is ended before what it left, and the windows that run are noted before."""
+        """The host is ended before its rest, and the running windows are recorded first."""
         session = self.session()
         session.end_all()
         roles = [(f"main:{number}", role) for number in (2, 5, 7) for role in ("server", "client")]
@@ -362,7 +364,7 @@ class Launched(Sessions):
         self.assertEqual((self.base / "main/ended").read_text(encoding="ascii"), f"{end_words(*self.own)}\n" * 2)
 
     def test_no_own(self):
-        """A window is opened by what keeps it, and what runs in its panes is known by that."""
+        """A window is opened by its host, which also knows its programs."""
         window = self.session().window(7)
         with self.assertRaisesRegex(Fault, "^session main: only its pty host opens windows$"):
             window.launch()
@@ -373,7 +375,7 @@ class Launched(Sessions):
 
 
 class Named(Sessions):
-    """What words mean in a pane."""
+    """The meanings of words in a pane."""
 
     def test_own(self):
         """Without a name the session is that of the pane, and without a number the window too, of this session alone."""
@@ -393,10 +395,10 @@ class Named(Sessions):
 
 
 class Near(Sessions):
-    """Windows of another machine's session, which its relay tells."""
+    """Windows of a remote session, as its relay reports them."""
 
     def near(self, *windows):
-        """What stands here for a session with windows."""
+        """Return the local end of a session with windows."""
         session = session_named("ssh:h:n")
         pathlib.Path(session.folder, "session").write_text("e\n", encoding="ascii")
         for number, name in windows:
@@ -411,7 +413,7 @@ class Near(Sessions):
         (self.base / "ssh:h:n").mkdir()
 
     def test_windows(self):
-        """They are those that are told, and the relay's own is the one that is meant where none is named."""
+        """They are the reported ones, and the default is the relay's own."""
         session = self.near((2, "d"), (5, "e"))
         (session.folder / "w/7").mkdir()
         self.assertEqual([window.number for window in session.windows()], [2, 5])
@@ -428,7 +430,7 @@ class Near(Sessions):
         self.assertEqual(os.listdir(session.folder), [])
 
     def test_by_hand(self):
-        """Of one that was begun by hand there is one."""
+        """A session started by hand has one."""
         session = self.near()
         self.assertEqual((session.windows(), session.window(), session.number), ([session], session, 0))
         session.await_windows(None, 0.0)
@@ -437,7 +439,7 @@ class Near(Sessions):
 
 
 class Asked(Sessions):
-    """What commands ask of a host, which is played."""
+    """Requests of commands to a simulated host."""
 
     def setUp(self):
         super().setUp()
@@ -450,7 +452,7 @@ class Asked(Sessions):
         self.host = None
 
     def comes(self, peer, seconds):
-        """Has the host tell what it answers next, to who waits for it no longer than he may."""
+        """Send the host's next answer to a waiting peer, within its time."""
         self.assertTrue(peer.fileno() >= 0 and 0 <= seconds <= cli_windows.ANSWERS)
         self.host = self.host or self.taken(self.listener)
         if self.answers:
@@ -458,14 +460,14 @@ class Asked(Sessions):
         return True
 
     def test_windows(self):
-        """Lines are taken in any chunks, and those that can't be are nothing."""
+        """Lines are taken in any chunks, and invalid ones are ignored."""
         odd = b"window x -\nwindow 3\nwindow \xc2\xb2 -\nwindow " + b"9" * 5000 + b" -\nwindow 100 -\n"
         self.answers = [b"window 1 -\nwin", b"dow 2 61\nactivity 2\n", odd, b"window 2 6162\n", b"windows 2\n"]
         self.assertEqual(windows_of(self.window), [(1, ""), (2, "ab")])
         self.assertEqual(read_now(self.host), b"windows\n")
 
     def test_programs(self):
-        """A window without a name is named by what runs in front in it, as in the last row, where that is told soon."""
+        """An unnamed window has the name of its foreground program, as in the last row, if that is reported soon."""
         self.patch_of(cli_windows, "RUNS_TOLD", 0.2)
         self.answers = [b"window 1 -\nwindow 2 6162\nwindows 2\n", b"runs 2 vi\nruns 9 x\nruns x y\nruns 1 less a\n"]
         self.assertEqual(windows_of(self.window, has_programs=True), [(1, "less a"), (2, "ab")])
@@ -474,7 +476,7 @@ class Asked(Sessions):
         self.assertEqual(windows_of(self.window, has_programs=True), [(1, "")])
 
     def test_listed(self):
-        """Each window has a line: its name, its size, its panes, and what runs there."""
+        """Each window has a line: its name, its size, its panes, and its programs."""
         self.patch_of(cli_windows, "RUNS_TOLD", 0.0)
         wide = Places({1: Rect(1, 1, 23, 39), 2: Rect(1, 41, 23, 40)}, 2)
         for number, places, busy, line in ((2, PLACES, {1: "vi"}, " 2 a?b              23 by 80     1 pane, vi in pane 1"),
@@ -487,7 +489,7 @@ class Asked(Sessions):
             self.assertEqual(self.text.getvalue().splitlines()[-1], line.replace("a?b", "a\u20acb"))
 
     def test_opened(self):
-        """A window is opened of the size of that at which it is asked for, and has a name where one is given."""
+        """A window is opened with the size of the requesting one, and its name if given."""
         self.patch_of(SessionFolder, "places", lambda session: Places({1: Rect(1, 1, 29, 100)}, 1))
         self.answers = [b"opened 4\n"]
         self.assertEqual(new_window(self.window, ""), 0)
@@ -502,7 +504,7 @@ class Asked(Sessions):
                 new_window(self.window, "")
 
     def test_renamed(self):
-        """It is waited until that window is told to have the name; one that is gone has none."""
+        """It waits until the window is reported with the name; one that is gone has none."""
         self.answers = [b"window 2 -\nwindows 1\n", b"window 7 63\ngone 7\n", b"window 2 6162\n"]
         self.assertEqual((rename(self.window, "ab"), self.answers), (0, []))
         self.assertEqual(read_now(self.host), b"windows\nname 2 6162\n")
@@ -512,11 +514,11 @@ class Asked(Sessions):
         self.assertEqual(read_now(self.host), b"windows\nname 2 -\n")
 
     def begin_shutting(self, *answers):
-        """The host answers that anew."""
+        """Send these answers of the host."""
         self.answers, self.host = [b"windows 1\n", *answers], None
 
     def test_shut(self):
-        """It is waited until nothing of the window is there, for so long."""
+        """The call waits until nothing of the window is left, up to a limit."""
         self.stop_clock()
         self.begin_shutting(b"gone 2\n")
         there = self.patch_of(cli_windows, "is_there", side_effect=[True, False])
@@ -529,7 +531,7 @@ class Asked(Sessions):
         self.assertAlmostEqual(self.now, 112.0, 1)
 
     def test_shut_last(self):
-        """Where it was the last the host may end before it tells that; where the window runs it is told that nobody answers."""
+        """If it was the last one the host may end before its report; if the window still runs, the missing answer is reported."""
         self.patch_of(cli_windows, "comes", lambda peer, seconds: bool(self.answers) and self.comes(peer, seconds))
         self.patch_of(cli_windows, "is_there", return_value=False)
         self.begin_shutting()
@@ -541,7 +543,7 @@ class Asked(Sessions):
             shut(self.window)
 
     def test_there(self):
-        """A window is there while its server and its folder are; another's server, of the same number, isn't it."""
+        """A window exists while its server and its folder do; another's server, of the same number, doesn't count."""
         self.assertTrue(is_there(self.window, os.getpid()))
         self.assertTrue(is_there(self.window, None))
         self.assertFalse(is_there(self.window, os.getpid() + 1))
@@ -549,7 +551,7 @@ class Asked(Sessions):
         self.assertFalse(is_there(self.window, os.getpid()))
 
     def test_one_window(self):
-        """The host of a session that was begun by hand has one window."""
+        """The host of a session started by hand has one window."""
         self.answers = [b"bad line\n"]
         with self.assertRaisesRegex(Fault, "^session main:2: it was started by hand and has one window$"):
             windows_of(self.window)
@@ -557,7 +559,7 @@ class Asked(Sessions):
         self.assertEqual(windows_of(self.window), [(1, "")])
 
     def test_clients(self):
-        """Terminals are told a line each; what a host tells is made harmless."""
+        """Terminals are printed a line each; the host's text is made harmless."""
         self.answers = [b"client 3 a:/dev/pts/1 24 80 2 0 read-write\nclient 4 b\x1b[c 24 80 2 0 read-write\n"
                         b"client 5 b 24 80 2 99999999999999999999 read-only\nclient 6 x\n"
                         b"client 7 b 24 80 2 " + b"9" * 5000 + b" read-write\nclients 4\n"]
@@ -570,7 +572,7 @@ class Asked(Sessions):
         self.assertEqual((len(lines), lines[1][:6], lines[1].endswith(" read-only")), (2, "  5 b ", True))
 
     def test_others(self):
-        """All who are there are told to leave, and who doesn't is told of."""
+        """All attached terminals are asked to detach, and the ones that stay are reported."""
         one = b"client 3 a:/dev/pts/1 24 80 2 0 read-write\nclients 1\n"
         for last, count in ((b"clients 0\n", 0), (one, 1)):
             self.answers = [one, b"left 3\n", last]
@@ -581,14 +583,14 @@ class Asked(Sessions):
             self.host = None
 
     def test_titles(self):
-        """A name that can't be one is refused before anything is asked."""
+        """An invalid name is refused before any request."""
         for name in ("x" * 65, "\u4e2d" * 40, "a\x1b", "\n"):
             with self.assertRaisesRegex(Fault, "at most 64 printable characters and 119 bytes"):
                 check_title(name)
         check_title("\u4e2d" * 39)
 
     def test_gone(self):
-        """A host that ends, or isn't there, is told of."""
+        """A host that ends, or isn't there, is reported."""
         asked = WindowsAsked(self.window)
         self.taken(self.listener).close()
         with self.assertRaisesRegex(Fault, "the pty host has ended$"):

@@ -1,4 +1,4 @@
-"""What a front end is told of windows, whatever a host, also one of another machine, says."""
+"""The reports of windows to a front end, with any lines of a host, even of another machine."""
 from aids import Case, StillLoop, read_now
 from roam_live.frontend.windows_client import WindowsState
 from roam_live.protocol.host_client import HostClient
@@ -6,27 +6,27 @@ from roam_live.protocol.host_link import HostLink
 
 LIST = ("window 1 -", "window 2 68c3a920", "window 10 1b5b324a0a", "windows 3")
 
-# Lines that tell nothing.
+# Lines that report nothing.
 ODD = ("window 0 -", "window 100 -", "window 1", "window 1 zz", "window 1 6", "window 1 " + "61" * 257, "gone 0", "gone", "gone 1 1",
        "bell 1 0", "bell 1", "bell 1 10", "activity", "runs 1", "runs 1 ", "windows", "windows 100", "window １ -", "opened 1", "")
 
 
 class Told(Case):
-    """What was told."""
+    """The reports."""
 
     def told(self, *lines):
-        """The windows that these lines tell."""
+        """Return the windows in these lines."""
         windows = WindowsState()
         for line in lines:
             windows.take(line)
         return windows
 
     def labels(self, windows, here=1, last=2):
-        """All windows as the last row has them."""
+        """Return the labels of all windows in the last row."""
         return [windows.label(number, here, last) for number in windows.numbers()]
 
     def test_names(self):
-        """A name is shown as it is harmless: escapes and line ends aren't."""
+        """A name is shown in harmless form: without escapes and line ends."""
         windows = self.told(*LIST)
         self.assertTrue(windows.is_whole)
         self.assertEqual(self.labels(windows), ["1*", "2:hé -", "10"])
@@ -34,14 +34,14 @@ class Told(Case):
         self.assertEqual(self.labels(self.told("window 1 -", "runs 1 a\x1b[2J\u202e")), ["1:a?[2J?*"])
 
     def test_flags(self):
-        """What happened in a window is told until the person is there."""
+        """Events in a window are shown until the user visits it."""
         windows = self.told(*LIST, "bell 2 1", "activity 2", "activity 10", "runs 1 vim", "runs 2 sh")
         self.assertEqual(self.labels(windows), ["1:vim*", "2:hé #!-", "10#"])
         windows.seen(2)
         self.assertEqual(self.labels(windows, here=2, last=1), ["1:vim-", "2:hé *", "10#"])
 
     def test_gone(self):
-        """One is gone that is told so, or isn't told anew behind a connection that was lost."""
+        """A window is gone if that is reported, or if it is missing after a lost connection."""
         windows = self.told(*LIST)
         self.assertEqual((windows.take("gone 2"), windows.take("gone 2"), windows.numbers()), ([2], [], [1, 10]))
         windows.begin()
@@ -49,7 +49,7 @@ class Told(Case):
         self.assertEqual(windows.numbers(), [1, 3])
 
     def test_odd(self):
-        """What can't be a line is none, and changes nothing."""
+        """An invalid line is none, and changes nothing."""
         windows = self.told(*LIST)
         for line in ODD:
             self.assertIsNone(windows.take(line), line)
@@ -60,7 +60,7 @@ class Linked(Case):
     """The connection."""
 
     def test_asks(self):
-        """It asks for the windows at each connection, and hands on what is told of the session together."""
+        """It requests the windows on each connection, and passes on the session's reports together."""
         folder, loop, heard, begun, lost = self.made_folder(), StillLoop(lambda: self.now), [], [], []
         listener = self.listening(folder / "host")
         link = HostLink(folder, loop, lambda: (24, 80), False)
@@ -84,8 +84,9 @@ class Linked(Case):
         link.end()
 
     def test_goes(self):
-        """Who goes to another window is there, and knows nothing of the others at the one before, even if told late; its zoom is told of
-        still."""
+        """A user who goes to another window is there, and forgets the terminals at the one before, even if reported late; its zoom is still
+        reported.
+        """
         folder, loop, noticed = self.made_folder(), StillLoop(lambda: self.now), []
         listener = self.listening(folder / "host")
         link = HostLink(folder, loop, lambda: (24, 80), False)

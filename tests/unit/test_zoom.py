@@ -1,4 +1,4 @@
-"""A pane that fills a person's terminal, and all ways in which that ends: against a session that is played with its layout."""
+"""A pane that fills a user's terminal, and all ends of that: at a simulated session with its layout."""
 import copy
 import unittest
 
@@ -14,17 +14,17 @@ from roam_live.protocol.zoom_record import MOST_ASKED, NO_ZOOM, ZoomNote, note_i
 from test_display import Person, PlayedHost
 
 class Zoomed(Attached):
-    """A person at a session that is played, with a pane that is zoomed or not."""
+    """A user at a simulated session, with a zoomed pane or without."""
 
     def grid(self, size=(24, 80)):
-        """A session of three panes, the second of them in focus."""
+        """Return a session of three panes, the second one focused."""
         session = Lived(*size)
         for act in ("split right", "split down", "focus 2"):
             session.do(act)
         return session
 
     def is_zoomed(self, pane):
-        """Whether a pane fills the terminal, and nothing else is shown."""
+        """Check that a pane fills the terminal, and nothing else is visible."""
         rect, (rows, cols) = self.session.rects()[pane], self.person.display.outer.size()
         part = f"part {rect.row - 1} {rect.col - 1} {rect.rows} {rect.cols}"
         return self.shown[-1] == part and (rect.rows, rect.cols) == (rows - 1,
@@ -35,8 +35,9 @@ class Back(Zoomed):
     """There and back."""
 
     def test_trees(self):
-        """The pane fills the terminal, or has all that the largest session gives it, and all panes are exactly where they were on the way
-        back."""
+        """The pane fills the terminal, or has the most that the largest session gives it, and afterwards all panes have exactly their old
+        positions.
+        """
         full = 0
         for size in ((24, 80), (50, 160)):
             for seed in range(40):
@@ -57,7 +58,7 @@ class Back(Zoomed):
         self.assertGreater(full, 50)
 
     def test_pushed(self):
-        """Where it isn't told how far a border is from the middle, the size is asked for again by what is told then."""
+        """If a border's shift from the middle is unknown, the size is requested again from the next report."""
         session = Lived()
         for act in ("split right", "split right", "focus 1", "grow 35"):
             session.do(act)
@@ -77,7 +78,7 @@ class Back(Zoomed):
         self.assertEqual(session.rects(), before)
 
     def test_held(self):
-        """From the key on until the pane alone is painted nothing that is painted reaches the terminal, and so on the way back."""
+        """From the key until the pane alone is painted no painting reaches the terminal, and the same on the way back."""
         self.attach(self.grid())
         person = self.person
         person.paints(23, 80, "before")
@@ -109,8 +110,7 @@ class Back(Zoomed):
         self.assertEqual(texts, ["\x1b[<0;1;1M", "\x1b[<0;80;23M"])
 
     def test_at_once(self):
-        """Behind a key that moves the focus the pane that comes into focus is zoomed, once it is told which that is; or that in focus,
-        where nothing is told."""
+        """After a key that moves the focus the newly focused pane is zoomed, once that is reported; or the focused one, without reports."""
         for keys, pane in ((b"\x02o\x02z", 3), (b"\x02%\x02z", 4), (b"\x02q1\x02z", 1)):
             self.attach(self.grid())
             self.types(keys)
@@ -129,7 +129,7 @@ class Back(Zoomed):
         self.assertTrue(self.person.commands.zooming.is_on())
 
     def test_blank(self):
-        """A pane that can't fill the terminal is shown alone all the same."""
+        """A pane that can't fill the terminal is still shown alone."""
         session = Lived(50, 160)
         for act in ("split right", "split right", "split right"):
             session.do(act)
@@ -139,17 +139,17 @@ class Back(Zoomed):
         self.assertEqual((session.places().size(), rect.cols, self.shown[-1]), ((50, 500), 62, f"part 0 {rect.col - 1} 49 62"))
 
     def test_copy_mode(self):
-        """Others' panes grow too, and nothing is typed for that."""
+        """Other panes grow too, without input."""
         self.attach(self.grid())
         self.types(b"\x02zls")
         self.assertEqual(self.heard, ["size 48 160", "char 6c", "char 73"])
 
 
 class Ends(Zoomed):
-    """Ways in which it ends."""
+    """The ends of a zoom."""
 
     def both(self, keys, *acts):
-        """What keys come to where a pane is zoomed: the same as these acts without that, at the session's own size."""
+        """Check that keys in a zoomed pane have the same result as these acts without a zoom, at the session's own size."""
         self.attach(self.grid())
         other = copy.deepcopy(self.session)
         self.types(b"\x02z")
@@ -163,7 +163,7 @@ class Ends(Zoomed):
                          keys)
 
     def test_keys(self):
-        """What this person does with panes is done at the session's own size."""
+        """This user's actions on panes are done at the session's own size."""
         for keys, acts in ((b"\x02%", ["split right"]), (b'\x02"', ["split down"]), (b"\x02xy", ["close"]), (b"\x02o", ["next"]),
                            (b"\x02q1", ["focus 1"]), (b"\x02\x1b[D", ["focus 1"]), (b"\x02\x1b[B", ["focus 3"]),
                            (b"\x02\x1b[1;5D", ["focus 1", "grow -1", "focus 2"]), (b"\x02\x1b[1;5B", ["grow 1"]),
@@ -171,13 +171,13 @@ class Ends(Zoomed):
             self.both(keys, *acts)
 
     def test_same_focus(self):
-        """What puts the focus where it is ends nothing, and neither does a key that is typed, or one that no pane takes."""
+        """An act that keeps the focus ends nothing, and neither does a typed key, or one that no pane takes."""
         self.attach(self.grid())
         self.types(b"\x02z\x02q2x\r\x02;")
         self.assertEqual((self.person.commands.zooming.is_on(), self.person.display.row.told), (True, "no other pane was active before"))
 
     def test_last(self):
-        """C-b ; goes to the pane that was in focus, as the focus was told."""
+        """C-b ; goes to the previously focused pane, by the reported focus."""
         self.attach(self.grid())
         self.types(b"\x02q1")
         self.types(b"\x02z")
@@ -190,7 +190,7 @@ class Ends(Zoomed):
         self.assertEqual(self.session.focus, 2)
 
     def test_others(self):
-        """What others do ends it: the size is given back, but where they gave another, which stays."""
+        """Actions of others end it: the size is restored, unless they changed it; then theirs stays."""
         for acts, size in ((["focus 1"], (24, 80)), (["next"], (24, 80)), (["split down"], (24, 80)), (["close"], (24, 80)),
                            (["grow 1"], (24, 80)), (["size 30 90"], (30, 90)), (["size 60 200"], (60, 200))):
             self.attach(self.grid(), host=PlayedHost(True))
@@ -201,7 +201,7 @@ class Ends(Zoomed):
                              (None, False, None), acts)
 
     def test_no_room(self):
-        """Where others have split so much meanwhile that the size isn't had again, that is told, and nothing is noted any more."""
+        """If others have split too much meanwhile for the old size, that is reported, and the record is dropped."""
         self.attach(self.grid())
         self.types(b"\x02z")
         self.session.do("split down")
@@ -218,7 +218,7 @@ class Ends(Zoomed):
         self.assertEqual((self.person.host.zoom, self.person.display.part.is_held), (None, False))
 
     def test_leaving(self):
-        """Who leaves gives the size back first."""
+        """A detach restores the size first."""
         self.attach(self.grid())
         self.types(b"\x02z\x02d")
         self.assertEqual(self.person.left, "[detached]")
@@ -227,7 +227,7 @@ class Ends(Zoomed):
         self.assertEqual((self.session.places().size(), self.person.commands.zooming.is_on()), ((24, 80), False))
 
     def test_parts_of_what_is_told(self):
-        """What is told of some panes before it is told of the others changes nothing."""
+        """A partial report of panes changes nothing."""
         self.attach(self.grid())
         self.person.keyboard.fed(b"\x02z")
         before, heard = self.session.rects(), self.person.said()
@@ -241,7 +241,7 @@ class Ends(Zoomed):
         self.assertTrue(self.is_zoomed(2))
 
     def test_never_comes(self):
-        """A size of which nothing comes is given up, once all was taken."""
+        """A size that never comes is given up, once all input was taken."""
         self.attach(self.grid())
         self.session.do = lambda act: None
         self.types(b"\x02z")
@@ -258,7 +258,7 @@ class Ends(Zoomed):
         self.assertFalse(self.person.display.part.is_held)
 
     def test_again(self):
-        """With another connection the size that is awaited is asked for again, there and back; where none is, none is."""
+        """On another connection the pending size is requested again, both for the zoom and its end; without one, none is."""
         self.attach(self.grid())
         for size, keys in (("size 48 160", b"\x02z"), ("size 24 80", b"\x02z")):
             self.person.commands.follower.request_again()
@@ -270,7 +270,7 @@ class Ends(Zoomed):
             self.assertEqual(self.heard[-1], size)
 
     def test_refused(self):
-        """What can't be zoomed is told."""
+        """An impossible zoom is reported."""
         for session, why in ((Lived(), "pane 1 is the only one, and fills the session"),
                              (self.grid((60, 200)), "cannot zoom: pane 2 has 29 by 100, more than this terminal")):
             self.attach(session, host=PlayedHost(True))
@@ -289,7 +289,7 @@ class Resized(Zoomed):
     """The terminal gets another size."""
 
     def test_alone(self):
-        """Who is alone and saw all of the session has it follow: the pane fills the other terminal, and the size is that one's then."""
+        """The session follows a lone terminal that showed all of it: the pane fills the new size, and later the session has that size."""
         for size in ((40, 132), (20, 60)):
             self.attach(self.grid(), folder=self.made_folder())
             self.types(b"\x02z")
@@ -302,7 +302,7 @@ class Resized(Zoomed):
             self.assertEqual(self.session.places(), other.places(), size)
 
     def test_others(self):
-        """Where others type the session has the size again that it had; a terminal that shows less than the pane then has no zoom."""
+        """If others type the session gets its old size back; a terminal smaller than the pane then has no zoom."""
         self.attach(self.grid(), host=PlayedHost(True))
         self.types(b"\x02z")
         self.person.resize(40, 132)
@@ -317,7 +317,7 @@ class Resized(Zoomed):
         self.assertIn("more than this terminal", self.person.display.row.told)
 
     def test_grown(self):
-        """A session that wasn't all shown grows to a terminal that is larger by now, where nobody else types."""
+        """A session that wasn't shown whole grows to a terminal that has grown meanwhile, if nobody else types."""
         self.attach(self.grid((30, 100)), (24, 80), folder=self.made_folder())
         self.types(b"\x02z")
         self.assertTrue(self.is_zoomed(2))
@@ -328,7 +328,7 @@ class Resized(Zoomed):
         self.assertEqual(self.session.places().size(), (50, 160))
 
     def test_behind_a_size(self):
-        """Behind a key that gives the session another size a pane is zoomed from there, whichever is told first."""
+        """After a key that resizes the session a pane is zoomed from that size, whichever report comes first."""
         self.attach(self.grid((24, 80)), (30, 100), PlayedHost(True))
         self.person.keyboard.fed(b"\x02r\x02z")
         for act in [line for line in self.person.said() if line.startswith("size")]:
@@ -340,7 +340,7 @@ class Resized(Zoomed):
         self.assertEqual(self.session.places().size(), (30, 100))
 
     def test_too_small(self):
-        """A terminal on which nothing is shown changes nothing."""
+        """A terminal too small to show anything changes nothing."""
         self.attach(self.grid())
         self.types(b"\x02z")
         self.person.resize(2, 30)
@@ -351,10 +351,10 @@ class Resized(Zoomed):
 
 
 class Noted(Zoomed):
-    """What the host is told, and what the next does."""
+    """The host's records, and the next front end's actions."""
 
     def test_told(self):
-        """It is told which size is to be had again before a larger one is asked for, and that it is over once that was had."""
+        """It records the size to restore before a larger one is requested, and drops it once that size is back."""
         self.attach(self.grid())
         self.person.keyboard.fed(b"\x02z")
         self.assertEqual((self.person.host.zooms, self.heard), (["24 80 48 160"], []))
@@ -365,7 +365,7 @@ class Noted(Zoomed):
         self.assertEqual(self.person.host.zooms, ["24 80 48 160", "None"])
 
     def test_killed(self):
-        """The next that edits gives the size back, where the session still has one of the zoom; a larger terminal grows it from there."""
+        """The next read-write one restores the size, if the session still has one of the zoom; a larger terminal grows it from there."""
         note = ZoomNote((24, 80), ((48, 161), (48, 160)))
         for own, has, types, after in (((24, 80), (48, 160), False, (24, 80)), ((24, 80), (48, 161), True, (24, 80)),
                                        ((24, 80), (48, 162), True, (48, 162)), ((60, 200), (48, 160), False, (60, 200)),
@@ -383,8 +383,9 @@ class Noted(Zoomed):
             self.assertEqual((session.places().size(), host.zooms[-1:]), (after, ["None"]), (own, has))
 
     def test_there(self):
-        """So does one that is there: at once where nobody else types, and else a moment later. Not while the one who made it is, nor one
-        that watches, nor where the size was changed since."""
+        """So does one that is attached: at once if nobody else types, and else a moment later. Not while the zoom's owner is there, nor a
+        read-only one, nor after another change of the size.
+        """
         note = ZoomNote((24, 80), ((48, 160),))
         for maker, is_read_only, types, changed, soon, after in (
                 (0, False, False, None, (24, 80), (24, 80)), (0, False, True, None, (48, 160), (24, 80)),
@@ -404,8 +405,9 @@ class Noted(Zoomed):
             self.assertEqual(session.places().size(), after, (maker, is_read_only, types, changed))
 
     def test_anothers_stays(self):
-        """Who comes while one is noted that was left, and sees the size of somebody else's, leaves that as it is: of whose it is the host
-        tells him maybe later than the panes are told."""
+        """A user who arrives while an abandoned zoom is recorded, and sees the size of somebody else's, keeps that size. The host may
+        report its owner after the panes.
+        """
         note = ZoomNote((24, 80), ((48, 160),))
         for is_told in (True, False):
             session = self.grid()
@@ -425,7 +427,7 @@ class Noted(Zoomed):
             self.assertEqual((session.places().size(), self.person.host.zooms), ((48, 160), []) if is_told else ((24, 80), ["None"]))
 
     def test_late(self):
-        """What who was killed typed last may come a moment after that is told; a size that this person gave meanwhile stays."""
+        """The last input of a killed front end may take effect a moment after that report; a size that this user set meanwhile stays."""
         note = ZoomNote((24, 80), ((48, 160),))
         for key, after in ((b"", (24, 80)), (b"\x02r", (48, 160))):
             self.attach(self.grid(), host=PlayedHost(True))
@@ -439,8 +441,9 @@ class Noted(Zoomed):
             self.assertEqual((self.session.places().size(), self.person.host.zooms[-1:]), (after, ["None"]), key)
 
     def test_anothers(self):
-        """A zoom of somebody else, to a size of one that was left and is noted still, isn't taken for that: the host tells of it by
-        another way than the panes are told, maybe later."""
+        """Somebody else's zoom to a size of an abandoned one that is still recorded isn't taken for that. The host reports it on another
+        connection than the panes, maybe later.
+        """
         note = ZoomNote((24, 80), ((48, 160),))
         for told, after in ((False, (24, 80)), (True, (48, 160))):
             self.attach(self.grid(), host=PlayedHost(True))
@@ -457,14 +460,14 @@ class Noted(Zoomed):
             self.person.loop.do_due()
             self.take()
             self.assertEqual((self.session.places().size(), self.person.host.zooms), (after, [] if told else ["None"]))
-        # Once that one is left too it has the size, at once where nobody else is left.
+        # Once that one is abandoned too it has the size, at once if nobody else is left.
         self.person.host.zoomed, self.person.host.types = (0, note), False
         self.person.commands.follower.others_told()
         self.take()
         self.assertEqual(self.session.places().size(), (24, 80))
 
     def test_host_awaited(self):
-        """While the host may be about to tell of another's zoom none is begun: it would give back that one's size."""
+        """While the host may be about to report another user's zoom none begins: it would restore that one's size."""
         for tells in (True, False):
             session = self.grid()
             session.do("size 48 160")
@@ -482,7 +485,7 @@ class Noted(Zoomed):
             self.assertEqual(self.person.commands.zooming.note.size, (24, 80) if tells else (48, 160))
 
     def test_lines(self):
-        """Lines that tell of a zoom, and those that don't."""
+        """Lines that report a zoom, and others."""
         note = ZoomNote((24, 80), ((48, 160),))
         for line, found in (("24 80 48 160", note), ("24 80", None), ("24 80 48", None), ("24 80 48 0", None), ("24 80 48 501", None),
                             ("24 80 201 160", None), ("", None), ("24 80 48 +1", None), ("24  48 160", None),
@@ -496,7 +499,7 @@ class Noted(Zoomed):
             self.assertEqual(zoomed_in(words), found)
 
     def test_host(self):
-        """The last one that was told of is noted, until who made it, or anybody once he has left, tells that it is over."""
+        """The last reported one is recorded until its owner, or anybody once the owner has left, reports its end."""
         noted = NotedZoom()
         self.assertEqual((noted.take(1, "zoom"), noted.take(1, "here x"), noted.take(1, "zoom 1"), noted.line()), (False,) * 3 + (NO_ZOOM,))
         self.assertTrue(noted.take(1, "zoom 24 80 48 160"))
@@ -507,8 +510,9 @@ class Noted(Zoomed):
         self.assertEqual((noted.line(), noted.take(3, "zoom none"), noted.line()), ("zoomed 0 24 80 50 170", True, NO_ZOOM))
 
     def test_host_sees(self):
-        """Once all is taken that was typed by who made it and has left it is noted no more where the session has another size, known now or
-        later, than it asked for; and another's is."""
+        """Once all input of a departed owner is taken, the record is dropped if the session has another size, known now or later, than
+        requested. Another user's record is dropped too.
+        """
         for size, later, line in ((None, None, "zoomed 0 24 80 50 170"), ((50, 170), None, "zoomed 0 24 80 50 170"),
                                   ((24, 80), None, NO_ZOOM), ((50, 170), (24, 80), NO_ZOOM), (None, (30, 90), NO_ZOOM)):
             noted = NotedZoom()

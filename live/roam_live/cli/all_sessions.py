@@ -1,4 +1,4 @@
-"""Words of `mux` about all sessions of this machine, and about roam itself."""
+"""Commands of `mux` on all sessions of this machine, and on roam itself."""
 from __future__ import annotations
 
 from roam_live.common.errors import Fault, say
@@ -12,7 +12,7 @@ if TYPE_CHECKING:
 
 
 def list_sessions(asked: Asked) -> int:
-    """Prints a line for each session that runs, and cleans up after those that don't."""
+    """Print a line for each running session, and clean up after ended ones."""
     from roam_live.session.survey import surveyed
 
     status = 0
@@ -31,7 +31,7 @@ def list_sessions(asked: Asked) -> int:
 
 
 def print_settings(asked: Asked) -> int:
-    """Tells where the settings file is looked for, and what of it isn't done; status 1 where something isn't."""
+    """Print the path of the settings file, and its unsupported parts. Return status 1 if there are some."""
     from roam_live.config.user_file import OWN, settings_path, undone
 
     OWN.read()
@@ -42,7 +42,7 @@ def print_settings(asked: Asked) -> int:
 
 
 def explain_upgrade(asked: Asked) -> int:
-    """Prints which sessions run another build, and what to do."""
+    """Print the sessions that run another build, and the steps to move them."""
     from roam_live.cli import upgrade
 
     for line in upgrade.report(session for session in sessions_here() if session.is_listed()):

@@ -1,4 +1,4 @@
-"""The words of a command line: the parser, and what a mistyped word means."""
+"""The arguments of a command line: the parser, and suggestions for mistyped words."""
 from __future__ import annotations
 
 import argparse
@@ -11,10 +11,10 @@ if TYPE_CHECKING:
 
     from roam_live.cli.words import PlainWords
 
-    # What the words behind a word of `mux` ask for: a value for each argument, by a parser or without one.
+    # The arguments of a command of `mux`: a value for each, from a parser or without one.
     Asked = Union[argparse.Namespace, PlainWords]
 
-# The commands of tmux 3.3a with their other names, and what does the same here: a word of mux, or a key; nothing where nothing does.
+# The commands of tmux 3.3a with their aliases, and the equivalent here: a command of mux, or a key; nothing if there is none.
 TMUX_TABLE = """
 attach-session attach at att a: mux attach NAME
 bind-key bind: bind in roam.conf
@@ -110,7 +110,7 @@ wait-for wait:
 
 
 def words_of(table: str) -> dict[str, str]:
-    """What does each word of a table here."""
+    """Return the equivalent of each word in a table."""
     lines = (line.partition(":") for line in table.strip().split("\n"))
     return {name: here.strip() for names, _, here in lines for name in names.split()}
 
@@ -118,13 +118,16 @@ def words_of(table: str) -> dict[str, str]:
 TMUX_WORDS = words_of(TMUX_TABLE)
 
 
-# In a word of fewer letters another letter makes another name: `net` is no slip of `new`. One too many or too few, or two turned round do.
+# In a word of fewer letters another letter makes another name: `net` is no typing error for `new`. A missing or extra letter, or two
+# swapped ones, may be.
 SHORT = 4
 
 
 def slips(word: str, name: str) -> int:
-    """How many slips make a name of a word: a letter too many or too few, another one, which in a short word counts as two, or two
-    neighbours turned round."""
+    """Return the number of typing errors that turn a word into a name.
+
+    One error is a letter too many or too few, two swapped neighbours, or another letter. That last one counts twice in a short word.
+    """
     other = 2 if len(word) < SHORT else 1
     before: list[int] = []
     row = list(range(len(name) + 1))
@@ -139,7 +142,7 @@ def slips(word: str, name: str) -> int:
 
 
 def told_of_tmux(name: str, called: str) -> str:
-    """What is told of a word of tmux, where mux is called so; nothing of another."""
+    """Return the hint for a word of tmux, if mux is called with it; nothing for another."""
     if name not in TMUX_WORDS:
         return ""
     here = TMUX_WORDS[name]
@@ -150,17 +153,17 @@ def told_of_tmux(name: str, called: str) -> str:
 
 
 def meant(name: str, words: list[str]) -> str:
-    """The one of some words that is meant by a name, which differs by a slip; none where it is a name."""
+    """Return the word that a name probably means, one typing error away; empty if the name is a word."""
     if len(name) < 2:
         return ""
-    # Of two letters there are many names: only those of a word of two are one.
+    # Two letters match too many names, so only words of two letters count.
     found = [(slips(word, name), place, word) for place, word in enumerate(words) if len(name) > 2 or len(word) == 2]
     near = [one for one in found if one[0] <= 1]
     return min(near)[2] if near else ""
 
 
 class WordParser(argparse.ArgumentParser):
-    """A parser whose refusals are printable, whatever the words are: names of files may have any bytes."""
+    """A parser whose error messages are printable, whatever the arguments are: file names may contain any bytes."""
 
     def error(self, message: str) -> NoReturn:
         super().error(printable(message))

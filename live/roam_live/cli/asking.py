@@ -1,4 +1,4 @@
-"""Words of `mux` that say or ask something of a session that runs, of a window of it or of a pane."""
+"""Commands of `mux` on a running session, or on a window or a pane of it."""
 from __future__ import annotations
 
 import os
@@ -13,28 +13,28 @@ if TYPE_CHECKING:
 
 
 def list_windows(asked: Asked) -> int:
-    """Prints a line for each window of a session."""
+    """Print a line for each window of a session."""
     from roam_live.cli import windows
 
     return windows.list_windows(window_named(asked.name)[0])
 
 
 def new_window(asked: Asked) -> int:
-    """Opens a window in a session, and prints its name."""
+    """Open a window in a session, and print its name."""
     from roam_live.cli import windows
 
     return windows.new_window(window_named(asked.name)[0], asked.title or "")
 
 
 def rename_window(asked: Asked) -> int:
-    """Gives a window a name."""
+    """Name a window."""
     from roam_live.cli import windows
 
     return windows.rename(window_named(asked.name)[0], asked.title or "")
 
 
 def command(asked: Asked) -> int:
-    """Does a command of tmux's words in a session."""
+    """Run a command with tmux's name in a session."""
     from roam_live.cli import cmd
 
     if not asked.words:
@@ -44,16 +44,16 @@ def command(asked: Asked) -> int:
 
 
 def list_clients(asked: Asked) -> int:
-    """Prints a line for each terminal at a session."""
+    """Print a line for each terminal at a session."""
     from roam_live.cli import windows
 
     return windows.list_clients(window_named(asked.name)[0])
 
 
 def send(asked: Asked) -> int:
-    """Types words into a session: keys and texts, characters alone, or acts."""
+    """Type words into a session: keys and texts, characters alone, or acts."""
     words = list(asked.words)
-    # Behind NAME they stand too, as behind tmux's `send-keys -t NAME`.
+    # They may follow NAME too, as in tmux's `send-keys -t NAME`.
     flags = {"-l": asked.is_plain, "-a": asked.has_acts}
     while words and words[0] in flags:
         flags[words.pop(0)] = True
@@ -76,7 +76,7 @@ def send(asked: Asked) -> int:
 
 
 def paste(asked: Asked) -> int:
-    """Pastes standard input into a session."""
+    """Paste standard input into a session."""
     from roam_live.cli import paste as cli_paste
 
     window, pane = window_named(asked.name)
@@ -84,7 +84,7 @@ def paste(asked: Asked) -> int:
 
 
 def capture(asked: Asked) -> int:
-    """Prints what a session shows, or a pane of it; where rows are named, or how they are printed, rows of a pane."""
+    """Print the screen of a session or of a pane. With a range or a form of rows, print rows of a pane."""
     window, pane = window_named(asked.name)
     has_rows = asked.begin is not None or asked.end is not None or asked.has_styles or asked.is_joined
     if has_rows and asked.is_drawn:
@@ -99,7 +99,7 @@ def capture(asked: Asked) -> int:
 
 
 def log(asked: Asked) -> int:
-    """Prints the rows of a pane as they come."""
+    """Print the rows of a pane as they come."""
     from roam_live.cli import scrollback
 
     window, pane = window_named(asked.name)
@@ -107,7 +107,7 @@ def log(asked: Asked) -> int:
 
 
 def keep_texts(asked: Asked) -> int:
-    """Lists, prints, sets or pastes buffers."""
+    """List, print, set or paste buffers."""
     from roam_live.cli import scrollback
 
     session, pane = window_named(asked.name)
@@ -123,7 +123,7 @@ def keep_texts(asked: Asked) -> int:
 
 
 def print_environment(asked: Asked) -> int:
-    """Prints what new panes of a session have of the last attach, for a shell."""
+    """Print for a shell the environment that new panes of a session have from the last attach."""
     from roam_live.session import environment
 
     session, _ = window_named(asked.name)

@@ -1,4 +1,4 @@
-"""Words of `mux` that begin a session and attach to one: of this machine, or of another over ssh."""
+"""Commands of `mux` that start a session and attach to one: of this machine, or of another over ssh."""
 from __future__ import annotations
 
 import os
@@ -23,7 +23,7 @@ if TYPE_CHECKING:
 
 
 def launched(session: SessionFolder) -> bool:
-    """Sees that a session runs with its shells, and tells whether it did before; its lock is held."""
+    """Check that a session runs with its pty host, and return False if it has to be started. The caller has its lock."""
     if not session.find():
         session.kill()
         return False
@@ -33,8 +33,7 @@ def launched(session: SessionFolder) -> bool:
 
 
 def begin(session: SessionFolder, command: list[str] | None = None) -> None:
-    """Launches a session with all that belongs to it, or nothing of it; its lock is held. Where the environment chooses what can't be it
-    refuses."""
+    """Start all processes of a session, or none of them. The caller has its lock. Invalid settings in the environment raise Fault."""
     OWN.read()
     chosen_history()
     with session.whole():
@@ -43,8 +42,8 @@ def begin(session: SessionFolder, command: list[str] | None = None) -> None:
 
 
 def demand_terminal() -> None:
-    """Refuses to attach where there is no terminal, or what the environment chooses can't be."""
-    # All that shows a window has to do with this terminal.
+    """Refuse to attach without a terminal, or with invalid settings in the environment."""
+    # Everything that shows a window needs this terminal.
     roam_bundle.load("first_painting")
     from roam_live.common.tty import demand_able
 
@@ -60,14 +59,14 @@ def demand_terminal() -> None:
 
 
 def demand_outside(session: SessionFolder) -> None:
-    """Refuses to show a session in a pane of its own, of whichever window."""
+    """Refuse to show a session in one of its own panes, in any window."""
     folder = own_pane()[0]
     if folder and is_in(folder, session):
         raise Fault(f"this is a pane of session {session.name}; a session cannot show itself")
 
 
 def enter(name: str, is_read_only: bool = False, prediction: str | None = None) -> int:
-    """Attaches to a session, which is launched where it isn't running."""
+    """Attach to a session, and start it if it isn't running."""
     demand_terminal()
     target = target_of(name)
     session = session_of(target)
@@ -83,7 +82,7 @@ def enter(name: str, is_read_only: bool = False, prediction: str | None = None) 
 
 
 def follow(session: SessionFolder, is_read_only: bool, prediction: str | None, is_new: Callable[[Places | None], bool]) -> int:
-    """Has a person follow a session, and tells the status. Of one that has ended then nothing is left."""
+    """Run the front end of a session, and return its status. Clean up if the session ended meanwhile."""
     from roam_live.frontend import follow as frontend
 
     status = frontend.follow(session, is_read_only, chosen_prefix(), chosen_prediction(prediction), is_new)
@@ -93,7 +92,7 @@ def follow(session: SessionFolder, is_read_only: bool, prediction: str | None, i
 
 
 def attach(asked: Asked) -> int:
-    """Attaches to a session that runs; where that is wanted all others leave it first."""
+    """Attach to a running session; on request detach all other terminals first."""
     session = running(asked.name)
     if asked.is_alone:
         from roam_live.cli import windows
@@ -107,7 +106,7 @@ def attach(asked: Asked) -> int:
 
 
 def demand_command(word: str) -> None:
-    """Refuses what is no command."""
+    """Refuse a word that is no command."""
     import shutil
 
     if not shutil.which(word):
@@ -115,7 +114,7 @@ def demand_command(word: str) -> None:
 
 
 def new(asked: Asked) -> int:
-    """Launches a session that isn't running, and attaches to it where that is wanted."""
+    """Start a session that isn't running, and attach to it unless it is to stay detached."""
     check_name(asked.name)
     if asked.command:
         demand_command(asked.command[0])
@@ -136,18 +135,18 @@ def new(asked: Asked) -> int:
 
 
 def refuse_detach(asked: Asked) -> int:
-    """Tells what leaves a session."""
+    """Refuse with the key that detaches."""
     raise Fault(f"press {chosen_prefix()} d in the front end to detach; the session keeps running")
 
 
 def watch(asked: Asked) -> int:
-    """Shows a session."""
+    """Show a session read-only."""
     running(asked.name)
     return enter(asked.name, True)
 
 
 def enter_far(asked: Asked) -> int:
-    """Attaches to a session of another machine, over ssh: by the relay and the client process that are there, or by new ones."""
+    """Attach to a remote session over ssh, by the existing relay and client process, or by new ones."""
     from roam_live.cli import ssh
 
     target = target_of(asked.name)
@@ -170,7 +169,7 @@ def enter_far(asked: Asked) -> int:
 
 
 def carry(asked: Asked) -> int:
-    """Carries a session's datagrams over standard input and output."""
+    """Relay a session's datagrams over standard input and output."""
     from roam_live.cli import ssh
 
     if os.isatty(0):

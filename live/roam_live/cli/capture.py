@@ -1,4 +1,4 @@
-"""The rows that a session shows, as the client process of this machine's terminals tells them, cell by cell."""
+"""The screen of a session, cell by cell, from the client process of this machine's terminals."""
 from __future__ import annotations
 
 import sys
@@ -17,13 +17,13 @@ if TYPE_CHECKING:
     from roam_live.protocol.panes import Rect
     from roam_live.session.folder import SessionFolder
 
-# So many seconds a screen is waited for, and so many pass until one is asked for again that the client hasn't heard of yet.
+# Seconds to wait for a screen, and seconds until a client without contact to the session is asked again.
 SCREEN_WAIT = 5.0
 AGAIN = 0.02
 
 
 def screen_told(link: ClientLink, end: float) -> bytes | None:
-    """The screen that was asked for, as its record has it; None where it isn't told until a moment."""
+    """Return the requested screen in the form of its record; None if it is late."""
     while time.monotonic() < end:
         records = link.exchanged()
         if records is None:
@@ -35,12 +35,12 @@ def screen_told(link: ClientLink, end: float) -> bytes | None:
 
 
 def is_heard(data: bytes) -> bool:
-    """Whether a screen is one of the session, which has a status row: until a client has heard of it all is blank there."""
+    """Return True if a screen shows a session, which has a status row. Until a client has contact with the session, that row is blank."""
     return any(screen_of(data).text())
 
 
 def asked_screen(link: ClientLink, asks: str) -> bytes:
-    """The screen that a line asks for; Fault tells why it can't be had."""
+    """Return the screen that a line requests; Fault gives the reason of a failure."""
     end, data = time.monotonic() + SCREEN_WAIT, None
     try:
         while True:
@@ -59,7 +59,7 @@ def asked_screen(link: ClientLink, asks: str) -> bytes:
 
 
 def capture(session: SessionFolder, is_drawn: bool, pane: int = 0) -> int:
-    """Prints what a session shows, or a pane of it, or a picture of that, and tells the status."""
+    """Print the screen of a session or of a pane, as text or as a picture, and return the status."""
     rect = pane_places(session, pane).rects[pane] if pane else None
     data = asked_screen(opened(session, True), "look sgr" if is_drawn else "look")
     if rect:
@@ -73,7 +73,7 @@ def capture(session: SessionFolder, is_drawn: bool, pane: int = 0) -> int:
 
 
 def pane_of(data: bytes, rect: Rect, pane: int) -> bytes:
-    """The part of a screen in which a pane stands: it may have another size by now than was told."""
+    """Return a pane's part of a screen. The screen may have changed its size since the pane's report."""
     from roam_live.protocol.screen_cells import part_of
 
     screen = screen_of(data)

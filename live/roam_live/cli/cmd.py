@@ -1,4 +1,4 @@
-"""`mux cmd`: a command of the table, done in a session from outside, as far as it isn't a terminal's own."""
+"""`mux cmd`: runs a command of the table in a session from outside, unless it needs a terminal."""
 from __future__ import annotations
 
 import os
@@ -12,14 +12,14 @@ if TYPE_CHECKING:
     from roam_live.protocol.spawn_request import Begins
     from roam_live.session.folder import SessionFolder
 
-# The acts of wishes that are done by acts alone.
+# The acts of requests that need nothing else.
 ACTS = {"split right": "split right", "split down": "split down", "close": "close"}
 
 OWN = "it concerns one terminal; use a key or C-b : there"
 
 
 def run(window: SessionFolder, pane: int, words: list[str]) -> int:
-    """Does a command in a window, of a pane where one is named, and tells the status. Fault tells what can't be done."""
+    """Run a command in a window, or for one of its panes, and return the status. Fault gives the reason of a failure."""
     try:
         asked = asked_by(words)
     except BadCommand as fault:
@@ -35,13 +35,13 @@ def run(window: SessionFolder, pane: int, words: list[str]) -> int:
 
 
 def placed(begins: Begins) -> Begins:
-    """What a new pane begins with, its folder as this process has it."""
+    """Return the start options of a pane with an absolute folder, by this process's working folder."""
     is_own = begins.folder and not begins.folder.startswith("~")
     return begins._replace(folder=os.path.abspath(begins.folder)) if is_own else begins
 
 
 def split(window: SessionFolder, pane: int, act: str, begins: Begins) -> int:
-    """Splits a pane, or that in focus, with a command in the new one, and ends once it has begun there."""
+    """Split a pane, by default the focused one, with a command in the new one, and return once it has begun there."""
     from roam_live.cli import send
     from roam_live.cli.targets import making_of, pane_places
     from roam_live.cli.windows import WindowsAsked
@@ -58,7 +58,7 @@ def split(window: SessionFolder, pane: int, act: str, begins: Begins) -> int:
 
 
 def changed(window: SessionFolder, asked: CommandWish, name: str) -> int:
-    """Does what is asked of a session's windows or terminals."""
+    """Carry out a request about a session's windows or terminals."""
     from roam_live.cli import windows
 
     if asked.wish == "window new":

@@ -10,7 +10,7 @@ if TYPE_CHECKING:
 
 
 def opened(session: SessionFolder, is_read_only: bool) -> ClientLink:
-    """Return a connection over which records come; Fault tells why none do."""
+    """Return a connection over which records arrive; Fault gives the reason of a failure."""
     link = ClientLink(session.terminals, is_read_only)
     link.connect()
     if link.begins(FIRST_WAIT):

@@ -1,4 +1,4 @@
-"""`mux kill`: ends a session, shuts a window, or closes a pane."""
+"""`mux kill`: ends a session, closes a window, or closes a pane."""
 from __future__ import annotations
 
 import os
@@ -16,8 +16,7 @@ if TYPE_CHECKING:
 
 
 def kill(asked: Asked) -> int:
-    """Ends a session, shuts a window or closes a pane; where something else than a shell runs there, or may, only once that is
-    confirmed."""
+    """End a session, close a window or close a pane. If a program other than a shell runs there, or may, ask first."""
     target = target_of(asked.name)
     session = running(asked.name)
     if target.pane:
@@ -29,7 +28,7 @@ def kill(asked: Asked) -> int:
         raise Fault(f"session {session.name} runs {lost}; `mux kill -f {session.name}` ends it")
     if lost and not confirmed(f"session {session.name} runs {lost}; end it? [y/N] "):
         return 1
-    # The lock is had once it has ended: who spawns what belongs to it has the lock, and sees that end.
+    # The lock is free once the session has ended: a process that spawns its processes has the lock until then.
     session.end_all()
     if session.runs():
         raise Fault(f"session {session.name} did not end")
@@ -40,7 +39,7 @@ def kill(asked: Asked) -> int:
 
 
 def shut(window: SessionFolder, is_forced: bool) -> int:
-    """Shuts a window; where something else than a shell runs there, or may, only once that is confirmed."""
+    """Close a window. If a program other than a shell runs there, or may, ask first."""
     from roam_live.cli import windows
     from roam_live.session.foreground import told
 
@@ -54,7 +53,7 @@ def shut(window: SessionFolder, is_forced: bool) -> int:
 
 
 def close(session: SessionFolder, pane: int, is_forced: bool) -> int:
-    """Closes a pane; where something else than a shell runs there, or may, only once that is confirmed."""
+    """Close a pane. If a program other than a shell runs there, or may, ask first."""
     from roam_live.cli.targets import close_pane, pane_places
     from roam_live.session.foreground import told
 
@@ -70,7 +69,9 @@ def close(session: SessionFolder, pane: int, is_forced: bool) -> int:
 
 
 def lost_with(session: SessionFolder) -> str:
-    """Which programs end with a session, in words; nothing where shells alone do, and of another machine's, since its relay alone ends."""
+    """Return the programs that end with a session, in words; nothing for shells alone, and for a remote session, of which only the relay
+    ends.
+    """
     from roam_live.session.foreground import told, told_in_windows
 
     busy = session.busy_programs()
@@ -80,6 +81,6 @@ def lost_with(session: SessionFolder) -> str:
 
 
 def confirmed(question: str) -> bool:
-    """Whether the person at standard input answers with yes."""
+    """Return True if the user at standard input answers yes."""
     print(printable(question), end="", file=sys.stderr, flush=True)
     return sys.stdin.readline().strip().lower() in ("y", "yes")

@@ -1,4 +1,4 @@
-"""What `mux help` prints."""
+"""The output of `mux help`."""
 
 HELP = """\
 mux [NAME] | COMMAND ..: terminal sessions that keep running when you leave.

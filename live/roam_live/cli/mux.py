@@ -1,4 +1,4 @@
-"""The tool `mux`: finds the word that is asked for, and imports what that needs."""
+"""The tool `mux`: finds the requested command, and imports the modules that it needs."""
 from __future__ import annotations
 
 import os
@@ -16,20 +16,20 @@ if TYPE_CHECKING:
 
     from roam_live.cli.args import Asked
 
-# How this tool was called, where a script called it.
+# The name of this tool in the script that called it, if any.
 CALLED = os.environ.pop("ROAM_CALLED", "")
 
-# So many unknown variables are named at most, and so many characters of each.
+# The most unknown variables in a message, and the most characters of each.
 MOST_UNKNOWN, LONGEST_UNKNOWN = 4, 40
 
 
 def called() -> str:
-    """The name by which this tool was called."""
+    """Return the name by which this tool was called."""
     return CALLED or os.path.basename(sys.argv[0])
 
 
 def explain(asked: Asked) -> int:
-    """Prints what all words do, or what one does."""
+    """Print the help of all commands, or of one."""
     if asked.word:
         print_help(asked.word)
     else:
@@ -48,14 +48,14 @@ def print_help(word: str) -> None:
 
 
 def demand_word(word: str) -> None:
-    """Refuse what is no word, with what may be meant."""
+    """Refuse an unknown word, with a suggestion."""
     if word not in WORDS:
         hint = hint_of(word) or f"{word!r} is not a command of mux"
         raise Fault(f"{hint}{' ' if hint.endswith('?') else '; '}`{called()} help` lists them")
 
 
 def parser_of(word: str) -> argparse.ArgumentParser:
-    """The parser of what follows a word."""
+    """Return the parser of a command's arguments."""
     from roam_live.cli.args import WordParser
 
     parser = WordParser(prog=f"{called()} {word}", description=sentence(WORDS[word].tells), allow_abbrev=False)
@@ -65,13 +65,15 @@ def parser_of(word: str) -> argparse.ArgumentParser:
 
 
 def plain_words(word: str, rest: list[str]) -> Asked | None:
-    """Return what is asked by a word without options, as most are; None if there are some, or it is asked for something else. argparse
-    takes longer to load than most words take in all."""
+    """Return the arguments of a word without options, as most calls have; None if there are options or help is requested.
+
+    argparse takes longer to load than most words take in all.
+    """
     arguments = [(names[0], more) for names, more in WORDS[word].arguments]
     takes = [(name, more) for name, more in arguments if not name.startswith("-")]
     found: dict[str, object] = {}
     if takes and takes[-1][1].get("nargs") == REST:
-        # All that follows the name, which may be options of another.
+        # Everything after the name, which may be options of another command.
         name, _ = takes.pop()
         found[name], rest = rest[len(takes) :], rest[: len(takes)]
     if len(takes) > 1 or len(rest) > len(takes) or any(text.startswith("-") for text in rest):
@@ -86,7 +88,7 @@ def plain_words(word: str, rest: list[str]) -> Asked | None:
 
 
 def asked_by(word: str, rest: list[str]) -> Asked:
-    """What is asked by a word and what follows it."""
+    """Return the arguments of a word from the command line."""
     if word == "ssh":
         from roam_live.cli.ssh import parted_options
 
@@ -98,7 +100,7 @@ def asked_by(word: str, rest: list[str]) -> Asked:
     if plain:
         return plain
     if word == "send":
-        # Behind the session all is typed: argparse would leave `--` out there.
+        # Everything after the session is typed literally: argparse would drop `--` there.
         end = next((place for place, text in enumerate(rest, 1) if not text.startswith("-")), len(rest))
         asked = parser_of(word).parse_args(rest[:end])
         asked.words = rest[end:]
@@ -107,7 +109,7 @@ def asked_by(word: str, rest: list[str]) -> Asked:
 
 
 def hint_of(name: str) -> str:
-    """What is told of a word that isn't mux's but tmux's, or nearly one of mux's; nothing of another."""
+    """Return the hint for a word of tmux, or for a mistyped word of mux; nothing for another."""
     from roam_live.cli.args import meant, told_of_tmux
 
     near = meant(name, [word for word in WORDS if word != "far"])
@@ -115,7 +117,7 @@ def hint_of(name: str) -> str:
 
 
 def refused(names: list[str]) -> str:
-    """Why words that begin with no word of mux name no session; nothing where they do. A session that runs has its name."""
+    """Return the reason that words without a command name no session; nothing if they do. A running session may have any name."""
     from roam_live.session.lookup import session_named
     from roam_live.session.names import is_name
 
@@ -132,7 +134,7 @@ def refused(names: list[str]) -> str:
 
 
 def variable_meant(name: str) -> str:
-    """Return the variable that an unknown one was probably meant to be, "" if none is near: what guesses is called prediction here."""
+    """Return the variable that an unknown one was probably meant to be, "" if none is near. A name with GUESS means predictions."""
     from roam_live.cli.args import meant
 
     from roam_live.config.environment import VARIABLES

@@ -1,4 +1,4 @@
-"""Texts that a command has typed into a session in one piece."""
+"""Texts that a command types into a session in one piece."""
 from __future__ import annotations
 
 import sys
@@ -21,13 +21,13 @@ TYPE_CHECKING = False
 if TYPE_CHECKING:
     from roam_live.session.folder import SessionFolder
 
-# So many seconds a host has for taking a connection, and something of a text, and for putting the text in the place of its placeholder.
+# Seconds for a host to accept a connection, to accept part of a text, and to insert the text at its placeholder.
 CONNECTS = 1.0
 TAKES = 10.0
 
 
 class PasteClient:
-    """A connection to the pty host, by which a text is given."""
+    """A connection to the pty host that stores a text."""
 
     def __init__(self, session: SessionFolder) -> None:
         self.session = session
@@ -37,12 +37,14 @@ class PasteClient:
         self.name = random_name()
 
     def fileno(self) -> int:
-        """Its descriptor."""
+        """Return its descriptor."""
         return self.peer.fileno()
 
     def answer(self, word: str) -> bool:
-        """Gives what waits, and tells whether it is answered by a word; False where the connection has ended, the text is lost, or the
-        host doesn't know what was said."""
+        """Send the waiting bytes, and return True if the answer is this word.
+
+        Return False if the connection has ended, the text is lost, or the host does not know the request.
+        """
         end = time.monotonic() + TAKES
         while time.monotonic() < end:
             events = ready(self, READ | WRITE if self.waiting else READ, end - time.monotonic())
@@ -64,19 +66,19 @@ class PasteClient:
         raise Fault(f"session {self.session.name}: the pty host did not accept the text")
 
     def is_buffer_stored(self, number: int) -> bool:
-        """Gives a buffer of the host's, and tells whether it holds that as a text."""
+        """Store one of the host's buffers as a text, and return True if that worked."""
         self.waiting += f"{led(SESSION, f'paste {self.name} buffer {number}')}\n".encode()
         return self.answer(STORED)
 
     def is_stored(self, data: bytes, is_plain: bool) -> bool:
-        """Gives a text, and tells whether the host holds it; False where none is there that takes any."""
+        """Send a text, and return True once the host has stored it; False if there is no host that accepts texts."""
         line = f"paste {self.name} {len(data)}{' plain' if is_plain else ''}"
         self.waiting += f"{led(SESSION, line)}\n".encode() + data
         return self.answer(STORED)
 
 
 def store_text(session: SessionFolder, data: bytes, is_plain: bool) -> PasteClient | None:
-    """The connection to a host that holds a text; None where none is there that takes any."""
+    """Return a connection to a host that has stored a text; None if there is no host that accepts texts."""
     try:
         client = PasteClient(session)
     except OSError:
@@ -88,8 +90,10 @@ def store_text(session: SessionFolder, data: bytes, is_plain: bool) -> PasteClie
 
 
 def type_text(session: SessionFolder, text: str, pane: int, is_plain: bool) -> int:
-    """Has a text typed, whole and at one place among all acts, into a pane or that in focus: between brackets where its program wants them
-    and it isn't plain. Where no host is there, as of a session that was begun by hand, it is typed as acts."""
+    """Type a text, whole and at one position among all acts, into a pane or the focused one.
+
+    It is bracketed if the program wants that and `is_plain` is False. Without a host, as in a session started by hand, it is typed as acts.
+    """
     focus = pane_places(session, pane).focus if pane else 0
     data = text.encode("utf-8", "replace")
     if not data:
@@ -105,7 +109,7 @@ def type_text(session: SessionFolder, text: str, pane: int, is_plain: bool) -> i
 
 
 def insert_text(session: SessionFolder, client: PasteClient, pane: int, focus: int) -> int:
-    """Has the placeholder typed of a text that the host holds, and returns once the text is put there."""
+    """Type the placeholder of a stored text, and return once the host has inserted the text."""
     type_lines(session, opened(session, False), lines_in_pane(placeholder_acts(client.name), pane, focus, "paste ; "))
     if not client.answer(INSERTED):
         raise Fault(f"session {session.name}: the pty host ended; nothing was typed")
@@ -113,7 +117,7 @@ def insert_text(session: SessionFolder, client: PasteClient, pane: int, focus: i
 
 
 def paste_buffer(session: SessionFolder, number: int, pane: int) -> int:
-    """Has a buffer of the host's pasted into a pane, or into that in focus."""
+    """Paste one of the host's buffers into a pane, by default the focused one."""
     focus = pane_places(session, pane).focus if pane else 0
     try:
         client = PasteClient(session)
@@ -125,7 +129,7 @@ def paste_buffer(session: SessionFolder, number: int, pane: int) -> int:
 
 
 def read_text(is_raw: bool) -> str:
-    """What of standard input is pasted: of control characters TAB and CR alone, and ESC where it is raw; then no bracket is left in it."""
+    """Return the part of standard input to paste: of control characters only TAB and CR, and ESC if `is_raw`. It contains no brackets."""
     data = sys.stdin.buffer.read(MOST_BYTES + 1)
     if len(data) > MOST_BYTES:
         raise Fault(f"a text has at most {MOST_BYTES >> 20} MB; nothing was typed")

@@ -1,5 +1,4 @@
-"""What commands ask of the rows that a session's pty host keeps, and of its buffers: `mux capture` of rows, `mux log`, and
-`mux buffer`."""
+"""Commands on scrollback rows and paste buffers of a session's pty host: `mux capture` of rows, `mux log`, and `mux buffer`."""
 from __future__ import annotations
 
 import os
@@ -26,22 +25,22 @@ if TYPE_CHECKING:
 
     from roam_live.session.folder import SessionFolder
 
-# So many seconds a host has for an answer, or a part of one.
+# Seconds for a host to send an answer, or a part of one.
 ANSWERS = 10.0
 
-# What names the first of all rows, or the last.
+# The name of the first or last of all rows.
 OUTERMOST = "-"
 
 NOT_KEPT = "session {}: pane {} has no stored rows; ROAM_HISTORY may be 0"
 NO_BUFFERS = "session {}: the pty host did not list its buffers"
 
-# What begins a style, and what may stand in one.
+# The start of a style, and the characters that it may contain.
 BEGIN = "\x1b["
 IN_STYLE = frozenset("0123456789;:")
 
 
 class RowsAsked:
-    """A connection to a session's host, by which rows and buffers are asked for one after the other."""
+    """A connection to a session's host, for sequential requests about rows and buffers."""
 
     def __init__(self, session: SessionFolder) -> None:
         self.session = session
@@ -53,17 +52,19 @@ class RowsAsked:
         self.waiting = bytearray()
 
     def fileno(self) -> int:
-        """Its descriptor."""
+        """Return its descriptor."""
         return self.peer.fileno()
 
     def take(self, line: str, data: bytes) -> bool:
-        """Has a question wait for the host."""
+        """Queue a request for the host."""
         self.waiting += f"{led(self.session.number, line)}\n".encode() + data
         return True
 
     def heard(self, seconds: float | None) -> list[Answer] | None:
-        """Gives what waits, and hears what is told within so many seconds, or at any time; None where the connection has ended. What
-        answers nothing that was asked is handed back."""
+        """Send the waiting bytes, and read answers within so many seconds, or forever; None if the connection has ended.
+
+        Answers without a request are returned.
+        """
         events = ready(self, READ | WRITE if self.waiting else READ, 3600.0 if seconds is None else seconds)
         if events & WRITE:
             write(self.fileno(), self.waiting)
@@ -76,7 +77,7 @@ class RowsAsked:
             raise Fault(f"session {self.session.name}: invalid answer from the pty host: {printable(str(fault))}") from fault
 
     def answer(self, ask: Callable[[Callable[[Any], object]], object]) -> Any:
-        """The answer to a question, which a call asks."""
+        """Return the answer to a request, which a call sends."""
         told: list[Any] = []
         ask(told.append)
         end = time.monotonic() + ANSWERS
@@ -91,7 +92,7 @@ class RowsAsked:
         return told[0]
 
     def snapshot(self, pane: int) -> Snapshot:
-        """A snapshot of a pane, or of that in focus."""
+        """Return a snapshot of a pane, by default the focused one."""
         number, generation = making_of(self.session, pane)
         found: Snapshot | None = self.answer(lambda told: self.link.snapshot(number, generation, told))
         if not found:
@@ -99,7 +100,7 @@ class RowsAsked:
         return found
 
     def rows(self, snapshot: Snapshot, first: int, end: int) -> list[bytes]:
-        """The next rows of a snapshot, from a number to before another: not all of them at once."""
+        """Return the next rows of a snapshot in a range, possibly fewer than all."""
         count = min(end - first, MOST_ROWS)
         found: list[bytes] = self.answer(
             lambda told: self.link.rows(snapshot.pane, snapshot.generation, first, count, lambda begin, rows: told(rows)))
@@ -110,7 +111,7 @@ class RowsAsked:
 
 
 def row_number(word: str | None, snapshot: Snapshot, default: int, outermost: int) -> int:
-    """The number of the row that a word names; one above or below all is the first, or the last."""
+    """Return the number of the row that a word names. One out of range is the first, or the last."""
     if word is None or word == OUTERMOST:
         return default if word is None else outermost
     digits = word.removeprefix("-")
@@ -120,7 +121,7 @@ def row_number(word: str | None, snapshot: Snapshot, default: int, outermost: in
 
 
 def capture_rows(session: SessionFolder, pane: int, begin: str | None, end: str | None, has_styles: bool, is_joined: bool) -> int:
-    """Prints rows of a pane, those of its screen where no others are named, and tells the status."""
+    """Print rows of a pane, by default those of its screen, and return the status."""
     asked = RowsAsked(session)
     snapshot = asked.snapshot(pane)
     last = snapshot.end + len(snapshot.screen) - 1
@@ -138,10 +139,10 @@ def capture_rows(session: SessionFolder, pane: int, begin: str | None, end: str 
 
 
 def log_rows(session: SessionFolder, pane: int, has_styles: bool, is_joined: bool) -> int:
-    """Prints each row of a pane as it leaves the screen, and what stands there where the pane ends, and tells the status then."""
+    """Print each row of a pane as it scrolls off, and the screen at the pane's end, and return the status then."""
     asked = RowsAsked(session)
     number, generation = making_of(session, pane)
-    # Nothing comes as long as nothing leaves, so it is seen first whether rows are kept.
+    # Without new rows there is no output, so check first if rows are stored at all.
     kept: tuple[int, int] | None = asked.answer(lambda told: asked.link.count(number, generation, told))
     if kept is None:
         raise Fault(NOT_KEPT.format(session.name, number))
@@ -153,7 +154,7 @@ def log_rows(session: SessionFolder, pane: int, has_styles: bool, is_joined: boo
             raise Fault(f"session {session.name}: the pty host has ended")
         for answer in told:
             if answer.words[:1] == [LOG]:
-                # It has ended, or had before it could be followed.
+                # It has ended, maybe before the subscription.
                 writer.end()
                 return 0
             first = number_at(answer.words, 3)
@@ -169,7 +170,7 @@ def log_rows(session: SessionFolder, pane: int, has_styles: bool, is_joined: boo
 
 
 def buffer_notes(asked: RowsAsked) -> list[BufferNote]:
-    """The buffers of a session, the newest first."""
+    """Return the buffers of a session, the newest first."""
     notes: list[BufferNote] | None = asked.answer(asked.link.buffers)
     if notes is None:
         raise Fault(NO_BUFFERS.format(asked.session.name))
@@ -177,7 +178,7 @@ def buffer_notes(asked: RowsAsked) -> list[BufferNote]:
 
 
 def buffer_number(asked: RowsAsked, word: str | None) -> int:
-    """The number of the buffer that a word names, or of the newest."""
+    """Return the number of the buffer that a word names, or of the newest."""
     if word is not None:
         if not (word.isascii() and word.isdigit() and len(word) <= 9):
             raise Fault(f"{word!r} is not a buffer's number; `mux buffer list {asked.session.name}` lists them")
@@ -189,14 +190,14 @@ def buffer_number(asked: RowsAsked, word: str | None) -> int:
 
 
 def list_buffers(session: SessionFolder) -> int:
-    """Prints a line for each buffer, the newest first."""
+    """Print a line for each buffer, the newest first."""
     for note in buffer_notes(RowsAsked(session)):
         print(f"{note.number}: {note.length} bytes: {printable(note.sample)}")
     return 0
 
 
 def show_buffer(session: SessionFolder, word: str | None) -> int:
-    """Prints a buffer, byte by byte; to a terminal its characters."""
+    """Print a buffer byte by byte, or to a terminal its characters."""
     asked = RowsAsked(session)
     number = buffer_number(asked, word)
     data: bytes | None = asked.answer(lambda told: asked.link.buffer(number, told))
@@ -210,7 +211,7 @@ def show_buffer(session: SessionFolder, word: str | None) -> int:
 
 
 def set_buffer(session: SessionFolder, text: str | None) -> int:
-    """Has a text kept as a buffer, or what is read from standard input."""
+    """Add a text as a paste buffer, by default from standard input."""
     data = sys.stdin.buffer.read(MOST_BUFFER + 1) if text is None else os.fsencode(text)
     if not 0 < len(data) <= MOST_BUFFER:
         raise Fault(BUFFER_TOO_LONG if data else BUFFER_EMPTY)
@@ -222,12 +223,12 @@ def set_buffer(session: SessionFolder, text: str | None) -> int:
 
 
 def put_buffer(session: SessionFolder, word: str | None, pane: int) -> int:
-    """Pastes a buffer into a pane, or into that in focus."""
+    """Paste a buffer into a pane, by default the focused one."""
     return paste_buffer(session, buffer_number(RowsAsked(session), word), pane)
 
 
 def text_of(row: bytes, has_styles: bool) -> str:
-    """The characters of a row, with its styles or without; what else stands there, as nothing may, isn't handed on."""
+    """Return the characters of a row, with or without styles. Anything else, which no row should contain, is dropped."""
     first, *parts = row[1:].decode("utf-8", "replace").split(BEGIN)
     found = [printable(first)]
     for part in parts:
@@ -240,15 +241,15 @@ def text_of(row: bytes, has_styles: bool) -> str:
 
 
 class RowWriter:
-    """Writes rows by a call, each as a line; where they are to be joined, one that went on and the next are one line."""
+    """Writes each row as a line by a call. With joining, a soft-wrapped row and the next one form one line."""
 
     def __init__(self, writes: Callable[[bytes], object], has_styles: bool, is_joined: bool) -> None:
         self.writes, self.has_styles, self.is_joined = writes, has_styles, is_joined
-        # Whether the last row goes on in the next, so that no line has ended.
+        # True if the last row is soft-wrapped, so that its line is still open.
         self.is_open = False
 
     def put(self, rows: Iterable[bytes]) -> None:
-        """Writes rows."""
+        """Write rows."""
         found = []
         for row in rows:
             self.is_open = self.is_joined and row[:1] == b"+"
@@ -256,7 +257,7 @@ class RowWriter:
         self.writes("".join(found).encode("utf-8", "replace"))
 
     def end(self) -> None:
-        """Ends the last line."""
+        """End the last line."""
         if self.is_open:
             self.is_open = False
             self.writes(b"\n")

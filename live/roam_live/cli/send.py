@@ -1,4 +1,4 @@
-"""Acts that are typed into a session by a command, all or none."""
+"""Acts that a command types into a session, all or none."""
 from __future__ import annotations
 
 import os
@@ -20,49 +20,49 @@ if TYPE_CHECKING:
     from roam_live.protocol.client_link import ClientLink
     from roam_live.session.folder import SessionFolder
 
-# So many seconds a session may take none of the acts that its client process was given.
+# Seconds in which a session has to take at least one of the acts sent to its client process.
 SEND_WAIT = 10.0
 
-# What was asked for before may not be told yet: for so many seconds it is looked again whether something can be done, this often.
+# The reports may not show the effect of earlier acts yet. The check repeats for so many seconds, this often.
 TOLD_WAIT = 1.0
 TOLD_STEP = 0.05
 
 
 class KnownPanes:
-    """What is known of a session's panes after each of some acts."""
+    """The known state of a session's panes after each of several acts."""
 
     def __init__(self, places: Places | None) -> None:
-        # Where nothing is told there is no pane here, and no act of one is refused.
+        # Without reports there is no pane here, and no act is refused.
         self.places = places = places or Places({}, 0)
-        # How many panes there are, and their numbers where these are known; and whether each has the place that was told.
+        # The number of panes; True if their reported positions are still current; and their numbers if known.
         self.count, self.is_told = len(places.rects), True
         self.panes: set[int] | None = set(places.rects)
 
     def wrong(self, act: str) -> str:
-        """Why an act can't be done; nothing where it can, or that isn't known. What is known goes by the act then."""
+        """Return the reason that an act is impossible, else nothing, and update the known state by the act."""
         word, *rest = act.split()
         if word == "size":
             self.is_told = False
             return wrong_size(*map(int, rest))
-        # The program has read the act: it has as many words as what does it takes.
+        # The program has parsed the act, so the number of words is right.
         does: dict[str, Callable[..., str]] = {"focus": self.focused, "split": self.split, "close": self.closed, "grow": self.grown,
                                                "next": self.passed}
         return does[word](*rest) if word in does and self.count else ""
 
     def focused(self, pane: str) -> str:
-        """Goes on with a pane in focus, or tells why it can't be."""
+        """Focus a pane, or return the reason of a failure."""
         if self.panes is not None and int(pane) not in self.panes:
             return f"there is no pane {pane}"
         self.places = self.places._replace(focus=int(pane))
         return ""
 
     def passed(self) -> str:
-        """Goes on with a pane in focus that isn't known."""
+        """Continue with an unknown focused pane."""
         self.places = self.places._replace(focus=0)
         return ""
 
     def split(self, way: str) -> str:
-        """Goes on with a pane more, which has the smallest free number and the focus, or tells why there can't be one."""
+        """Add a pane, with the smallest free number and the focus, or return the reason of a failure."""
         if self.count >= MOST_PANES:
             return f"a window has at most {MOST_PANES} panes"
         why = self.places.unsplit(way) if self.is_told else ""
@@ -76,7 +76,7 @@ class KnownPanes:
         return ""
 
     def closed(self) -> str:
-        """Goes on without the pane in focus, or tells that the last one stays. Which one has the focus then isn't known."""
+        """Remove the focused pane, or return an error for the last one. The next focused pane is unknown."""
         if self.count == 1:
             return "the last pane ends with its shell"
         if self.panes is not None:
@@ -85,27 +85,27 @@ class KnownPanes:
         return self.passed()
 
     def grown(self, _: str) -> str:
-        """Goes on with other places, or tells that the only pane has none but its own."""
+        """Mark the positions as outdated, or return an error for the only pane."""
         self.is_told = False
         return "there is only one pane" if self.count == 1 else ""
 
 
 def wrong_size(rows: int, cols: int) -> str:
-    """Why a session can't have a size; nothing where it can."""
+    """Return the reason that a session can't have a size; nothing if it can."""
     if LEAST[0] <= rows <= MOST[0] and LEAST[1] <= cols <= MOST[1]:
         return ""
     return f"a session has {LEAST[0]} to {MOST[0]} rows and {LEAST[1]} to {MOST[1]} columns"
 
 
 def wrong_in(acts: list[str], places: Places | None) -> str:
-    """Which of the acts can't be done where panes are at these places, and why; nothing where all can, as far as is known."""
+    """Return the first impossible act for panes at these positions, and the reason; nothing if all are possible, as far as is known."""
     layout = KnownPanes(places)
     found = ((act, layout.wrong(act)) for act in acts)
     return next((f"cannot do {act!r}: {why}" for act, why in found if why), "")
 
 
 def demand_acts(session: SessionFolder, acts: list[str]) -> None:
-    """Refuses what is no act, by a client process that takes no turn: the session never knows it."""
+    """Refuse invalid acts, by a client process that takes no turn. The session never hears of it."""
     import re
     import subprocess
 
@@ -119,7 +119,7 @@ def demand_acts(session: SessionFolder, acts: list[str]) -> None:
 
 
 def demand_doable(session: SessionFolder, acts: list[str]) -> None:
-    """Refuses acts of which one can't be done."""
+    """Refuse the acts if one of them is impossible."""
     end = time.monotonic() + TOLD_WAIT
     while True:
         wrong = wrong_in(acts, session.places())
@@ -131,7 +131,7 @@ def demand_doable(session: SessionFolder, acts: list[str]) -> None:
 
 
 def are_taken(link: ClientLink) -> bool:
-    """Gives a client what waits, and tells whether the session takes all of it: some within each ten seconds."""
+    """Send the waiting lines to a client, and return True if the session takes all of them, some in each ten seconds."""
     end, before = time.monotonic() + SEND_WAIT, link.taken
     while not link.is_done() and time.monotonic() < end:
         if link.exchanged() is None:
@@ -142,8 +142,10 @@ def are_taken(link: ClientLink) -> bool:
 
 
 def lines_in_pane(acts: list[str], pane: int, focus: int, leads: str = "") -> list[str]:
-    """The lines that type acts, so many in each as are typed together: of a pane that isn't in focus, which each has focused first, and the
-    one before again behind them, unless an act of them moves the focus. No pane is that in focus."""
+    """Return the lines that type acts, each with as many as are typed in one turn; pane 0 is the focused one.
+
+    For another pane, each line first focuses it and afterwards the previous one again, unless an act moves the focus.
+    """
     is_moved = any(act.split()[0] in MOVES for act in acts)
     begins = [f"focus {pane}"] if pane not in (0, focus) else []
     ends = [f"focus {focus}"] if begins and not is_moved else []
@@ -154,13 +156,13 @@ def lines_in_pane(acts: list[str], pane: int, focus: int, leads: str = "") -> li
 
 
 def type_lines(session: SessionFolder, link: ClientLink, lines: list[str]) -> None:
-    """Types lines of acts, and returns once the session has taken all of them."""
+    """Type lines of acts, and return once the session has taken all of them."""
     for line in lines:
         link.say(line)
     is_taken = are_taken(link)
     was_given, has_ended, why = not link.waiting, link.has_ended, link.loss()
     link.close()
-    # An act may have ended the session, before that it was taken came back.
+    # An act may have ended the session before its acknowledgement arrived.
     if is_taken or has_ended and was_given and not session.runs():
         return
     if has_ended:
@@ -169,17 +171,17 @@ def type_lines(session: SessionFolder, link: ClientLink, lines: list[str]) -> No
 
 
 def send_words(session: SessionFolder, words: list[str], pane: int = 0) -> int:
-    """Types keys by tmux's names, and any other word's characters, into a session, as `send` types acts."""
+    """Type keys by tmux's names, and any other word's characters, into a session, like `send` types acts."""
     try:
         acts = [act for word in words for act in acts_of_word(os.fsencode(word).decode("utf-8", "replace"))]
     except ValueError as fault:
         raise Fault(f"{fault}; nothing was typed") from None
-    # Those that keys and characters are don't have to be looked at.
+    # Acts made of keys and characters need no check.
     return type_acts(session, acts, pane)
 
 
 def send(session: SessionFolder, words: list[str], pane: int = 0) -> int:
-    """Types acts, and keys by tmux's names, into a session, in a pane where one is named, and ends once it has taken all of them."""
+    """Type acts, and keys by tmux's names, into a session or one of its panes, and return once the session has taken all."""
     acts = [act for word in words for act in acts_named(word) or [word.replace("\n", "\\n")]]
     if acts:
         demand_acts(session, acts)
@@ -187,7 +189,7 @@ def send(session: SessionFolder, words: list[str], pane: int = 0) -> int:
 
 
 def type_acts(session: SessionFolder, acts: list[str], pane: int) -> int:
-    """Types acts into a session, in a pane if one is named, and returns once it has taken all of them."""
+    """Type acts into a session, optionally into a pane, and return once it has taken all of them."""
     if not acts:
         raise Fault("there is nothing to type")
     focus = pane_places(session, pane).focus if pane else 0

@@ -1,4 +1,4 @@
-"""Sessions of other machines: `mux ssh` here, and what it runs there."""
+"""Sessions of other machines: `mux ssh` here, and its command there."""
 from __future__ import annotations
 
 import contextlib
@@ -24,26 +24,26 @@ if TYPE_CHECKING:
     from roam_live.cli.args import Asked
     from roam_live.protocol.panes import Places
 
-# The options of ssh that have a word behind them, and those of `mux ssh` itself.
+# The options of ssh with a value, and those of `mux ssh` itself.
 SSH_PAIRS = "BbcDEeFIiJLlmOoPpQRSWw"
 OWN_PAIRS = ("--ssh", "--far", "--predict")
 
-# So many seconds the other machine has for telling which windows there are: one that was begun by hand there tells none.
+# Seconds for the other machine to report its windows. A session started there by hand never reports any.
 TOLD_WAIT = 1.5
 
-# So many seconds ssh has for telling where it would go.
+# Seconds for ssh to report its destination.
 HOST_WAIT = 5.0
 
 
 def parted_options(words: list[str]) -> tuple[list[str], list[str]]:
-    """The words of `mux ssh` without the options that are for ssh, which stand before the host, and these."""
+    """Return the words of `mux ssh` without the ssh options before the host, and these options."""
     own: list[str] = []
     options: list[str] = []
     rest = list(words)
     while rest and rest[0].startswith("-"):
         word = rest.pop(0)
         is_own = word.startswith("--") or word == "-h"
-        # A letter that has a word behind it may have it at once, as -p22, and may stand behind others.
+        # An option letter with a value may include it, as in -p22, and may follow other letters.
         first = next((place for place, letter in enumerate(word) if letter in SSH_PAIRS), len(word))
         is_pair = word in OWN_PAIRS if is_own else first == len(word) - 1
         found = own if is_own else options
@@ -53,13 +53,15 @@ def parted_options(words: list[str]) -> tuple[list[str], list[str]]:
 
 
 def command_of(asked: Asked) -> list[str]:
-    """The command over which a session is carried, as the words of `mux ssh` say."""
+    """Return the command over which a session is relayed, from the arguments of `mux ssh`."""
     return [*shlex.split(asked.ssh), *asked.options, asked.host, f"{asked.far} far {asked.name}"]
 
 
 def host_of(asked: Asked) -> str:
-    """What ssh takes for the name or the address of the other machine; the word itself, without a user, where it doesn't tell in time, and
-    nothing where no UDP is wanted, for which it is."""
+    """Return the name or address of the other machine according to ssh.
+
+    Return the word itself without its user if ssh is late, and nothing if UDP is off, since only UDP needs it.
+    """
     if not wants_udp():
         return ""
     words = [*shlex.split(asked.ssh), "-G", *asked.options, asked.host]
@@ -73,7 +75,7 @@ def host_of(asked: Asked) -> str:
 
 
 def near_session(asked: Asked, command: list[str]) -> RemoteSession:
-    """What stands here for a session of another machine: one a host, a session, and a way to get there."""
+    """Return the local end of a remote session: one for each host, session, and ssh command."""
     place = f"ssh:{re.sub('[^A-Za-z0-9_.@-]', '_', asked.host)}:{asked.name}"
     plain = ["ssh", asked.host, f"roam-mux far {asked.name}"]
     if command != plain:
@@ -82,13 +84,16 @@ def near_session(asked: Asked, command: list[str]) -> RemoteSession:
 
 
 def is_first_client(places: Places | None) -> bool:
-    """Whether a session, as far as is told, never had a client process before that of this machine."""
+    """Return True if a session, as far as is reported, had no client process before this machine's."""
     return places is not None and places.clients <= 1
 
 
 def carry(name: str, launched: Callable[[SessionFolder], bool]) -> int:
-    """Carries a session's datagrams over standard input and output. One that the other end knew and that has ended isn't launched anew;
-    whether another runs, or was begun halfway, a call tells under its lock. What sshd set here is brought to the session."""
+    """Relay a session's datagrams over standard input and output.
+
+    If the near end knew a session that has ended, it is not started anew. Under the session's lock, a call checks whether another runs or
+    is half started. The session gets the environment that sshd set.
+    """
     wanted, target = read_greeting(0), target_of(name)
     check_name(target.name)
     session = session_of(target)

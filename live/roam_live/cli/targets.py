@@ -1,4 +1,4 @@
-"""A session, a window or a pane of one, as the words of `mux` name it: `NAME[:K][.P]`, of which each part may be missing."""
+"""A session, or a window or a pane of one, in the arguments of `mux`: `NAME[:K][.P]`, with each part optional."""
 from __future__ import annotations
 
 import os
@@ -16,18 +16,17 @@ if TYPE_CHECKING:
     from roam_live.protocol.panes import Places
     from roam_live.session.folder import SessionFolder
 
-# The name of a session, or of what stands here for one of another machine, which may be missing; a window of it, and a pane.
+# The name of a session, or the local name of a remote one, which may be missing; a window of it, and a pane.
 WORD = LazyPattern(r"(?a)(?P<name>ssh:[^:]+:[^:.]+(?::[0-9a-f]{8})?|[^:.]*)(?::(?P<window>[1-9]\d?))?(?:\.(?P<pane>[1-9]))?|:")
 
-# So many seconds a server has for closing a pane.
+# Seconds for a server to close a pane.
 CLOSES = 5.0
 
 NOWHERE = "name a session, since this is not a pane of one; `mux ls` lists them"
 
 
 class Target(NamedFields):
-    """A session's name, nothing where that in which this process runs is meant, and the numbers of a window and of a pane of it: None and
-    0 where none is named."""
+    """A session's name, empty for the session of this process, and numbers of a window and a pane: None and 0 if unset."""
 
     name: str
     window: int | None
@@ -35,7 +34,7 @@ class Target(NamedFields):
 
 
 def target_of(word: str) -> Target:
-    """What a word names: no name of a session of this machine has a colon or a dot."""
+    """Return the target in a word. Names of local sessions have no colon or dot."""
     found = WORD.fullmatch(word) if ":" in word or "." in word else None
     if not found:
         return Target(word, None, 0)
@@ -43,7 +42,7 @@ def target_of(word: str) -> Target:
 
 
 def session_of(target: Target) -> SessionFolder:
-    """The session that is named, or the one in which this process runs."""
+    """Return the named session, or the one of this process."""
     from roam_live.session.lookup import session_named, window_in
 
     folder = own_pane()[0]
@@ -55,25 +54,24 @@ def session_of(target: Target) -> SessionFolder:
 
 
 def window_of(session: SessionFolder, target: Target) -> SessionFolder:
-    """The window that is named of a session which runs: where none is, that in which this process runs, else that where somebody was
-    last."""
+    """Return the named window of a running session; by default the one of this process, else the one used last."""
     from roam_live.session.lookup import window_in
 
     folder = own_pane()[0]
     is_own = target.window is None and folder and is_in(folder, session)
     window = session.window(window_in(folder).number or None if is_own else target.window)
-    # Where there are no others it is told by the session's name alone.
+    # Without other windows, the session's name alone identifies it.
     window.name = window.name if len(session.windows()) > 1 else session.name
     return window
 
 
 def is_in(folder: str, session: SessionFolder) -> bool:
-    """Whether a folder is that of a session, or of a window of it."""
+    """Return True if a folder is that of a session or of one of its windows."""
     return os.path.abspath(folder) == str(session.folder) or os.path.abspath(folder).startswith(f"{session.folder}/w/")
 
 
 def pane_places(session: SessionFolder, pane: int) -> Places:
-    """Where the panes of a session are, of which one is named; Fault where that isn't told, or it isn't there."""
+    """Return the pane positions of a session, one of whose panes is named; Fault if they are unreported, or the pane is missing."""
     places = session.places()
     if places is None:
         raise Fault(f"session {session.name}: its server does not report its panes")
@@ -83,7 +81,7 @@ def pane_places(session: SessionFolder, pane: int) -> Places:
 
 
 def making_of(session: SessionFolder, pane: int) -> tuple[int, int]:
-    """A pane, or that in focus where none is named, and its life; Fault where that isn't told, or it isn't there."""
+    """Return a pane, by default the focused one, and its generation; Fault if they are unreported, or the pane is missing."""
     try:
         with connected_in(session.folder / "panes", ASKED) as peer:
             asked = AskedPanes(peer)
@@ -100,7 +98,7 @@ def making_of(session: SessionFolder, pane: int) -> tuple[int, int]:
 
 
 def wants_brackets(session: SessionFolder, pane: int) -> bool:
-    """Whether the program in a pane, or in the one in focus, is known to want what is pasted between brackets."""
+    """Return True if the program in a pane, or in the focused one, is known to use bracketed paste."""
     try:
         with connected_in(session.folder / "panes", ASKED) as peer:
             peer.send(f"{METADATA}\n".encode())
@@ -113,7 +111,7 @@ def wants_brackets(session: SessionFolder, pane: int) -> bool:
 
 
 def close_pane(session: SessionFolder, pane: int) -> None:
-    """Closes a pane; Fault tells why that can't be done."""
+    """Close a pane; Fault gives the reason of a failure."""
     try:
         with connected_in(session.folder / "panes", ASKED) as peer:
             asked = AskedPanes(peer)
@@ -129,7 +127,7 @@ def close_pane(session: SessionFolder, pane: int) -> None:
 
 
 def is_closed(asked: AskedPanes, pane: int, generation: str) -> bool:
-    """Whether that making of a pane is closed in time."""
+    """Return True if that generation of a pane closes in time."""
     end = time.monotonic() + CLOSES
     while time.monotonic() < end:
         lines = asked.heard(end - time.monotonic())
@@ -143,20 +141,20 @@ def is_closed(asked: AskedPanes, pane: int, generation: str) -> bool:
 
 
 def running(name: str) -> SessionFolder:
-    """The session that a word names, which runs."""
+    """Return the running session that a word names."""
     session = session_of(target_of(name))
     session.demand()
     return session
 
 
 def window_named(name: str) -> tuple[SessionFolder, int]:
-    """The window that a word names, of a session that runs, and the pane, or 0."""
+    """Return the window that a word names, of a running session, and the pane, or 0."""
     target = target_of(name)
     return window_of(running(name), target), target.pane
 
 
 def ready(session: SessionFolder) -> SessionFolder:
-    """A window of a session that runs, and whose client process for terminals does."""
+    """Return a window of a running session, after its client process is ready."""
     with session.locked():
         session.demand()
         session.note_found()

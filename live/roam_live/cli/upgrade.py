@@ -1,4 +1,4 @@
-"""`mux upgrade`: which sessions run another build of roam than this one, and what a person does about it."""
+"""`mux upgrade`: the sessions that run another build of roam, and the steps to move them."""
 from __future__ import annotations
 
 from roam_live.common.build_info import build
@@ -18,13 +18,13 @@ FRONT_END = "A terminal that was attached before the upgrade gets the new front 
 
 
 def again(session: SessionFolder) -> str:
-    """Return the commands that end a session and begin it again."""
+    """Return the commands that end and restart a session."""
     is_far = session.served == "relay"
     return f"  mux kill {session.name}" + ("; then `mux ssh` again" if is_far else f" && mux new {session.name}")
 
 
 def report(sessions: Iterable[SessionFolder]) -> list[str]:
-    """Return the lines that `mux upgrade` prints for sessions that run."""
+    """Return the lines that `mux upgrade` prints for running sessions."""
     others = [(session, session.other_build()) for session in sessions]
     lines = [f"this is {build().line()}"]
     lines += [printable(f"{session.name} runs roam {told}") for session, told in others if told]

@@ -1,4 +1,4 @@
-"""What commands ask of the host of a session's windows: which there are, one more, another name, an end; and who is there."""
+"""Commands on a session's windows and terminals, by way of the host: list, open, rename and close windows, and list or detach terminals."""
 from __future__ import annotations
 
 import os
@@ -23,17 +23,17 @@ if TYPE_CHECKING:
     from roam_live.protocol.spawn_request import Begins
     from roam_live.session.folder import SessionFolder
 
-# So many seconds the host has for taking a connection, and for what it is asked: a window has to be opened, or to end, in that time.
+# Seconds for the host to accept a connection, and to answer. A window has to open, or to end, in that time.
 CONNECTS = 1.0
 ANSWERS = 12.0
 
-# So many seconds what runs in windows is waited for: it is looked up once somebody asks.
+# Seconds to wait for the programs of windows, which are looked up on request.
 RUNS_TOLD = 0.5
 
-# So many seconds terminals that are told to leave have for that.
+# Seconds for terminals to detach on request.
 LEAVES = 5.0
 
-# A number of what is told has so many digits at most: it may come from another machine.
+# The most digits of a reported number, since reports may come from another machine.
 MOST_DIGITS = 20
 
 ONE_WINDOW = "session {}: it was started by hand and has one window"
@@ -52,15 +52,17 @@ class WindowsAsked:
             raise Fault(f"session {session.name}: {why}") from fault
 
     def say(self, line: str, data: bytes = b"") -> None:
-        """Says a line, and bytes behind it."""
+        """Send a line, and bytes after it."""
         try:
             self.peer.sendall(f"{led(self.session.number, line)}\n".encode() + data)
         except OSError as fault:
             raise Fault(f"session {self.session.name}: the pty host has ended") from fault
 
     def until(self, *begins: str, seconds: float = ANSWERS) -> list[str]:
-        """The words of the first line that begins with one of these, behind which others stay; Fault where none comes in time, or the
-        session was begun by hand and has one window."""
+        """Return the words of the first line with one of these beginnings, and keep later lines.
+
+        Fault if none comes in time, or the session was started by hand and has one window.
+        """
         end = time.monotonic() + seconds
         while True:
             while self.told:
@@ -77,8 +79,8 @@ class WindowsAsked:
             self.told += [parted(line)[1] for line in heard]
 
     def hand(self, beside: str, begins: Begins) -> str:
-        """Hands over what a new pane or window begins with, beside that making of a pane or as a window, and tells its name; Fault where it
-        isn't taken."""
+        """Send start options for a new window, or for a pane beside that pane generation, and return their name; Fault if they are refused.
+        """
         name, data = random_name(), begins.packed()
         self.say(f"{RAN} {name} {beside} {len(data)}", data)
         words = self.until(RAN)
@@ -87,7 +89,7 @@ class WindowsAsked:
         return name
 
     def rename(self, number: int, name: str) -> None:
-        """Gives a window a name, or none where that is empty; it has been asked for windows."""
+        """Name a window, or remove its name if `name` is empty. This connection has already subscribed to windows."""
         self.say(f"name {number} {name_word(name)}")
         while True:
             words = self.until(WINDOW, GONE)
@@ -97,7 +99,7 @@ class WindowsAsked:
                 return
 
     def clients(self) -> list[list[str]]:
-        """The words of the lines that tell which terminals are there, as far as they can be such, and of no more than can be there."""
+        """Return the words of each valid line about a terminal, up to the limit on terminals."""
         self.say(CLIENTS)
         found: list[list[str]] = []
         while True:
@@ -109,15 +111,14 @@ class WindowsAsked:
 
 
 def tells_terminal(words: list[str]) -> bool:
-    """Whether a line has the words of a terminal: its number, the terminal itself, its window and since when it is there."""
+    """Return True if a line describes a terminal: its number, the terminal itself, its window, and its arrival."""
     numbers = [words[1], *words[5:7]] if len(words) == 8 else [""]
     is_numbered = all(word.isascii() and word.isdigit() and len(word) <= MOST_DIGITS for word in numbers)
     return is_numbered and presence_in([*words[2:5], words[7]]) is not None
 
 
 def windows_of(session: SessionFolder, has_programs: bool = False) -> list[tuple[int, str]]:
-    """The windows of a session by their numbers, with the names that they have, or what runs there where that is asked; one that was
-    begun by hand has one."""
+    """Return the windows of a session by number, with their names, or on request with their programs. A session started by hand has one."""
     asked = WindowsAsked(session)
     found: dict[int, str] = {}
     asked.say(WINDOWS)
@@ -138,7 +139,7 @@ def windows_of(session: SessionFolder, has_programs: bool = False) -> list[tuple
 
 
 def with_programs(asked: WindowsAsked, found: dict[int, str]) -> None:
-    """Names the windows that have no name by what runs in front in them, as the last row does, as far as that is soon told."""
+    """Name unnamed windows after their foreground programs, like the last row, as far as the host soon reports them."""
     end = time.monotonic() + RUNS_TOLD
     while "" in found.values() and time.monotonic() < end:
         try:
@@ -151,7 +152,7 @@ def with_programs(asked: WindowsAsked, found: dict[int, str]) -> None:
 
 
 def list_windows(session: SessionFolder) -> int:
-    """Prints a line for each window of a session: its number, its name or what runs in front in it, its size, and its panes."""
+    """Print a line for each window of a session: its number, its name or foreground program, its size, and its panes."""
     from roam_live.session.foreground import told
 
     for number, name in windows_of(session, has_programs=True):
@@ -165,7 +166,7 @@ def list_windows(session: SessionFolder) -> int:
 
 
 def new_window(session: SessionFolder, name: str, begins: Begins | None = None) -> int:
-    """Opens a window of a session, of the size of that at which this is asked, that begins as is asked, and prints its number."""
+    """Open a window of a session, of the requesting window's size, with start options, and print its number."""
     check_title(name)
     places = session.places()
     asked = WindowsAsked(session)
@@ -184,13 +185,13 @@ def new_window(session: SessionFolder, name: str, begins: Begins | None = None) 
 
 
 def check_title(name: str) -> None:
-    """Refuses what can't name a window."""
+    """Refuse an invalid window name."""
     if not name.isprintable() or len(name) > LONGEST_NAME or len(name.encode("utf-8", "replace")) > LONGEST_BYTES:
         raise Fault(f"a window's name has at most {LONGEST_NAME} printable characters and {LONGEST_BYTES} bytes")
 
 
 def rename(window: SessionFolder, name: str) -> int:
-    """Gives a window a name, or none where that is empty."""
+    """Name a window, or remove its name if `name` is empty."""
     check_title(name)
     asked = WindowsAsked(window)
     asked.say(WINDOWS)
@@ -200,7 +201,7 @@ def rename(window: SessionFolder, name: str) -> int:
 
 
 def shut(window: SessionFolder) -> int:
-    """Shuts a window, and returns once nothing of it is there."""
+    """Close a window, and return once nothing of it is left."""
     server = window.process("server")
     asked = WindowsAsked(window)
     asked.say(WINDOWS)
@@ -221,14 +222,15 @@ def shut(window: SessionFolder) -> int:
 
 
 def is_there(window: SessionFolder, server: int | None) -> bool:
-    """Whether a window, or what is left of it, is there: another may have its number. Of another machine's the server isn't known here."""
+    """Return True if a window, or a rest of it, exists. Another window may reuse its number. The server of a remote window is unknown here.
+    """
     if server is None:
         return window.find()
     return window.process("server") in (server, None) and os.path.exists(window.folder)
 
 
 def list_clients(session: SessionFolder) -> int:
-    """Prints a line for each terminal at a session: its number, name, size, window, since when, and whether it watches."""
+    """Print a line for each terminal at a session: its number, name, size, window, arrival, and a mark if it is read-only."""
     for words in WindowsAsked(session).clients():
         since = time.strftime("%Y-%m-%d %H:%M", time.localtime(min(int(words[6]), 1 << 40)))
         watches = " read-only" if words[7] == "read-only" else ""
@@ -237,7 +239,7 @@ def list_clients(session: SessionFolder) -> int:
 
 
 def detach_others(session: SessionFolder) -> int:
-    """Has all terminals leave that are at a session, and returns once they did; tells how many stay."""
+    """Detach all terminals of a session, wait for that, and return how many remain."""
     asked = WindowsAsked(session)
     there = asked.clients()
     for words in there:

@@ -9,8 +9,7 @@ TYPE_CHECKING = False
 if TYPE_CHECKING:
     from roam_live.cli.words import Argument, Word
 
-# The width of the help if neither COLUMNS nor a terminal gives one, the last column in which the text of an argument may begin, and the
-# indent of its name.
+# The width of help without COLUMNS and a terminal, the last column in which an argument's text may begin, and the indent of its name.
 COLUMNS = 80
 MOST_BEGIN = 24
 INDENT = 2
@@ -19,7 +18,7 @@ HELP_NAMES, HELP_TEXT = "-h, --help", "show this help message and exit"
 
 
 def width_here() -> int:
-    """Return how many columns the help has."""
+    """Return the width of the help in columns."""
     told = os.environ.get("COLUMNS", "")
     if told.isdigit() and int(told):
         return int(told) - 2
@@ -30,7 +29,7 @@ def width_here() -> int:
 
 
 def wrapped(text: str, width: int) -> list[str]:
-    """Return a text as lines of so many columns, which end between words."""
+    """Return a text as lines of a width, with breaks between words."""
     lines: list[str] = []
     for word in text.split():
         if lines and len(lines[-1]) + 1 + len(word) <= width:
@@ -41,7 +40,7 @@ def wrapped(text: str, width: int) -> list[str]:
 
 
 def in_lines(parts: list[str], first: str, indent: str, width: int) -> list[str]:
-    """Return parts in lines of so many columns: the first begins with a text, each other with an indent."""
+    """Return parts in lines of a width: the first begins with a text, the others with an indent."""
     lines, line = [], first
     for part in parts:
         if len(line) + 1 + len(part) > width and line not in (first, indent):
@@ -52,14 +51,14 @@ def in_lines(parts: list[str], first: str, indent: str, width: int) -> list[str]
 
 
 def option_name(argument: Argument) -> str:
-    """Return an option as its help has it, with the name of its value."""
+    """Return an option in the form of its help, with the name of its value."""
     names, more = argument
     value = "" if "action" in more else f" {more['metavar']}"
     return ", ".join(f"{name}{value}" for name in names)
 
 
 def part_of(argument: Argument) -> str:
-    """Return an argument as the line of usage has it."""
+    """Return an argument in the form of the usage line."""
     names, more = argument
     if names[0].startswith("-"):
         return f"[{option_name((names[:1], more))}]"
@@ -68,7 +67,7 @@ def part_of(argument: Argument) -> str:
 
 
 def usage(program: str, arguments: tuple[Argument, ...], width: int) -> list[str]:
-    """Return the lines of usage: options stand before the rest."""
+    """Return the lines of usage: options precede the rest."""
     options = ["[-h]", *(part_of(one) for one in arguments if one[0][0].startswith("-"))]
     others = [part_of(one) for one in arguments if not one[0][0].startswith("-")]
     begin = f"usage: {program} "
@@ -92,7 +91,7 @@ def section(title: str, rows: list[tuple[str, str]], begin: int, width: int) -> 
 
 
 def help_of(program: str, name: str, word: Word) -> str:
-    """Return the help of a word. `program` is the name by which mux was called."""
+    """Return the help of a command. `program` is the name by which mux was called."""
     width = width_here()
     others = [(str(more["metavar"]), str(more.get("help", ""))) for names, more in word.arguments if not names[0].startswith("-")]
     options = [(HELP_NAMES, HELP_TEXT)]

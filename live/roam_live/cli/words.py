@@ -1,4 +1,4 @@
-"""The words of `mux`: what each does, its help, and its arguments."""
+"""The commands of `mux`: the function of each, its help, and its arguments."""
 from __future__ import annotations
 
 import roam_bundle
@@ -12,12 +12,12 @@ if TYPE_CHECKING:
 
     from roam_live.cli.args import Asked
 
-    # An argument of a word: its names, and what else argparse takes of it by name, which is of many types.
+    # An argument of a command: its names, and argparse's named parameters, of many types.
     Argument = tuple[tuple[str, ...], dict[str, Any]]
 
 
 class PlainWords:
-    """What is asked by words that need no parser: a value for each argument, as `argparse.Namespace` has them."""
+    """The arguments of words that need no parser: a value for each, in the form of `argparse.Namespace`."""
 
     def __init__(self, values: dict[str, object]) -> None:
         self.__dict__.update(values)
@@ -29,14 +29,13 @@ class PlainWords:
 
 
 class Word:
-    """A word of mux: the module of `roam_live.cli` and the function there that does it, what its help says, and its arguments, each as
-    argparse takes it."""
+    """A command of mux: the module of `roam_live.cli` and the function there, its help, and its arguments in argparse's form."""
 
     def __init__(self, function: str, tells: str, arguments: tuple[Argument, ...] = ()) -> None:
         self.function, self.tells, self.arguments = function, tells, arguments
 
     def does(self, asked: Asked) -> int:
-        """Do what is asked for, and return the status. Only what this word needs is imported."""
+        """Run the command, and return its status. Import only the modules that it needs."""
         module, _, name = self.function.partition(".")
         roam_bundle.load(module)
         does: Callable[[Asked], int] = getattr(__import__(f"roam_live.cli.{module}", fromlist=(name,)), name)
@@ -49,14 +48,14 @@ def sentence(text: str) -> str:
 
 
 def argument(*names: str, **more: Any) -> Argument:
-    """An argument of a word."""
+    """Return an argument of a command."""
     return names, more
 
 
-# All that follows, as argparse has it.
+# All remaining arguments, in argparse's notation.
 REST = "..."
 ONE = argument("name", metavar="NAME")
-# In a pane the session is its own where none is named.
+# In a pane the default session is the pane's own.
 ONE_OR_OWN = argument("name", metavar="NAME", nargs="?", default="")
 ONE_OR_PANE = argument("name", metavar="NAME[:K][.P]")
 PANE_OR_OWN = argument("name", metavar="NAME[:K][.P]", nargs="?", default="")

@@ -1,4 +1,4 @@
-"""Which build of roam this is: its version, its commit, and the kit that proved it.
+"""The build of this roam: its version, its commit, and the kit that proved it.
 
 An installed roam has a file `build_info` beside its tools, which `make install` and the packages write. A clone has the file VERSION at its
 top, and git.
@@ -13,7 +13,7 @@ from roam_live.common.text import printable
 INSTALLED = TOOLS / "build_info"
 CLONE = TOOLS.parent
 
-# A value of the file has so many characters at most, and a command so many seconds.
+# The most characters of a value in the file, and the most seconds of a command.
 LONGEST = 100
 WAIT = 5.0
 
@@ -29,7 +29,7 @@ class BuildInfo(NamedFields):
     gate: str = UNKNOWN
 
     def line(self) -> str:
-        """Return what `--version` prints."""
+        """Return the output of `--version`."""
         return f"roam {self.version} (commit {self.commit}, {self.kit.split(' ')[0]})"
 
 
@@ -39,7 +39,7 @@ def word_of(text: str) -> str:
 
 
 def in_file() -> BuildInfo:
-    """Return what the file of an installed roam says. OSError if there is none."""
+    """Return the build that an installed roam records in its file; OSError if there is no file."""
     lines = INSTALLED.read_text(encoding="ascii", errors="replace").splitlines()
     words = (line.partition(" ") for line in lines)
     return BuildInfo(**{name: word_of(value) for name, _, value in words if name in BuildInfo._fields})
@@ -65,7 +65,7 @@ def version() -> str:
 
 
 def build() -> BuildInfo:
-    """Return all that is known of this build. In a clone git and the kit are asked."""
+    """Return the known facts about this build. In a clone they come from git and the kit."""
     with suppress(OSError):
         return in_file()
     commit = said_by("git", "-C", str(CLONE), "rev-parse", "--short=12", "HEAD")
@@ -73,7 +73,7 @@ def build() -> BuildInfo:
 
 
 def identity() -> str:
-    """Return what tells two installed builds apart, a word or two: the version, and the commit if a file has it."""
+    """Return a word or two that identify an installed build: the version, and the commit if a file records it."""
     with suppress(OSError):
         found = in_file()
         return found.version if found.commit == UNKNOWN else f"{found.version} {found.commit}"

@@ -16,42 +16,42 @@ if TYPE_CHECKING:
     from collections.abc import Callable
     from typing import NoReturn
 
-# The variable by which a program is asked to tell why it ended. What runs in a pane isn't asked so.
+# This variable asks a program to print why it ended. roam removes it from the environment of panes.
 ASKS_WHY = "ROAM_WHY"
 
-# The logs that take the whole of what a tool didn't foresee: that of its session, once it is known.
+# The log files that receive full tracebacks: that of the session, once it is known.
 logs: list[str] = []
 
 
 class Fault(Exception):
-    """What went wrong, as one line."""
+    """An error with a message of one line for the user."""
 
 
 def tool_name() -> str:
-    """The name under which this tool was spawned."""
+    """Return the name under which this tool was spawned."""
     return os.path.basename(sys.argv[0])
 
 
 def say(line: str) -> None:
-    """Says a line on standard error, which may be full or gone, or a log that is to stay small."""
+    """Print a line on standard error, which may be full or gone, or a log that has to stay small."""
     make_room_in_logs(len(line))
     with suppress(OSError, ValueError):
         print(f"{tool_name()}: {printable(line)}", file=sys.stderr, flush=True)
 
 
 def make_room_in_logs(more: int) -> None:
-    """Sees that the logs that are known stay small when so many bytes more come."""
+    """Keep the known logs small if so many bytes are added."""
     for path in logs:
         make_room(path, more)
 
 
 def reason(fault: BaseException) -> str:
-    """Why a call was refused, in the system's words."""
+    """Return the system's text for the cause of an error."""
     return (fault.strerror if isinstance(fault, OSError) else "") or str(fault)
 
 
 def log_to(folder: str | os.PathLike[str]) -> None:
-    """Has what this tool doesn't foresee told in full in the log of a session's folder, where there is one."""
+    """Log unexpected errors in full in the log of a session's folder, if that log exists."""
     path = os.path.join(folder, "log")
     logs[:] = [path] if os.path.isfile(path) else []
 
@@ -66,7 +66,7 @@ def log_in_full(text: str) -> None:
 
 
 def unforeseen(fault: Exception) -> str:
-    """The line for what a tool didn't foresee; the logs get all of it."""
+    """Return the line for an unexpected error, and write its traceback to the logs."""
     import traceback
 
     log_in_full(traceback.format_exc())
@@ -75,8 +75,11 @@ def unforeseen(fault: Exception) -> str:
 
 
 def run_tool(main: Callable[[], int | None]) -> NoReturn:
-    """Runs a tool; a fault is one line on standard error and status 1. `python3 -X dev` shows where one comes from that nobody foresaw. The
-    programs that it runs tell why they ended. With --version alone it prints which build this is."""
+    """Run a tool. A Fault becomes one line on standard error and exit status 1.
+
+    `python3 -X dev` shows the traceback of an unexpected error. The programs that it runs print why they ended. With --version alone, print
+    the build.
+    """
     os.environ.setdefault(ASKS_WHY, "1")
     main = print_version if sys.argv[1:] in (["--version"], ["-V"]) else main
     signal.signal(signal.SIGINT, signal.default_int_handler)
@@ -107,7 +110,7 @@ def print_version() -> None:
 
 
 def nobody_reads() -> bool:
-    """Whether it was standard output that nobody reads any more, as behind `| head`; what is left for it is dropped then."""
+    """Return True if the reader of standard output is gone, as with `| head`, and discard the rest of the output."""
     output = select.poll()
     output.register(1, 0)
     if not output.poll(0):
@@ -116,19 +119,18 @@ def nobody_reads() -> bool:
     return True
 
 
-# By these a connection is refused where nobody of this user listens: nothing is there, nobody listens there, or another user does. Any
-# other tells that it can't be asked now, as for want of descriptors.
+# With these errors nobody of this user listens: the file is absent, nobody listens, or another user does. Any other error is temporary, for
+# example a lack of descriptors.
 ABSENT = {None, errno.ENOENT, errno.ENOTDIR, errno.ECONNREFUSED, errno.EPERM, errno.EACCES, errno.ELOOP, errno.ENAMETOOLONG}
 
 
 def is_absent(fault: OSError) -> bool:
-    """Whether a fault of a connection, or of a file, tells that nothing is there, and not just that it can't be asked."""
+    """Return True if an error means that the socket or file is absent, and not merely unavailable for now."""
     return fault.errno in ABSENT
 
 
 def all_done(*steps: Callable[[], object]) -> None:
-    """Do each of these steps, whatever becomes of the others. The first fault of one is raised behind the last, unless another is being
-    raised already."""
+    """Do each of these steps, even if others fail. Afterwards raise the first error, unless another exception is already in flight."""
     is_raised, first = sys.exc_info()[1] is not None, None
     for step in steps:
         try:

@@ -104,7 +104,7 @@ class Watched:
         self.events[number] = events
 
     def tell_system(self, number: int, mask: int) -> None:
-        """Register or change a descriptor at epoll. The number may stand for another file than the one that was registered."""
+        """Register or change a descriptor at epoll. The number may now belong to another file than the registered one."""
         with suppress(FileNotFoundError):
             if number in self.events:
                 self.poller.modify(number, mask)
@@ -141,8 +141,10 @@ class Watched:
 
 
 class LoopEnd:
-    """A descriptor's callbacks: what reads it while `hears` holds, what writes it while `has_more` holds, and what an exception in them
-    ends (`fails`)."""
+    """A descriptor's callbacks.
+
+    One reads it while `hears` returns True, one writes it while `has_more` does, and `fails` receives their exceptions.
+    """
 
     def __init__(self, reads: Does | None, writes: Does | None, hears: Callable[[], object], has_more: Callable[[], object],
                  fails: TakesFault | None = None, is_told: bool = False) -> None:
@@ -162,7 +164,7 @@ class LoopEnd:
                 | (WRITE if self.writes and (self.has_more is always or self.has_more()) else 0))
 
     def do(self, events: int) -> bool:
-        """Call the callback of the first of these events, and return True if others are left."""
+        """Call the callback of the first of these events, and return True if others remain."""
         if events & READ and self.reads:
             self.reads()
             return bool(events & WRITE)
@@ -183,7 +185,7 @@ class Loop:
         self.watched = Watched()
         self.sources: dict[int, LoopEnd] = {}
         self.added = 0
-        # Ends whose events are asked before each wait, and ends whose events may have changed since the last wait.
+        # Ends whose events are checked before each wait, and ends whose events may have changed since the last wait.
         self.asked: dict[int, LoopEnd] = {}
         self.changes: dict[int, LoopEnd] = {}
         self.due: dict[str, tuple[float, Does]] = {}
@@ -196,7 +198,7 @@ class Loop:
 
     def add(self, end: End, reads: Does | None = None, writes: Does | None = None, *, hears: Callable[[], object] = always,
             has_more: Callable[[], object] = always, fails: TakesFault | None = None, is_told: bool = False) -> None:
-        """Call `reads` when an end is readable and `hears` holds, and `writes` when it is writable and `has_more` holds.
+        """Call `reads` when an end is readable and `hears` returns True, and `writes` when it is writable and `has_more` does.
 
         The loop asks `hears` and `has_more` before each wait. With `is_told` it asks only after a callback of this end, and after the owner
         called `changed`: use that if there are many ends. An exception in a callback of this end is passed to `fails`.
@@ -209,7 +211,7 @@ class Loop:
         (self.changes if source.is_told else self.asked)[number] = source
 
     def changed(self, end: End) -> None:
-        """Ask an end before the next wait which events it waits for."""
+        """Ask an end for its wishes before the next wait."""
         number = end if isinstance(end, int) else end.fileno()
         source = self.sources.get(number)
         if source:
@@ -230,7 +232,7 @@ class Loop:
         if source:
             self.do(number, source, READ)
 
-    # ---- moments
+    # ---- timers
 
     def at(self, name: str, moment: float, does: Does) -> None:
         """Set a timer for a moment of the loop's clock; it replaces a timer of the same name."""
@@ -249,7 +251,7 @@ class Loop:
         self.before.append(does)
 
     def soon(self, does: Does) -> None:
-        """Call something once before the next wait, however often this is said."""
+        """Call something once before the next wait, however often it is requested."""
         self.next[does] = None
 
     def do_due(self) -> None:
@@ -265,13 +267,13 @@ class Loop:
                     self.later(name, RESTS, does)
 
     def do_next(self) -> None:
-        """Make the calls that were asked for by `soon`. Those that they ask for wait until the next time."""
+        """Make the calls requested by `soon`. Calls that they request wait until the next time."""
         if self.next:
             calls, self.next = self.next, {}
             for does in calls:
                 self.is_done(does)
 
-    # ---- faults
+    # ---- exceptions
 
     def is_done(self, does: Does) -> bool:
         """Call something, and return True if it raised nothing. Without a handler its exception propagates."""
@@ -295,13 +297,13 @@ class Loop:
             self.remove(number)
 
     def pause(self, end: End) -> None:
-        """Pause an end, if it is there."""
+        """Pause an end, if it exists."""
         number = number_of(end)
         if number in self.sources:
             self.rest(number, self.sources[number])
 
     def rest(self, number: int, source: LoopEnd) -> None:
-        """Wait for no event of an end for RESTS seconds, so that a callback that fails again and again takes no processor."""
+        """Wait for no event of an end for RESTS seconds, so that a callback that fails repeatedly takes no processor time."""
 
         def go_on() -> None:
             source.rests = False
@@ -315,7 +317,7 @@ class Loop:
     # ---- turns
 
     def ask(self, sources: dict[int, LoopEnd]) -> None:
-        """Have the system watch these ends for the events that they wait for now."""
+        """Make the system watch these ends for the events that they wait for now."""
         known = self.watched.events
         for number, source in list(sources.items()):
             if self.sources.get(number) is not source:
@@ -329,7 +331,7 @@ class Loop:
                     raise
 
     def is_refused(self, number: int, source: LoopEnd, fault: Exception) -> bool:
-        """Handle an end that can't be watched, and return True if that is possible. If memory is short it is tried again later."""
+        """Handle an end that epoll refuses, and return True if that is possible. If memory is short the loop retries later."""
         if isinstance(fault, OSError) and fault.errno in (errno.ENOMEM, errno.ENOSPC):
             self.rest(number, source)
         elif source.fails or self.faults:
@@ -348,7 +350,7 @@ class Loop:
         return self.watched.found(seconds)
 
     def wait_time(self) -> float | None:
-        """Call what has to be called before a wait, and return the seconds until the next timer; None if there is none."""
+        """Make the calls that are due before a wait, and return the seconds until the next timer; None without one."""
         least = None
         if self.next or self.before:
             least = self.next_hook()
@@ -360,8 +362,7 @@ class Loop:
         return None if least is None else max(0.0, least - self.clock())
 
     def next_hook(self) -> float | None:
-        """Make the calls that were asked for by `soon` and those before each wait, and return the moment by which one has to be called
-        again."""
+        """Make the calls requested by `soon` and those before each wait. Return the moment at which one is due again."""
         self.do_next()
         moments = [moment for moment in map(self.hooked, list(self.before)) if moment is not None]
         return min(moments) if moments else None
@@ -377,7 +378,7 @@ class Loop:
             return self.clock() + RESTS
 
     def do(self, number: int, source: LoopEnd, events: int) -> int:
-        """Call a callback of an end, and return the events that are left."""
+        """Call a callback of an end, and return the remaining events."""
         if source.is_told and not source.is_fixed:
             self.changes[number] = source
         try:
@@ -389,7 +390,7 @@ class Loop:
             return 0
 
     def turn(self) -> None:
-        """Wait once, and call what is ready: callbacks of ends first, then timers."""
+        """Wait once, then call the callbacks of ends that are ready, then those of timers."""
         ready = self.ready(self.wait_time())
         if len(ready) == 1:
             number, events = ready.popitem()
@@ -402,6 +403,6 @@ class Loop:
             self.do_next()
 
     def serve(self, source: LoopEnd, number: int, events: int) -> None:
-        """Call the callbacks of a ready end. One that was called before may have removed it, or opened another under its number."""
+        """Call the callbacks of a ready end. An earlier one may have removed it, or opened another under its number."""
         while events and self.sources.get(number) is source:
             events = self.do(number, source, events)

@@ -1,4 +1,4 @@
-"""Unexpected exceptions in a process that goes on: each is logged with its traceback, at a limited rate."""
+"""Unexpected exceptions in a process that continues: each is logged with its traceback, at a limited rate."""
 from __future__ import annotations
 
 import time
@@ -46,7 +46,8 @@ class FaultLog:
 
     def __init__(self, clock: Callable[[], float] = time.monotonic) -> None:
         self.clock = clock
-        # For each source line: when it was logged, and how many exceptions came since. And the number of all exceptions.
+        # For each source line: the moment of its last log entry, and the number of exceptions since then. Then the number of all
+        # exceptions.
         self.logged: dict[str, tuple[float, int]] = {}
         self.count = 0
 
@@ -68,7 +69,7 @@ class FaultLog:
 
     @staticmethod
     def tell(fault: Exception, more: int) -> None:
-        """Log an exception. A `Fault` is a refusal that somebody worded, so it needs no traceback."""
+        """Log an exception. A `Fault` has a message for the user, so it needs no traceback."""
         if isinstance(fault, Fault):
             say(one_line(str(fault)[:LONGEST_LINE]))
             return
@@ -78,7 +79,7 @@ class FaultLog:
 
 
 class SoonFaults:
-    """Counts exceptions, and says when there were too many in SOON seconds."""
+    """Counts exceptions, and reports if there were too many in SOON seconds."""
 
     def __init__(self, clock: Callable[[], float]) -> None:
         self.clock = clock

@@ -1,5 +1,6 @@
-"""Paths of files and folders that `/` extends. `pathlib` has more, and takes 133,000 bytecodes to load, more than an attach needs of roam
-before it shows something.
+"""Paths of files and folders that `/` extends.
+
+`pathlib` has more, and takes 133,000 bytecodes to load, more than an attach needs of roam before it shows a window.
 """
 from __future__ import annotations
 
@@ -9,7 +10,7 @@ TYPE_CHECKING = False
 if TYPE_CHECKING:
     from collections.abc import Iterator
 
-# So many bytes are read at once.
+# Bytes that are read at once.
 CHUNK = 1 << 16
 
 
@@ -23,12 +24,12 @@ class FilePath(str):
 
     @property
     def name(self) -> str:
-        """The last part of the path."""
+        """Return the last part of the path."""
         return os.path.basename(self)
 
     @property
     def parent(self) -> FilePath:
-        """The path without its last part."""
+        """Return the path without its last part."""
         return FilePath(os.path.dirname(self))
 
     def exists(self) -> bool:
@@ -67,7 +68,7 @@ class FilePath(str):
         return self.read_bytes().decode(encoding, errors)
 
     def mkdir(self, mode: int = 0o777, exist_ok: bool = False) -> None:
-        """Make the folder; one that is there is no fault if `exist_ok` is True."""
+        """Create the folder; an existing one is no error if `exist_ok` is True."""
         try:
             os.mkdir(self, mode)
         except FileExistsError:
@@ -79,7 +80,7 @@ class FilePath(str):
         os.rmdir(self)
 
     def unlink(self, missing_ok: bool = False) -> None:
-        """Remove the file; one that is not there is no fault if `missing_ok` is True."""
+        """Remove the file; a missing one is no error if `missing_ok` is True."""
         try:
             os.unlink(self)
         except FileNotFoundError:

@@ -1,4 +1,4 @@
-"""Files and folders: logs of bounded size, whole replacements, and whose a folder is."""
+"""Files and folders: bounded logs, atomic replacements, and the owners of folders."""
 from __future__ import annotations
 
 import fcntl
@@ -6,13 +6,13 @@ import os
 
 from roam_live.common.suppress import suppress
 
-# A log has so many bytes at most, and keeps so many of the newest when it would have more.
+# The most bytes of a log, and the newest bytes that stay if it would exceed them.
 LOG_LIMIT = 1 << 20
 KEPT = 1 << 19
 
 
 def make_room(path: str | os.PathLike[str], more: int = 0) -> None:
-    """Drops a log's oldest lines where it would have too many bytes with so many more. Who writes there appends: it goes on at the end."""
+    """Drop a log's oldest lines if `more` bytes would make it too large. Its writers append, so they continue at the end."""
     with suppress(OSError):
         if os.stat(path).st_size + more <= LOG_LIMIT:
             return
@@ -25,7 +25,7 @@ def make_room(path: str | os.PathLike[str], more: int = 0) -> None:
 
 
 def replace_text(path: str | os.PathLike[str], text: str, new: str | None = None) -> None:
-    """Gives a file a text, which is written beside it, at `new` where that is named; who reads it finds the old or the new one whole."""
+    """Replace a file's text atomically by way of a second file (`new`), so that a reader finds the old or the new text."""
     new = new or f"{path}.{os.getpid()}"
     try:
         with open(new, "w", encoding="utf-8") as file:
@@ -38,7 +38,7 @@ def replace_text(path: str | os.PathLike[str], text: str, new: str | None = None
 
 
 def is_disk_full(path: str | os.PathLike[str]) -> bool:
-    """Whether nothing more can be written beside a file, for want of blocks or of files."""
+    """Return True if nothing more can be written in the folder of a file, for lack of blocks or inodes."""
     try:
         found = os.statvfs(os.path.dirname(path))
     except OSError:
@@ -47,7 +47,7 @@ def is_disk_full(path: str | os.PathLike[str]) -> bool:
 
 
 def is_locked(folder: str | os.PathLike[str]) -> bool:
-    """Whether a process holds a folder, as one does that stays while what lies there is used."""
+    """Return True if a process has locked a folder, as a process does while the folder is in use."""
     end = os.open(folder, os.O_RDONLY | os.O_DIRECTORY | os.O_CLOEXEC)
     try:
         fcntl.flock(end, fcntl.LOCK_EX | fcntl.LOCK_NB)
@@ -59,7 +59,7 @@ def is_locked(folder: str | os.PathLike[str]) -> bool:
 
 
 def is_own_folder(path: str | os.PathLike[str]) -> bool:
-    """Whether a folder is there that this user made; a link to one has to be of this user too."""
+    """Return True if this user owns the folder. A link to it has to belong to this user too."""
     try:
         return os.path.isdir(path) and os.getuid() == os.lstat(path).st_uid == os.stat(path).st_uid
     except OSError:

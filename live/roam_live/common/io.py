@@ -8,19 +8,20 @@ if TYPE_CHECKING:
     import socket
     from collections.abc import Iterable
 
-# No line has so many bytes: what is longer is no line, and isn't kept.
+# A line has fewer bytes. A longer one is discarded.
 LONGEST_LINE = 1 << 16
 
-# So many bytes that a pane's program doesn't read wait for it.
+# Bytes that may wait for a pane's program that does not read.
 UNREAD_LIMIT = 1 << 16
 
 
 class LongLine(ValueError):
-    """A line that is longer than any may be."""
+    """A line above the limit."""
 
 
 class LineReader:
-    """Takes apart a stream of lines that come in any chunks, some with counted bytes behind them. No line has `longest` bytes."""
+    """Splits a stream into lines, however it is cut into chunks, some with counted bytes after them. A line has fewer than `longest` bytes.
+    """
 
     def __init__(self, longest: int = LONGEST_LINE) -> None:
         self.kept, self.longest = bytearray(), longest
@@ -28,7 +29,7 @@ class LineReader:
         self.is_cut = False
 
     def line(self) -> bytes | None:
-        """Remove and return the next line, None if none is whole; LongLine if it is longer than any may be."""
+        """Remove and return the next line, None if none is complete; LongLine if it exceeds the limit."""
         end = self.kept.find(b"\n", 0, self.longest)
         if end < 0:
             if len(self.kept) >= self.longest:
@@ -39,7 +40,7 @@ class LineReader:
         return line
 
     def data(self, count: int) -> bytes | None:
-        """Remove and return so many bytes; None if they aren't all there."""
+        """Remove and return so many bytes; None if they have not all arrived."""
         if len(self.kept) < count:
             return None
         data = bytes(self.kept[:count])
@@ -47,7 +48,7 @@ class LineReader:
         return data
 
     def fed(self, chunk: bytes) -> list[str]:
-        """Return all lines that are whole now. One that is longer than any may be is skipped."""
+        """Return all complete lines. One above the limit is skipped."""
         *lines, rest = (self.kept + chunk).split(b"\n")
         if self.is_cut and lines:
             del lines[0]
@@ -57,34 +58,34 @@ class LineReader:
         return [line.decode("utf-8", "replace") for line in lines if len(line) < self.longest]
 
     def read(self, source: int) -> list[str] | None:
-        """Return the lines that came at a descriptor; None if nothing more will."""
+        """Return the lines that arrived at a descriptor; None at the end of file."""
         chunk = read(source)
         return self.fed(chunk) if chunk else None if chunk == b"" else []
 
 
 class LinePeer:
-    """A connection to which lines are sent. What it didn't ask for is bounded: it has to read that in time."""
+    """A connection to which lines are sent. Its peer has to read unrequested lines in time."""
 
-    # So many bytes wait at most beside those of answers.
+    # The most bytes that may wait besides answers.
     most = 1 << 16
 
     def __init__(self, end: socket.socket) -> None:
         self.end, self.waiting = end, bytearray()
-        # How many bytes of answers wait since it had read all.
+        # Bytes of answers that were queued since the queue was last empty.
         self.answers = 0
 
     def put(self, lines: Iterable[str]) -> bool:
-        """Have lines wait, and return True if that isn't too much."""
+        """Queue lines, and return True if the queue is within its limit."""
         self.waiting += "".join([f"{line}\n" for line in lines]).encode("utf-8", "replace")
         return len(self.waiting) <= self.most + self.answers
 
     def put_answer(self, data: bytes) -> None:
-        """Have an answer wait, which it asked for."""
+        """Queue an answer to a request."""
         self.waiting += data
         self.answers += len(data)
 
     def write(self) -> bool:
-        """Write what it takes, and return True while it is there."""
+        """Write as much as it accepts, and return True while it is connected."""
         is_there = write(self.end.fileno(), self.waiting)
         if not self.waiting:
             self.answers = 0
@@ -92,7 +93,7 @@ class LinePeer:
 
 
 def read(source: int) -> bytes | None:
-    """What came, None where nothing did, and nothing where no more will."""
+    """Return the bytes that arrived: None if there are none yet, and empty at the end of file."""
     try:
         return os.read(source, 65536)
     except BlockingIOError:
@@ -102,7 +103,7 @@ def read(source: int) -> bytes | None:
 
 
 def write(target: int, waiting: bytearray) -> bool:
-    """Writes what is taken of what waits; tells whether the target is still there."""
+    """Write as much of `waiting` as the target accepts, and return True while the target is there."""
     try:
         del waiting[: os.write(target, memoryview(waiting)[:65536].tobytes())]
     except BlockingIOError:
@@ -114,8 +115,7 @@ def write(target: int, waiting: bytearray) -> bool:
 
 
 def keep(waiting: bytearray, typed: bytes, limit: int = UNREAD_LIMIT) -> bool:
-    """Has what was typed wait behind what does, as far as there is room for so much, and tells whether all of it was kept. No character is
-    cut."""
+    """Append typed bytes to `waiting` up to `limit`, and return True if all of them fit. Characters are not split."""
     room = max(0, limit - len(waiting))
     while room < len(typed) and room and typed[room] & 0xC0 == 0x80:
         room -= 1

@@ -1,5 +1,6 @@
-"""Reads JSON by the C scanner of the standard library alone. Its package `json` compiles regular expressions as it is imported, which takes
-116,000 bytecodes: an attach reads two short notes.
+"""Reads JSON by the C scanner of the standard library alone.
+
+The package `json` compiles regular expressions at its import, which takes 116,000 bytecodes. An attach reads just two short notes.
 """
 from __future__ import annotations
 
@@ -16,7 +17,7 @@ BLANK = " \t\n\r"
 
 
 class ScannerSettings:
-    """The settings of the scanner, as `json.loads` has them."""
+    """The settings of the scanner, equal to those of `json.loads`."""
 
     strict = True
     object_hook = object_pairs_hook = None

@@ -1,6 +1,6 @@
-"""Modules that a long process imports as it first uses them, also after roam was replaced or removed.
+"""Modules that a long process imports on first use, even after roam was replaced or removed.
 
-They come from a bundle that is open since the process began, so that they are of its own build. If there is no bundle, an import of another
+They come from a bundle that is open since the process began, so that they are of its own build. Without a bundle, an import of another
 build is refused, since modules of two builds may not fit together.
 """
 from __future__ import annotations
@@ -21,24 +21,24 @@ BUNDLE = "late"
 
 
 class LateModules:
-    """Finds them, from `begin` to `end`."""
+    """Imports them, from `begin` to `end`."""
 
     def __init__(self) -> None:
         self.build = identity()
         self.bundle: tuple[int, tuple[list[tuple[str, str, object]], int]] | None = None
-        # The sources by module, and their code while a module is imported; and how many imports go on, one within another.
+        # The sources by module, and their code during an import; and the depth of nested imports.
         self.sources: dict[str, str] = {}
         self.codes: dict[str, CodeType] = {}
         self.depth = 0
 
     def begin(self) -> None:
-        """Open the bundle, and look at each import from now on."""
+        """Open the bundle, and handle each import from now on."""
         self.bundle = roam_bundle.opened(BUNDLE)
         self.sources = {name: source for name, source, _ in self.bundle[1][0]} if self.bundle else {}
         sys.meta_path.insert(0, self)  # type: ignore[arg-type]
 
     def end(self) -> None:
-        """Look at no import any more."""
+        """Handle no more imports."""
         if self in sys.meta_path:
             sys.meta_path.remove(self)  # type: ignore[arg-type]
         if self.bundle:
@@ -46,7 +46,7 @@ class LateModules:
             self.bundle = None
 
     def find_spec(self, name: str, path: object = None, target: object = None) -> object:
-        """Return where a module is, None if it is for others to find; ImportError if it is one of another build."""
+        """Return the location of a module, None if it is not one of these; ImportError if it belongs to another build."""
         source = self.sources.get(name) if self.bundle else None
         if source:
             return roam_bundle.ModuleSpec(name, self, origin=source, is_package=source.endswith("/__init__.py"))
@@ -55,7 +55,7 @@ class LateModules:
         return None
 
     def create_module(self, spec: object) -> None:
-        """Have the import make the module."""
+        """Let the import system create the module."""
 
     def exec_module(self, module: ModuleType) -> None:
         """Run the code of a module."""

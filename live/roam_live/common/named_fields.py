@@ -1,4 +1,5 @@
-"""Tuples whose places have names, as those of `collections.namedtuple`. That takes 0.15 ms to make a class, and an attach has thirty of them."""
+"""Tuples with named fields, like those of `collections.namedtuple`. That takes 0.15 ms to make a class, and an attach has thirty of them.
+"""
 from __future__ import annotations
 
 from _operator import itemgetter
@@ -11,7 +12,7 @@ if TYPE_CHECKING:
 
 
 class NamedFields(tuple):  # type: ignore[type-arg]
-    """A value whose fields are those that its class annotates, in that order; a field may have a default there."""
+    """A value with the fields that its class annotates, in that order; a field may have a default there."""
 
     __slots__ = ()
     _fields: tuple[str, ...] = ()

@@ -1,4 +1,4 @@
-"""Regular expressions that are compiled as they are first used, so that nobody waits for those that he doesn't need."""
+"""Regular expressions that are compiled on first use, so that nobody waits for unused ones."""
 from __future__ import annotations
 
 TYPE_CHECKING = False
@@ -8,7 +8,7 @@ if TYPE_CHECKING:
 
 
 class LazyPattern:
-    """A regular expression: it has the methods of `re.Pattern`. Flags are in its text, as `(?a)`."""
+    """A regular expression with the methods of `re.Pattern`. Flags are in its text, for example `(?a)`."""
 
     if TYPE_CHECKING:
         fullmatch: Callable[..., Any]
@@ -21,7 +21,7 @@ class LazyPattern:
         self.pattern = pattern
 
     def __getattr__(self, name: str) -> Any:
-        """Compile it at the first use of a method, which is found at once from then on."""
+        """Compile it at the first use of a method. Later uses find the method directly."""
         import re
 
         method = getattr(re.compile(self.pattern), name)

@@ -1,4 +1,4 @@
-"""Processes of the system by their number and start time, and where the program and the tools are."""
+"""Processes by pid and start time, and the paths of the program and the tools."""
 from __future__ import annotations
 
 import os
@@ -11,12 +11,12 @@ from roam_live.common.suppress import suppress
 
 TOOLS = FilePath(os.path.realpath(__file__)).parent.parent.parent
 
-# Where the program is: as make built it, or installed beside the tools.
+# The paths of the program: built by make, or installed beside the tools.
 PLACES = (TOOLS.parent / "crates/roam/out/roam", TOOLS / "roam", TOOLS.parent / "bin/roam", TOOLS.parent.parent / "bin/roam")
 
 
 def program() -> str:
-    """The path of the program: the environment's ROAM, else what make built, else what was installed."""
+    """Return the path of `roam`: ROAM in the environment, else the built program, else the installed one."""
     named = os.environ.get("ROAM")
     for path in [FilePath(named)] if named else PLACES:
         if path.is_file() and os.access(path, os.X_OK):
@@ -25,12 +25,12 @@ def program() -> str:
 
 
 def read_stat(process: int) -> list[str]:
-    """What the system says of a process, from its state on; OSError where there is none, or it doesn't say."""
+    """Return the fields of /proc/PID/stat from the state on; OSError if there is no such process or it is hidden."""
     return FilePath(f"/proc/{process}/stat").read_text(errors="replace").rpartition(")")[2].split()
 
 
 def stated(process: int) -> list[str]:
-    """The same; nothing where there is none."""
+    """Return the same fields; an empty list if there is no such process."""
     try:
         return read_stat(process)
     except OSError:
@@ -38,13 +38,13 @@ def stated(process: int) -> list[str]:
 
 
 def begun(process: int) -> int | None:
-    """When a process began, in the system's ticks; None where there is none, or only what is left of one that ended."""
+    """Return the start time of a process in clock ticks; None if it does not exist or is a zombie."""
     words = stated(process)
     return None if not words or words[0] in "ZX" else int(words[19])
 
 
 def age_of(process: int) -> float:
-    """For how many seconds a process has been there; 0 where that isn't known."""
+    """Return the age of a process in seconds; 0 if unknown."""
     moment = begun(process)
     with suppress(OSError, ValueError):
         with open("/proc/uptime", encoding="ascii") as uptime:
@@ -53,13 +53,15 @@ def age_of(process: int) -> float:
 
 
 def is_stopped(process: int) -> bool:
-    """Whether a process was stopped, and goes on only once it is continued."""
+    """Return True if a process is stopped, and so waits for SIGCONT."""
     return stated(process)[:1] in (["T"], ["t"])
 
 
 def is_running(process: int, moment: int | None) -> bool:
-    """Whether a process runs that began at this moment: a number may have been given anew. Where the system doesn't say when, as for want
-    of descriptors, one of this number is taken for that."""
+    """Return True if the process that started at this moment still runs. The pid alone may have been reused.
+
+    If the system does not report the start time, as without descriptors, the pid alone decides.
+    """
     if moment is None:
         return False
     try:
@@ -72,7 +74,7 @@ def is_running(process: int, moment: int | None) -> bool:
 
 
 def is_there(process: int) -> bool:
-    """Whether there is a process of this number."""
+    """Return True if a process has this pid."""
     try:
         os.kill(process, 0)
     except ProcessLookupError:
@@ -83,19 +85,18 @@ def is_there(process: int) -> bool:
 
 
 def end_words(process: int, moment: int | None) -> str:
-    """How the end of a process is noted: by its number, and when it began."""
+    """Return the words that record the end of a process: its pid and its start time."""
     return f"{process} {moment}"
 
 
 def note_end(folder: str | os.PathLike[str], process: int, moment: int | None) -> None:
-    """Notes in a session's folder that the process that serves it is ended on purpose, before it is, so that nobody takes that for a
-    fault."""
+    """Record in a session's folder that its serving process is about to be ended on purpose. Nobody then reports a failure."""
     with suppress(OSError):
         replace_text(os.path.join(folder, "ended"), f"{end_words(process, moment)}\n")
 
 
 def opened_process(process: int) -> int:
-    """A process as a file that can be read once it has ended."""
+    """Return a descriptor of a process that is readable once it has ended."""
     try:
         return os.pidfd_open(process)
     except OSError as fault:
@@ -103,7 +104,7 @@ def opened_process(process: int) -> int:
 
 
 def woken(*signals: int) -> int:
-    """A pipe that tells each of these signals that came, for which nothing else is done."""
+    """Return a pipe that receives a byte for each of these signals, which have no other effect."""
     reader, writer = os.pipe2(os.O_NONBLOCK | os.O_CLOEXEC)
     for number in signals:
         signal.signal(number, lambda number, frame: None)
@@ -112,13 +113,13 @@ def woken(*signals: int) -> int:
 
 
 def unwoken(*signals: int) -> None:
-    """Give these signals their default action again."""
+    """Restore the default action of these signals."""
     for number in signals:
         signal.signal(number, signal.SIG_DFL)
 
 
 def holder_of(folder: str | os.PathLike[str]) -> int | None:
-    """The process that holds a folder, as the system tells it; None where none does, or it isn't seen."""
+    """Return the process that has locked a folder, from /proc/locks; None if there is none or it is hidden."""
     try:
         found = os.stat(folder)
         with open("/proc/locks", encoding="ascii", errors="replace") as locks:
@@ -127,14 +128,14 @@ def holder_of(folder: str | os.PathLike[str]) -> int | None:
         if not is_absent(fault):
             raise Fault(f"cannot find the process that locked {folder}: {reason(fault)}") from fault
         return None
-    # A line has its number, the kind, two words more, the process, and the file's system and number.
+    # A line has its number, the kind, two more words, the pid, and the file's device and inode.
     ours = [line[4] for line in words if len(line) > 5 and line[1] == "FLOCK" and line[5].endswith(f":{found.st_ino}")]
     holders = [int(word) for word in ours if word.isdigit()]
     return next((process for process in holders if has_open(process, found)), None)
 
 
 def has_open(process: int, file: os.stat_result) -> bool:
-    """Whether a process has a file open."""
+    """Return True if a process has a file open."""
     with suppress(OSError):
         for end in os.listdir(f"/proc/{process}/fd"):
             with suppress(OSError):

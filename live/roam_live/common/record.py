@@ -1,6 +1,7 @@
-"""Records: values with named fields that can be written as JSON and read back. The reader of each field refuses what is no value of it.
+"""Records: values with named fields that can be written as JSON and read back.
 
-They are used like classes of the standard module `dataclasses`, which takes a pty host longer to load than everything that it knows.
+The reader of each field refuses invalid values. They are used like classes of the standard module `dataclasses`. That module takes longer
+to load than the whole state of a pty host.
 """
 from __future__ import annotations
 
@@ -16,19 +17,19 @@ if TYPE_CHECKING:
     from collections.abc import Callable
     from typing import Any
 
-    # Returns what a value of JSON stands for; Malformed if it is none. A path names it.
+    # Returns the value that some JSON encodes; Malformed if it is invalid. A path names it in the error.
     Reads = Callable[[Any, str], Any]
 
-# The highest number that is a key.
+# The highest number that may be a key.
 MOST_KEY = 10**19 - 1
 
 
 class Malformed(Fault):
-    """What was read is no such record: the path of the value, and what is wrong with it."""
+    """Invalid JSON for a record: the path of the value, and the error."""
 
 
 def demand(holds: object, path: str, wrong: str) -> None:
-    """Raise Malformed unless something holds."""
+    """Raise Malformed unless a condition is true."""
     if not holds:
         raise Malformed(f"{path}: {wrong}")
 
@@ -36,7 +37,7 @@ def demand(holds: object, path: str, wrong: str) -> None:
 # ---- records
 
 class StateField:
-    """A field of a record: its reader, and what makes its first value, None if it has to be given."""
+    """A field of a record: its reader, and a function for its initial value, None if the caller has to provide it."""
 
     def __init__(self, reads: Reads, makes: Callable[[], object] | None) -> None:
         self.reads, self.makes = reads, makes
@@ -48,7 +49,7 @@ def field(reads: Reads, makes: Callable[[], object] | None = None) -> Any:
 
 
 def nothing() -> None:
-    """Return None, the first value of a field that may be unknown."""
+    """Return None, the initial value of a field that may be unknown."""
 
 
 class StateRecord:
@@ -74,7 +75,7 @@ class StateRecord:
         return f"{type(self).__name__}({', '.join(f'{name}={getattr(self, name)!r}' for name in self.fields)})"
 
     def wrong(self) -> str:
-        """Return what is wrong with fields that are valid one by one; nothing if all is well."""
+        """Return the error in fields that are valid one by one; nothing if all is well."""
         return ""
 
 
@@ -127,7 +128,7 @@ def base64_of(data: bytes) -> str:
 
 
 def optional(reads: Reads) -> Reads:
-    """Return the reader of what may be null."""
+    """Return the reader of a value that may be null."""
     return lambda value, path: None if value is None else reads(value, path)
 
 
@@ -152,7 +153,7 @@ def list_of(reads_one: Reads, least: int, most: int) -> Reads:
 
 
 def map_of(reads_key: Reads, reads_one: Reads, most: int) -> Reads:
-    """Return the reader of a mapping of at most so many keys, which are texts in JSON."""
+    """Return the reader of a mapping with at most so many keys, which are texts in JSON."""
 
     def reads(value: Any, path: str) -> Any:
         demand(isinstance(value, dict) and len(value) <= most, path, f"not a mapping of at most {most}")
@@ -162,7 +163,7 @@ def map_of(reads_key: Reads, reads_one: Reads, most: int) -> Reads:
 
 
 def decimal(reads_number: Reads) -> Reads:
-    """Return the reader of a key that is a number, in the form in which that is written."""
+    """Return the reader of a key that is a number in its canonical form."""
 
     return lambda key, path: reads_number(decimal_in(key, MOST_KEY), path)
 
@@ -192,7 +193,7 @@ def record_of(cls: type[StateRecord]) -> Reads:
 # ---- JSON
 
 def plain(value: Any) -> object:
-    """Return a value as JSON has it."""
+    """Return a value in its JSON form."""
     if isinstance(value, StateRecord):
         return {name: plain(getattr(value, name)) for name in value.fields}
     if isinstance(value, dict):
@@ -210,7 +211,7 @@ def written(value: StateRecord) -> str:
 
 
 def read_back(cls: type[StateRecord], text: str, most: int) -> Any:
-    """Return the record that a text of at most so many characters is written for; Malformed if it is none."""
+    """Return the record in a text of at most so many characters; Malformed if it is invalid."""
     demand(len(text) <= most, cls.__name__, f"longer than {most} characters")
     try:
         value = read_json(text)

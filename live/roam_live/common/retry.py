@@ -1,11 +1,11 @@
-"""Pauses between tries to have something again that was lost, as a connection or a process."""
+"""Pauses between attempts to restore a connection or a process."""
 from __future__ import annotations
 
 TYPE_CHECKING = False
 if TYPE_CHECKING:
     from collections.abc import Sequence
 
-# The pauses in seconds, unless another row is named, and how long something has to last so that its end is no failure.
+# The default pauses in seconds, and the duration after which an end is no failure.
 PAUSES = (0.1, 1, 2, 4, 8, 15)
 SOUND = 5.0
 
@@ -18,19 +18,19 @@ class Retry:
         self.faults, self.since = 0, float("-inf")
 
     def begins(self, now: float) -> None:
-        """Note that there is something from a moment on."""
+        """Record the start of something at a moment."""
         self.since = now
 
     def ends(self, now: float) -> None:
-        """Note that it has ended."""
+        """Record its end."""
         self.faults = 0 if now >= self.since + self.sound else self.faults
 
     def fails(self) -> float:
-        """Count a failure, and return the pause behind it."""
+        """Count a failure, and return the next pause."""
         self.faults += 1
         return self.pause()
 
     def pause(self, others: int = 0) -> float:
-        """Return the pause behind the failures so far, or behind so many others if those are more. It is 0 if there were none."""
+        """Return the pause after the failures so far, or after so many others if those are more. It is 0 without failures."""
         faults = max(self.faults, others)
         return self.pauses[min(faults, len(self.pauses)) - 1] if faults else 0.0

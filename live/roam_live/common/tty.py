@@ -1,4 +1,4 @@
-"""The user's terminal: its modes, its size, its alternate screen, and what is written there beside the painter's text."""
+"""The user's terminal: its modes, its size, its alternate screen, and output in addition to the painter's."""
 from __future__ import annotations
 
 import errno
@@ -17,77 +17,77 @@ if TYPE_CHECKING:
     # Rows and columns.
     Size = tuple[int, int]
 
-    # A terminal's modes as `termios` has them: numbers, and a list of bytes at the last place, which no type of a list tells.
+    # A terminal's modes as returned by `termios`: numbers, and last a list of bytes, which a list type cannot express.
     Modes = list[Any]
 
-# The sizes that a session may have.
+# The smallest and largest sizes of a session.
 LEAST = (4, 8)
 MOST = (200, 500)
 
-# Most rows or columns of a terminal of the system.
+# The system's limit on rows or columns of a terminal.
 MOST_CELLS = 65535
 
-# The least terminal on which something of a session is shown: two rows of it and four columns, above a row of the front end's own.
+# The smallest terminal that shows part of a session: two rows and four columns, above the row of the front end.
 LEAST_SHOWN = (3, 4)
 
-# What a painting begins with that clears the terminal.
+# The start of a painting that clears the terminal.
 RESET = b"\x1bc"
 
-# What a reset does that a person's terminal may be asked for: the modes that change what the painter's functions do, the margins, the
-# sets and the style; then all is erased. A reset itself would erase the user's own screen and what scrolled off it.
+# The effect of a reset as far as a user's terminal may be changed: the modes that alter the painter's functions, the margins, the sets and
+# the style. Then all is erased. RIS itself would also erase the user's own screen and scrollback.
 CLEARED = b"\x1b[0m\x1b[r\x1b(B\x0f\x1b[4l\x1b[20l\x1b[?5l\x1b[?6l\x1b[?7h\x1b[?1l\x1b[?25h\x1b[2J\x1b[H"
 
-# Pastes come between brackets, so that what is pasted is never taken for a binding.
+# Bracketed paste is on, so that pasted text never triggers a key binding.
 ENTERED = b"\x1b[?1049h\x1b[?2004h\x1b>" + CLEARED
 LEFT = b"\x1b[?2004l\x1b>\x1b[0m\x1b[r\x1b(B\x0f\x1b[?25h\x1b[?1049l"
 
-# The keypad sends the codes of applications (DECKPAM), or numbers (DECKPNM).
+# The keypad sends application codes (DECKPAM), or numbers (DECKPNM).
 KEYPAD = {True: b"\x1b=", False: b"\x1b>"}
 
-# TERM of a terminal that cannot place its cursor.
+# TERM of a terminal that cannot position its cursor.
 DUMB = "dumb"
 
 
 def demand_able() -> None:
-    """Refuses a terminal that says it can't place its cursor, as tmux does."""
+    """Refuse a terminal that cannot position its cursor, like tmux."""
     if os.environ.get("TERM") == DUMB:
         raise Fault(f"TERM is {DUMB}: this terminal cannot place its cursor; set TERM to its real type, such as xterm-256color")
 
 
 def unwrapped(text: str) -> bytes:
-    """A text as it is written where a row of it may be longer than the terminal's: nothing goes on into the next row."""
+    """Return a text with autowrap off, for rows that may be longer than the terminal's: nothing wraps into the next row."""
     return f"\x1b[?7l{text}\x1b[?7h".encode("utf-8", "replace")
 
 
 def size_of(terminal: int) -> Size:
-    """A terminal's rows and columns; one that tells none has 24 and 80."""
+    """Return a terminal's rows and columns; 24 and 80 if it reports none."""
     cols, rows = os.get_terminal_size(terminal)
     return rows or 24, cols or 80
 
 
 def set_size(terminal: int, rows: int, cols: int) -> None:
-    """Gives a terminal a size; its programs are told where it is another."""
+    """Set the size of a terminal. The system signals its programs if it changed."""
     size = b"".join(min(max(one, 0), MOST_CELLS).to_bytes(2, sys.byteorder) for one in (rows, cols, 0, 0))
     fcntl.ioctl(terminal, termios.TIOCSWINSZ, size)
 
 
 def is_large_enough(size: Size) -> bool:
-    """Whether a terminal's size is one that a session may have, or larger."""
+    """Return True if a terminal has at least the smallest size of a session."""
     return size[0] >= LEAST[0] and size[1] >= LEAST[1]
 
 
 def largest(size: Size) -> Size:
-    """The largest size that a session may have on a terminal of a size."""
+    """Return the largest size of a session on a terminal of this size."""
     return min(size[0], MOST[0]), min(size[1], MOST[1])
 
 
 def size_act(size: Size) -> str:
-    """The act that gives a session a terminal's size, as far as it may have it."""
+    """Return the act that sets a session to a terminal's size, within the limits."""
     return "size {} {}".format(*largest(size))
 
 
 def set_modes(terminal: int, when: int, modes: Modes) -> None:
-    """Gives a terminal modes; a signal between, as of a stop in the background and `fg`, has it asked for anew."""
+    """Set a terminal's modes. After an interrupting signal, such as a stop in the background and `fg`, try again."""
     while True:
         try:
             termios.tcsetattr(terminal, when, modes)
@@ -98,10 +98,10 @@ def set_modes(terminal: int, when: int, modes: Modes) -> None:
 
 
 def make_raw(terminal: int) -> Modes | None:
-    """Has each byte that is typed come as it is, and tells the modes that were; None where the terminal refuses, or is gone."""
+    """Switch a terminal to raw input, and return the modes before; None if the terminal refuses or is gone."""
     try:
         before = termios.tcgetattr(terminal)
-        # Not behind what it still shows, which a terminal that hangs never does.
+        # TCSADRAIN would wait for output, and a terminal that hangs never shows it.
         set_modes(terminal, termios.TCSANOW, raw(termios.tcgetattr(terminal)))
     except (termios.error, OSError):
         return None
@@ -109,7 +109,7 @@ def make_raw(terminal: int) -> Modes | None:
 
 
 def raw(modes: Modes) -> Modes:
-    """A terminal's modes, changed so that each byte that is typed comes as it is."""
+    """Return a terminal's modes changed for raw input."""
     modes[0] &= ~(termios.BRKINT | termios.ICRNL | termios.INLCR | termios.IGNCR | termios.INPCK | termios.ISTRIP | termios.IXON)
     modes[1] &= ~termios.OPOST
     modes[2] = modes[2] & ~(termios.CSIZE | termios.PARENB) | termios.CS8
@@ -119,16 +119,21 @@ def raw(modes: Modes) -> Modes:
 
 
 def restore(terminal: int, modes: Modes) -> None:
-    """Gives a terminal its modes back; what was typed and not read is no command of the shell that comes back. This doesn't wait until the
-    terminal has shown what was written, as TCSAFLUSH would."""
+    """Restore a terminal's modes, and drop unread input, so that it does not become a command of the shell.
+
+    Unlike TCSAFLUSH this does not wait until the terminal has shown all output.
+    """
     with suppress(termios.error, OSError):
         termios.tcflush(terminal, termios.TCIFLUSH)
         set_modes(terminal, termios.TCSANOW, modes)
 
 
 def opened_for_writing(terminal: int) -> int:
-    """A terminal opened anew, so that writes to it needn't wait while those of other programs do: by its name, or, where that is none here
-    or may not be opened, as after `su`, as the terminal that controls this process. Itself where neither can be."""
+    """Return a second descriptor of a terminal, on which writes needn't wait for those of other programs.
+
+    Open it by its name. If that is absent here or forbidden, as after `su`, open the controlling terminal of this process. If both fail,
+    return the terminal itself.
+    """
     flags = os.O_WRONLY | os.O_NOCTTY | os.O_NONBLOCK
     try:
         return os.open(os.ttyname(terminal), flags)

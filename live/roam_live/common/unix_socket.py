@@ -1,7 +1,7 @@
-"""Connections to Unix sockets, and who is at the other end.
+"""Connections to Unix sockets, and the credentials of their peers.
 
-`UnixSocket` stands on the C module behind the standard library's `socket`. The module in Python makes enums of some hundred numbers; with
-what it imports that takes 118,000 bytecodes, more than all of roam that an attach needs first.
+`UnixSocket` builds on the C module behind the standard library's `socket`. The Python module makes enums of some hundred numbers. With its
+imports that takes 118,000 bytecodes, more than all of roam that an attach needs first.
 """
 from __future__ import annotations
 
@@ -23,16 +23,16 @@ else:
 
 __all__ = ["SHUT_WR", "SO_SNDBUF", "SOL_SOCKET"]
 
-# How many seconds a socket that isn't there yet is waited for, and after how many that is said.
+# Seconds to wait for a socket that is not there yet, and seconds until the wait is reported.
 LONGEST_WAIT = 10.0
 SAID_AFTER = 0.5
 
-# What the system tells of who is at the other end of a Unix socket: three numbers of four bytes, the process, its user and its group.
+# The credentials of the peer of a Unix socket (SO_PEERCRED): pid, user and group, four bytes each.
 CREDENTIALS = 12
 
 
 class UnixSocket(SocketBase):
-    """A Unix stream socket, which is closed behind a `with`."""
+    """A Unix stream socket that a `with` closes."""
 
     def __init__(self, descriptor: int | None = None) -> None:
         super().__init__(AF_UNIX, SOCK_STREAM, 0, descriptor)
@@ -50,24 +50,24 @@ class UnixSocket(SocketBase):
 
 
 class SocketPeer(NamedFields):
-    """Who is at the other end of a Unix socket."""
+    """The process at the other end of a Unix socket."""
 
     process: int
     user: int
 
     @classmethod
     def of(cls, end: SocketBase) -> SocketPeer:
-        """That of a socket: who connected, or who began to listen where this end connected."""
+        """Return the credentials of a socket's peer: the process that connected, or that began to listen."""
         process, user, _ = memoryview(end.getsockopt(SOL_SOCKET, SO_PEERCRED, CREDENTIALS)).cast("I")
         return cls(process, user)
 
     def is_own(self) -> bool:
-        """Whether it is of this user. The superuser is another as any, and so is anyone for the superuser."""
+        """Return True if the peer is of this user. The superuser counts as another user."""
         return self.user == os.getuid()
 
 
 def is_own_peer(end: SocketBase) -> bool:
-    """Whether who is at the other end of a Unix socket is of this user."""
+    """Return True if the peer of a Unix socket is of this user."""
     try:
         return SocketPeer.of(end).is_own()
     except OSError:
@@ -75,8 +75,7 @@ def is_own_peer(end: SocketBase) -> bool:
 
 
 def connected_now(path: str | os.PathLike[str]) -> UnixSocket:
-    """A connection to a Unix socket that is there, at which this user listens. It never waits: BlockingIOError tells of a listener that
-    takes none now."""
+    """Connect to a Unix socket at which this user listens. This never waits: BlockingIOError if the listener is busy."""
     peer = UnixSocket()
     try:
         peer.setblocking(False)
@@ -90,7 +89,7 @@ def connected_now(path: str | os.PathLike[str]) -> UnixSocket:
 
 
 def connected_in(path: str | os.PathLike[str], seconds: float) -> UnixSocket:
-    """The same, where a listener that takes none now is asked again for so many seconds."""
+    """Connect like `connected_now`, but retry a busy listener for so many seconds."""
     end = time.monotonic() + seconds
     while True:
         try:
@@ -102,7 +101,7 @@ def connected_in(path: str | os.PathLike[str], seconds: float) -> UnixSocket:
 
 
 def connected(path: str | os.PathLike[str]) -> UnixSocket:
-    """A connection to a Unix socket, which may still have to be made."""
+    """Return a connection to a Unix socket that may still be missing."""
     begun_at = time.monotonic()
     has_said = False
     while True:
@@ -119,8 +118,7 @@ def connected(path: str | os.PathLike[str]) -> UnixSocket:
 
 
 def unheard(path: str | os.PathLike[str]) -> str:
-    """Why nobody of this user listens at a Unix socket, in words; nothing where somebody does, or may: one that takes nobody now, and one
-    that can't be asked."""
+    """Return the reason if nobody of this user listens at a Unix socket; else nothing. A busy listener counts."""
     try:
         connected_now(path).close()
     except OSError as fault:
@@ -129,16 +127,16 @@ def unheard(path: str | os.PathLike[str]) -> str:
 
 
 def is_listened(path: str | os.PathLike[str]) -> bool:
-    """Whether somebody of this user listens at a Unix socket, or may."""
+    """Return True if somebody of this user listens at a Unix socket, or may."""
     return not unheard(path)
 
 
-# So many seconds who comes waits, where the system has no descriptor for it.
+# Seconds that a new connection waits if the system has no descriptor for it.
 DEAF = 1.0
 
 
 def listening(path: str | os.PathLike[str]) -> UnixSocket:
-    """A socket at which those who come are waited for; one that is left there is removed, but where somebody listens."""
+    """Return a socket that listens at a path. It replaces a stale one, but not one with a listener."""
     if is_listened(path):
         raise Fault(f"another process already listens at {path}")
     try:
@@ -184,15 +182,15 @@ class Listener:
         self.join()
 
     def hears(self) -> bool:
-        """Whether another is taken now."""
+        """Return True if another connection is accepted now."""
         return not self.is_deaf and self.has_room()
 
     def take(self) -> None:
-        """Takes one who came."""
+        """Accept one connection."""
         try:
             peer = self.end.accept()[0]
         except BlockingIOError:
-            # It has left.
+            # The peer has closed it.
             return
         except OSError as fault:
             self.is_deaf = True
@@ -206,20 +204,20 @@ class Listener:
             peer.close()
 
     def hear_again(self) -> None:
-        """Takes others again, after it had no descriptor for one."""
+        """Accept connections again after a lack of descriptors."""
         self.is_deaf = False
         self.room_changed()
 
     def room_changed(self) -> None:
-        """Check whether there is room now."""
+        """Check if there is room now."""
         self.loop.changed(self.end)
 
     def close(self) -> None:
-        """Closes the socket, and removes it."""
+        """Close the socket, and remove it."""
         self.loop.remove(self.end)
         self.loop.drop(f"hear {self.path}")
         self.end.close()
         with suppress(OSError):
-            # Another session's may be there by now.
+            # Another session's socket may be there by now.
             if os.path.samestat(self.made, os.lstat(self.path)):
                 os.unlink(self.path)

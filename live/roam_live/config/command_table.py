@@ -1,4 +1,4 @@
-"""The commands that keys, a settings file and the command line have, by tmux's words: what each asks the front end for."""
+"""The commands of keys, of the settings file and of the command line, with tmux's names, and their requests to the front end."""
 from __future__ import annotations
 
 from roam_live.common.named_fields import NamedFields
@@ -12,22 +12,23 @@ TYPE_CHECKING = False
 if TYPE_CHECKING:
     from collections.abc import Callable
 
-# Words that stand in a command, and the flags that stand before them, with their values.
+# Limits of a command: its words, and the characters of a text.
 MOST_WORDS, LONGEST_TEXT = 100, 1000
 
 
-# Where a new pane or window begins in any case.
+# The folder in which a new pane or window starts in any case.
 HERE = "#{pane_current_path}"
 NOTHING = Begins([], "", "", False)
 
 
 class BadCommand(Exception):
-    """What a command says can't be done; why, in words."""
+    """A command that is not possible, with the reason in words."""
 
 
 class CommandWish(NamedFields):
-    """What a command asks for: acts that are typed, or a wish of the front end's, and a text that belongs to it; its words; and what a new
-    pane or window begins with, where that isn't as always."""
+    """The request of a command: acts to type, or a word for the front end with its text; its words; and start options of a new pane or
+    window.
+    """
 
     acts: list[str]
     wish: str
@@ -37,7 +38,7 @@ class CommandWish(NamedFields):
 
 
 class Flags:
-    """The flags of a command, with the values of those that have one, and the words behind them."""
+    """The flags of a command, with the values of some, and the words after them."""
 
     def __init__(self, words: list[str], known: str) -> None:
         self.found: dict[str, str] = {}
@@ -54,16 +55,16 @@ class Flags:
         self.words = rest[1:] if rest[:1] == ["--"] else rest
 
     def demand_words(self, most: int = 0) -> None:
-        """Refuses more words than so many: none that isn't done is passed over."""
+        """Refuse more words than this, so that none is silently ignored."""
         if len(self.words) > most:
             raise BadCommand(f"unexpected word {printable(self.words[most])[:40]}")
 
     def has(self, flag: str) -> bool:
-        """Whether a flag stands there."""
+        """Return True if a flag is set."""
         return flag in self.found
 
     def number(self, text: str, default: int, most: int) -> int:
-        """A number of these words."""
+        """Return a number among these words."""
         if not text:
             return default
         if not (text.isascii() and text.isdigit() and 0 < int(text[:9]) <= most):
@@ -72,7 +73,7 @@ class Flags:
 
 
 class NamedCommand(NamedFields):
-    """A command: its names, the longest first, the flags that it has, as getopt has them, how its words are read, and what it does."""
+    """A command: its names, the longest first, its flags in getopt's form, the reader of its words, and its effect."""
 
     names: tuple[str, ...]
     flags: str
@@ -81,7 +82,7 @@ class NamedCommand(NamedFields):
 
 
 def wish(word: str) -> Callable[[Flags], CommandWish]:
-    """Reads a command that is one wish, without words."""
+    """Return a reader of a command that is a single request, without words."""
     def read(flags: Flags) -> CommandWish:
         flags.demand_words()
         return CommandWish([], word, "")
@@ -89,7 +90,7 @@ def wish(word: str) -> Callable[[Flags], CommandWish]:
 
 
 def by_flag(wishes: dict[str, str], default: str) -> Callable[[Flags], CommandWish]:
-    """Reads a command whose flag says which wish it is."""
+    """Return a reader of a command whose flag selects the request."""
     def read(flags: Flags) -> CommandWish:
         flags.demand_words()
         return CommandWish([], next((word for flag, word in wishes.items() if flags.has(flag)), default), "")
@@ -97,7 +98,7 @@ def by_flag(wishes: dict[str, str], default: str) -> Callable[[Flags], CommandWi
 
 
 def begun(wishes: dict[str, str], default: str) -> Callable[[Flags], CommandWish]:
-    """Reads a command that makes a pane or a window, as its flag says, with what that begins with."""
+    """Return a reader of a command that creates a pane or a window by its flag, with start options."""
     def read(flags: Flags) -> CommandWish:
         word = next((word for flag, word in wishes.items() if flags.has(flag)), default)
         begins = Begins(flags.words, folder_of(flags.found.get("c", HERE)), flags.found.get("n", ""), flags.has("d"))
@@ -113,14 +114,14 @@ def begun(wishes: dict[str, str], default: str) -> Callable[[Flags], CommandWish
 
 
 def folder_of(text: str) -> str:
-    """The folder that -c names; nothing where that is the one in which it begins anyway."""
+    """Return the folder that -c names; nothing for the default one."""
     if text != HERE and "#{" in text:
         raise BadCommand(f"-c takes a directory or {HERE}")
     return "" if text == HERE else text
 
 
 def window_of(flags: Flags) -> CommandWish:
-    """Reads which window is gone to: of a number, or another in order."""
+    """Read the target window: a number, or another one in order."""
     flags.demand_words(0 if "t" in flags.found else 1)
     target = flags.found.get("t", flags.words[0] if flags.words else "").lstrip(":=")
     ways = {"+": "go next", "-": "go previous", "!": "go last"}
@@ -130,7 +131,7 @@ def window_of(flags: Flags) -> CommandWish:
 
 
 def pane_of(flags: Flags) -> CommandWish:
-    """Reads which pane gets the focus: one of a number, the next, the last, or one beside."""
+    """Read the target pane: a number, the next, the last, or a neighbour."""
     flags.demand_words()
     target = flags.found.get("t", "").rpartition(".")[2].lstrip(":")
     if target == "+":
@@ -141,7 +142,7 @@ def pane_of(flags: Flags) -> CommandWish:
 
 
 def sized(flags: Flags) -> CommandWish:
-    """Reads how a pane is sized: zoomed, or by one of its borders, so many times."""
+    """Read the resize of a pane: a zoom, or a border moved by a number of cells."""
     flags.demand_words(0 if flags.has("Z") else 1)
     if flags.has("Z"):
         return CommandWish([], "zoom", "")
@@ -152,13 +153,13 @@ def sized(flags: Flags) -> CommandWish:
 
 
 def split_sizes_of(flags: Flags) -> CommandWish:
-    """Reads how the panes share the window: evenly, in the layout that is there."""
+    """Read the request for even split sizes in the current layout."""
     flags.demand_words(1 if flags.words[:1] in (["even-horizontal"], ["even-vertical"]) else 0)
     return CommandWish([], "even", "")
 
 
 def keys_sent(flags: Flags) -> CommandWish:
-    """Reads keys by their names, or texts, which are typed."""
+    """Read keys by name, or texts to type."""
     if len(flags.words) > MOST_WORDS or any(len(word) > LONGEST_TEXT for word in flags.words):
         raise BadCommand(f"at most {MOST_WORDS} words of {LONGEST_TEXT} characters are allowed")
     try:
@@ -171,14 +172,14 @@ def keys_sent(flags: Flags) -> CommandWish:
 
 
 def bound(flags: Flags) -> CommandWish:
-    """Reads what binds a key or unbinds one: the settings have the rest of that."""
+    """Read the key of a binding; the settings handle the rest."""
     if not flags.words and not flags.has("a"):
         raise BadCommand("a key is missing")
     return CommandWish([], "bind", "")
 
 
 def texted(word: str, is_needed: bool = True) -> Callable[[Flags], CommandWish]:
-    """Reads a command that has a text."""
+    """Return a reader of a command with a text."""
     def read(flags: Flags) -> CommandWish:
         text = " ".join(flags.words)
         if len(text) > LONGEST_TEXT:
@@ -189,7 +190,7 @@ def texted(word: str, is_needed: bool = True) -> Callable[[Flags], CommandWish]:
     return read
 
 
-# All of them. A flag that asks for what is so in roam anyway is passed over, and any other is refused: another pane would be meant.
+# All commands. A flag that asks for roam's usual behaviour is ignored; any other is refused, since it would refer to another pane.
 TABLE = (
     NamedCommand(("new-window", "neww"), "c:dn:", begun({}, "window new"),
                  "open a window, with a command, a directory (-c) and a name (-n) if given"),
@@ -230,7 +231,7 @@ TABLE = (
     NamedCommand(("toggle-status",), "", wish("row"), "hide the last row, or show it"),
     NamedCommand(("synchronize-panes",), "", wish("synchronize"), "send keys to all panes of the window, or stop"),
 )
-# What keys ask for behind the prefix where nobody bound them otherwise.
+# The default commands of keys after the prefix.
 DEFAULT_KEYS = {
     "%": "split-window -h", '"': "split-window -v", "x": "kill-pane", "o": "select-pane -t :.+", ";": "last-pane", "q": "display-panes",
     "Up": "select-pane -U", "Down": "select-pane -D", "Left": "select-pane -L", "Right": "select-pane -R", "z": "resize-pane -Z",
@@ -245,7 +246,7 @@ BY_NAME = {name: command for command in TABLE for name in command.names}
 
 
 def asked_by(words: list[str]) -> CommandWish:
-    """What a command asks for, by its words. BadCommand tells what of it can't be done."""
+    """Return the request of a command, from its words. BadCommand gives the reason if it is not possible."""
     name, *rest = words
     command = BY_NAME.get(name)
     if not command:
@@ -257,5 +258,5 @@ def asked_by(words: list[str]) -> CommandWish:
 
 
 def completed(begun: str) -> list[str]:
-    """The names of commands that begin so."""
+    """Return the names of commands with this beginning."""
     return sorted(name for command in TABLE for name in command.names if name.startswith(begun))

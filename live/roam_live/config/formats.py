@@ -10,11 +10,11 @@ from roam_live.config.styled_text import ROW_STYLE, Styled
 
 SIDES = ("left", "right")
 
-# A format has so many characters at most, and each of its values so many that are shown.
+# The most characters of a format, and of each shown value.
 MOST_FORMAT = 1024
 MOST_VALUE = 200
 
-# What a letter behind `#` stands for, and the long names of the same in `#{..}`.
+# The meaning of each letter after `#`, and the long names in `#{..}`.
 VALUES = {"S": "session", "W": "window", "I": "index", "F": "flags", "P": "pane", "T": "title", "H": "host", "h": "short_host"}
 LONG = {"session_name": "session", "window_name": "window", "window_index": "index", "window_flags": "flags", "pane_index": "pane",
         "pane_title": "title", "host": "host", "host_short": "short_host"}
@@ -23,7 +23,8 @@ LONG = {"session_name": "session", "window_name": "window", "window_index": "ind
 CHUNK = re.compile(r"#(?:(?P<letter>[A-Za-z])|\{(?P<long>[^{}]*)\}|\[(?P<style>[^\]]*)\]|\((?P<command>(?:[^()\\]|\\.)*)\)?|(?P<hash>#))"
                    r"|%(?P<time>[EO]?[A-Za-z%])|(?P<text>.)", re.DOTALL)
 
-# By what of the clock a text of strftime changes: each second, each minute, or with a quarter of an hour, at which days begin everywhere.
+# The strftime letters that change each second or each minute. Other texts change with a quarter of an hour, at which days begin in every
+# time zone.
 SECONDS, MINUTES = frozenset("STcrsX"), frozenset("MR")
 MINUTE, QUARTER = 60, 900
 
@@ -34,8 +35,9 @@ HEXADECIMAL = re.compile(r"#([0-9a-fA-F]{2})([0-9a-fA-F]{2})([0-9a-fA-F]{2})")
 NUMBERED = re.compile(r"colou?r([0-9]{1,3})")
 
 class Format(NamedFields):
-    """A format that is read: what stands in it, as a kind and a word each, what of it isn't known, and by how many seconds the clock goes
-    on before it changes; 0 where no clock is in it."""
+    """A parsed format: its parts, as a kind and a word each, its unknown parts, and the seconds between changes of its clock, 0 without
+    one.
+    """
 
     chunks: tuple[tuple[str, str], ...]
     wrong: tuple[str, ...]
@@ -43,7 +45,7 @@ class Format(NamedFields):
 
 
 def colour_numbers(word: str, is_behind: bool) -> str | None:
-    """The numbers of SGR for a colour's word, of the text or behind it; None where it is no word of one."""
+    """Return the SGR numbers of a colour word, for text or background; None if it is no colour."""
     base = 40 if is_behind else 30
     if word in ("default", "terminal"):
         return str(base + 9)
@@ -57,7 +59,7 @@ def colour_numbers(word: str, is_behind: bool) -> str | None:
 
 
 def restyled(style: dict[str, str], words: str) -> dict[str, str] | None:
-    """A style, as the numbers of SGR by what they set, once it goes by what stands in `#[..]`; None where a word of that isn't known."""
+    """Return a style changed by the words in `#[..]`, as SGR numbers by attribute; None if a word is unknown."""
     style = dict(style)
     for word in re.split(r"[, ]+", words.strip()):
         part, _, value = word.partition("=")
@@ -73,7 +75,7 @@ def restyled(style: dict[str, str], words: str) -> dict[str, str] | None:
 
 
 def read_format(text: str) -> Format:
-    """A format, with what of it is none: that stands for nothing."""
+    """Return a parsed format, with its invalid parts, which produce no text."""
     chunks: list[tuple[str, str]] = []
     wrong: list[str] = []
     step = 0
@@ -102,12 +104,12 @@ def read_format(text: str) -> Format:
 
 
 def unread(option: str, text: str) -> list[str]:
-    """What of the format that an option has isn't there in roam, a line each."""
+    """Return a line for each part of an option's format that roam does not support."""
     return [f"{option}: roam does not support {printable(word)[:40]}" for word in read_format(text).wrong]
 
 
 def filled(read: Format, values: dict[str, str], now: float) -> list[Styled]:
-    """What a format says, by what its values are, at a moment since the epoch: printable texts, each in a style."""
+    """Return the output of a format for these values at a moment since the epoch: printable texts, each with a style."""
     shown: list[Styled] = []
     style: dict[str, str] = {}
     moment = time.localtime(now)
@@ -125,8 +127,7 @@ def filled(read: Format, values: dict[str, str], now: float) -> list[Styled]:
 
 
 def changes_in(read: Format, now: float, interval: float) -> float | None:
-    """In how many seconds a format is to be looked at again, by the clock in it and the seconds that are to be between two looks; None
-    where no clock is in it, or no look is wanted."""
+    """Return the seconds until a format needs an update, by its clock and the interval between updates; None without a clock or updates."""
     if not read.step or not interval:
         return None
     return max(read.step - now % read.step, interval if read.step < interval else 0.0)

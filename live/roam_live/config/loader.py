@@ -1,4 +1,4 @@
-"""What a person's settings say: commands of files, in tmux's words, and what of them can't be had, told with its line and once."""
+"""The user's settings: files of commands in tmux's words. Each unsupported part is reported once, with its line."""
 from __future__ import annotations
 
 import glob
@@ -16,44 +16,46 @@ if TYPE_CHECKING:
 
     from roam_live.config.parser import Value, Word
 
-# A file has so many bytes at most; so many are named by one another at most, and so many are read in all.
+# The most bytes of a file; the deepest nesting of included files, and the most files in all.
 MOST_BYTES = 1 << 20
 DEEPEST = 10
 MOST_FILES = 100
 
-# So many lines are told at most, each of so many characters.
+# At most this many lines are reported, each of this many characters.
 MOST_TOLD, LONGEST_TOLD = 100, 200
 
-# The tables of keys: behind the prefix, and without it.
+# The tables of keys: after the prefix, and without it.
 PREFIXED, ROOT = TABLES = ("prefix", "root")
 
 CONDITIONS = ("%if", "%elif", "%else", "%endif")
 
 
 class Binding(NamedFields):
-    """What a key asks for: commands, each a list of words, and whether it may come again without the prefix for a moment."""
+    """The commands of a key, each a list of words, and a flag to repeat without the prefix for a moment."""
 
     commands: list[list[str]]
     repeats: bool
 
 
 class Branches:
-    """A condition that is read: whether one of its branches was taken, whether the one that is read is, and whether none is, since what it
-    asks isn't known here."""
+    """A condition during parsing.
+
+    Its flags: a branch was taken; the current one is taken; none is, because the condition is unknown here.
+    """
 
     def __init__(self, is_passed: bool, holds: bool | None) -> None:
         self.is_unknown, self.was_taken = is_passed or holds is None, bool(holds)
         self.is_read = not self.is_unknown and bool(holds)
 
     def go_on(self, holds: bool | None) -> None:
-        """Goes on with another branch."""
+        """Continue with another branch."""
         self.is_unknown = self.is_unknown or not self.was_taken and holds is None
         self.is_read = not self.is_unknown and not self.was_taken and bool(holds)
         self.was_taken = self.was_taken or self.is_read
 
 
 class FileSettings:
-    """What files say: options that are set, keys that are bound or bound no more, what is to be run and told, and what can't be had."""
+    """The contents of the files: options, bound and unbound keys, commands to run, messages, and unsupported parts."""
 
     def __init__(self, environment: dict[str, str] | None = None, commands: Container[str] | None = None) -> None:
         self.environment = dict(os.environ if environment is None else environment)
@@ -64,14 +66,14 @@ class FileSettings:
         self.messages: list[str] = []
         self.told: list[str] = []
         self.untold = 0
-        # The files that are read, from the first on, and how many were.
+        # The files being read, from the first on, and their total number.
         self.open: list[tuple[int, int]] = []
         self.count = 0
 
     # ---- files
 
     def read(self, path: str) -> None:
-        """Reads a file, where it is one that may be read; why not is told."""
+        """Read a file if that is allowed, and report the reason if it is not."""
         try:
             text = self.text_of(path)
         except BadWord as fault:
@@ -83,7 +85,7 @@ class FileSettings:
             self.open.pop()
 
     def text_of(self, path: str) -> str:
-        """The text of a file that is the user's or root's and that nobody else may write; it is one of those that are open from now on."""
+        """Return the text of a file that the user or root owns and nobody else may write. The file then counts as open."""
         if len(self.open) >= DEEPEST:
             raise BadWord(f"not read: files include one another more than {DEEPEST} deep")
         if self.count >= MOST_FILES:
@@ -110,12 +112,12 @@ class FileSettings:
         return found
 
     def take_text(self, text: str, name: str) -> None:
-        """Takes what a text says, of a file of a name."""
+        """Take the commands in a text of a named file."""
         reader = SettingsReader(text, self.environment, lambda line, words: self.tell(name, line, words))
         self.take_commands(reader.commands(), name)
 
     def take_commands(self, commands: Iterable[FileCommand], name: str) -> None:
-        """Takes commands, but those of branches that aren't read."""
+        """Take commands, except those of branches that are not taken."""
         stack: list[Branches] = []
         line = 0
         for command in commands:
@@ -131,7 +133,7 @@ class FileSettings:
             self.tell(name, line, "%if has no %endif")
 
     def branch(self, stack: list[Branches], command: FileCommand, name: str) -> None:
-        """Takes a line of a condition. What asks for a format isn't known here: all its branches are passed over."""
+        """Take a line of a condition. The value of a format is unknown here, so all branches of such a condition are skipped."""
         word, rest = str(command.words[0]), str(command.words[1]).strip("\"'")
         holds = None if "#" in rest or "$" in rest else rest not in ("", "0")
         is_passed = not all(branches.is_read for branches in stack)
@@ -148,7 +150,7 @@ class FileSettings:
             self.tell(name, command.line, "roam does not support formats in %if: skipped up to its %endif")
 
     def tell(self, name: str, line: int, words: str) -> None:
-        """Keeps what is told of a line, where it isn't kept yet and there is room."""
+        """Record a message about a line, if it is new and there is room."""
         told = printable(f"{os.path.basename(name)}{f':{line}' if line else ''}: {words}")[:LONGEST_TOLD]
         if told not in self.told:
             self.untold += len(self.told) >= MOST_TOLD
@@ -157,7 +159,7 @@ class FileSettings:
     # ---- commands
 
     def take(self, command: FileCommand, name: str) -> None:
-        """Takes a command."""
+        """Take a command."""
         word, *words = command.words
         does = {"set": self.set_option, "set-option": self.set_option, "setw": self.set_option, "set-window-option": self.set_option,
                 "bind": self.bind, "bind-key": self.bind, "unbind": self.unbind, "unbind-key": self.unbind, "run": self.run,
@@ -176,7 +178,7 @@ class FileSettings:
             raise BadWord(f"roam does not support {word[:40]}")
 
     def set_option(self, words: list[Word]) -> None:
-        """Sets an option, for all: of one that is added to, unset, or set where it isn't."""
+        """Set an option for all, with flags to append, to unset, or to set it only if unset."""
         flags, texts = flags_of(words, "t")
         if not texts or len(texts) > 2:
             raise BadWord("set needs a name and a value")
@@ -194,7 +196,7 @@ class FileSettings:
             self.values[option] = self.checked(option, value, "a" in flags)
 
     def checked(self, option: str, value: str | None, is_added: bool) -> Value:
-        """The value of an option, where it may be that."""
+        """Return the value of an option, if it is valid."""
         if value is None and option in SWITCHES:
             value = "off" if self.values.get(option) == "on" else "on"
         if value is None:
@@ -207,7 +209,7 @@ class FileSettings:
             raise BadWord(f"{option} is {value[:40]!r}; it {fault}" if "may" in str(fault)[:4] else f"{option}: {fault}") from None
 
     def bind(self, words: list[Word]) -> None:
-        """Binds a key."""
+        """Bind a key."""
         flags, rest = flags_before(words, "TN")
         if not rest or not isinstance(rest[0], str):
             raise BadWord("bind needs a key and a command")
@@ -220,7 +222,7 @@ class FileSettings:
         self.bindings[table_of(flags), key] = Binding(commands, "r" in flags)
 
     def unbind(self, words: list[Word]) -> None:
-        """Binds a key, or all of a table, to nothing."""
+        """Unbind a key, or all of a table."""
         flags, texts = flags_of(words, "T")
         table = table_of(flags)
         if "a" in flags:
@@ -232,19 +234,19 @@ class FileSettings:
             self.bindings[table, key_named(texts[0])] = None
 
     def run(self, words: list[Word]) -> None:
-        """Has a command of the shell be run."""
+        """Queue a shell command."""
         flags, texts = flags_of(words, "dtc")
         if len(texts) != 1 or "C" in flags:
             raise BadWord("run-shell takes one shell command")
         self.runs.append(texts[0])
 
     def display(self, words: list[Word]) -> None:
-        """Has something be told."""
+        """Queue a message for the user."""
         _, texts = flags_of(words, "cdtF")
         self.messages += [printable(texts[0])[:LONGEST_TOLD]] if texts else []
 
     def source(self, words: list[Word], name: str) -> None:
-        """Reads other files, which are named from the folder of this one, where they aren't named from the top."""
+        """Read other files. Relative paths start at this file's folder."""
         flags, paths = flags_of(words, "t")
         if not paths:
             raise BadWord("source needs a file")
@@ -257,7 +259,7 @@ class FileSettings:
 
 
 def read_most(end: int) -> bytes:
-    """What a file has, as far as it may be read, and a byte more where it has more."""
+    """Return the contents of a file up to the limit, and one byte more if it is longer."""
     chunks, left = list[bytes](), MOST_BYTES + 1
     while left and (chunk := os.read(end, min(left, 65536))):
         chunks.append(chunk)
@@ -266,7 +268,7 @@ def read_most(end: int) -> bytes:
 
 
 def refusal(status: os.stat_result) -> str:
-    """Why a file isn't read; nothing where it is."""
+    """Return the reason that a file is not read; nothing if it is."""
     if not stat.S_ISREG(status.st_mode):
         return "it is not a regular file"
     if status.st_uid not in (0, os.getuid()):
@@ -277,7 +279,7 @@ def refusal(status: os.stat_result) -> str:
 
 
 def flags_before(words: list[Word], valued: str) -> tuple[dict[str, str], list[Word]]:
-    """The flags that stand before other words, with the values of those that have one, and what stands behind them."""
+    """Return the flags before other words, with the values of some, and the words after them."""
     flags: dict[str, str] = {}
     rest = list(words)
     while rest and isinstance(rest[0], str) and len(rest[0]) > 1 and rest[0][0] == "-":
@@ -294,7 +296,7 @@ def flags_before(words: list[Word], valued: str) -> tuple[dict[str, str], list[W
 
 
 def flags_of(words: list[Word], valued: str) -> tuple[dict[str, str], list[str]]:
-    """The flags before words that are texts, and these."""
+    """Return the flags before words that are texts, and these words."""
     flags, rest = flags_before(words, valued)
     if any(isinstance(word, Block) for word in rest):
         raise BadWord("a block in braces is not supported here")
@@ -302,7 +304,7 @@ def flags_of(words: list[Word], valued: str) -> tuple[dict[str, str], list[str]]
 
 
 def table_of(flags: dict[str, str]) -> str:
-    """The table of keys that flags name."""
+    """Return the table of keys that flags name."""
     table = flags.get("T", ROOT if "n" in flags else PREFIXED)
     if table not in TABLES:
         raise BadWord(f"roam has no key table {table[:40]}")
@@ -310,7 +312,7 @@ def table_of(flags: dict[str, str]) -> str:
 
 
 def commands_of(words: list[Word]) -> list[list[str]]:
-    """The commands of a binding: those of a block, or words in which such that end with `;` part them."""
+    """Return the commands of a binding: those of a block, or words separated by those that end with `;`."""
     if len(words) == 1 and isinstance(words[0], Block):
         return [[str(word) for word in command.words] for command in words[0].commands if not is_nested(command)]
     commands: list[list[str]] = [[]]
@@ -325,7 +327,7 @@ def commands_of(words: list[Word]) -> list[list[str]]:
 
 
 def is_nested(command: FileCommand) -> bool:
-    """Whether a command has a block among its words, as those of conditions have."""
+    """Return True if a command has a block among its words, as conditions do."""
     if any(isinstance(word, Block) for word in command.words):
         raise BadWord("a block within a block is not supported here")
     return False

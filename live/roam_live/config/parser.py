@@ -1,4 +1,4 @@
-"""The words of a settings file, as tmux has them: how lines are read into commands, which options there are, and what each may be."""
+"""The syntax of a settings file, as in tmux: the parser of commands, the options, and their types."""
 from __future__ import annotations
 
 import bisect
@@ -14,28 +14,28 @@ if TYPE_CHECKING:
     from collections.abc import Callable, Iterator
     from typing import Union
 
-    # What stands in a command: a text, or a block of commands between braces.
+    # A part of a command: a text, or a block of commands between braces.
     Word = Union[str, "Block"]
     Value = Union[str, int]
 
-# Blocks stand in one another so deep at most, and a word has so many characters.
+# Limits: the nesting of blocks, and the characters of a word.
 DEEPEST = 20
 LONGEST_WORD = 1 << 16
 
-# What an escape is, beside three digits of octal, \u and four digits of hexadecimal, and \U and eight.
+# The single-letter escapes. Others are three octal digits, \u with four hexadecimal digits, and \U with eight.
 ESCAPES = {"a": "\a", "b": "\b", "e": "\x1b", "f": "\f", "s": " ", "v": "\v", "r": "\r", "n": "\n", "t": "\t"}
 HEXADECIMAL = "0123456789abcdefABCDEF"
 NAMED = "abcdefghijklmnopqrstuvwxyzABCDEFGHIJKLMNOPQRSTUVWXYZ0123456789_"
 
 
 class BadWord(Exception):
-    """What a command says can't be had; why, in words. Of what can't be read it may have the line."""
+    """An invalid or unsupported command, with the reason in words. A parse error may have its line."""
 
     line = 0
 
 
 def bad_word(words: str, line: int) -> BadWord:
-    """What can't be read from a line on."""
+    """Return the parse error for the text from a line on."""
     fault = BadWord(words)
     fault.line = line
     return fault
@@ -48,7 +48,7 @@ class Block(NamedFields):
 
 
 class FileCommand(NamedFields):
-    """A command: the line at which it begins, and its words; or of a condition its word, which begins with `%`, and the rest."""
+    """A command: its line number and words; for a condition, the word that begins with `%` and the rest."""
 
     line: int
     words: list[Word]
@@ -56,7 +56,10 @@ class FileCommand(NamedFields):
 
 
 class SettingsReader:
-    """Reads a text into commands. What can't be read is told with its line, at whose end it ends; a brace that isn't closed ends all."""
+    """Parses a text into commands.
+
+    A parse error is reported with its line, and skips the rest of that line. An unclosed brace ends the text.
+    """
 
     def __init__(self, text: str, environment: dict[str, str], tells: Callable[[int, str], object]) -> None:
         self.environment, self.tells = environment, tells
@@ -64,15 +67,17 @@ class SettingsReader:
         self.at = 0
 
     def line(self) -> int:
-        """The line that is read."""
+        """Return the number of the current line."""
         return self.lines[bisect.bisect_right(self.places, self.at) - 1]
 
     def next(self) -> str:
-        """The next character, nothing at the end."""
+        """Return the next character, nothing at the end."""
         return self.text[self.at : self.at + 1]
 
     def commands(self, depth: int = 0) -> Iterator[FileCommand]:
-        """The commands up to the end, or of a block up to its brace: each is read once those before it are taken, which set variables."""
+        """Yield the commands up to the end, or to the brace of a block. Each is parsed after the previous ones ran, since they set
+        variables.
+        """
         while self.next():
             try:
                 if self.next() == "}" and depth:
@@ -88,7 +93,7 @@ class SettingsReader:
                 yield command
 
     def command(self, depth: int) -> FileCommand:
-        """The command that begins here, up to a separator or the line's end, which are passed over."""
+        """Return the command that begins here, up to a separator or the line's end, which are skipped."""
         self.skip_blanks()
         line, words = self.line(), list["Word"]()
         while self.next() not in ("", "\n", ";") and not (depth and self.next() == "}"):
@@ -103,24 +108,24 @@ class SettingsReader:
         return FileCommand(line, words)
 
     def condition(self, line: int) -> FileCommand:
-        """A line that begins a condition, goes on in it or ends it: its word, and the rest as it stands."""
+        """Return a line that begins, continues or ends a condition: its word, and the rest unparsed."""
         begin = self.at
         self.skip_line()
         word, _, rest = self.text[begin : self.at].strip().partition(" ")
         return FileCommand(line, [word, rest.strip()], True)
 
     def skip_blanks(self) -> None:
-        """Goes on behind blanks."""
+        """Skip blanks."""
         while self.next() in (" ", "\t", "\r") and self.next():
             self.at += 1
 
     def skip_line(self) -> None:
-        """Goes on with the next line."""
+        """Go to the next line."""
         end = self.text.find("\n", self.at)
         self.at = len(self.text) if end < 0 else end + 1
 
     def word(self, depth: int) -> Word:
-        """The word that begins here."""
+        """Return the word that begins here."""
         if self.next() == "{" and self.text[self.at + 1 : self.at + 2] in ("", " ", "\t", "\n"):
             return self.block(depth + 1)
         begin, parts, length = self.at, list[str](), 0
@@ -133,7 +138,7 @@ class SettingsReader:
         return "".join(parts)
 
     def block(self, depth: int) -> Block:
-        """The block that begins here."""
+        """Return the block that begins here."""
         if depth > DEEPEST:
             raise BadWord("braces are nested too deep")
         line = self.line()
@@ -145,7 +150,7 @@ class SettingsReader:
         return Block(commands)
 
     def part(self, is_first: bool) -> str:
-        """A character of a word that isn't quoted, or what stands for some, or a part between quotes."""
+        """Return one part of a word: an unquoted character, an escape or variable, or a quoted part."""
         letter = self.next()
         if letter == "'":
             end = self.text.find("'", self.at + 1)
@@ -160,13 +165,13 @@ class SettingsReader:
         return self.plain()
 
     def plain(self) -> str:
-        """A character, or what an escape or a variable stands for."""
+        """Return a character, or the value of an escape or a variable."""
         letter = self.next()
         self.at += 1
         return self.escape() if letter == "\\" else self.variable() if letter == "$" else letter
 
     def quoted(self) -> str:
-        """What stands between double quotes."""
+        """Return the text between double quotes."""
         begin, parts = self.at, list[str]()
         self.at += 1
         while self.next() != '"':
@@ -178,7 +183,7 @@ class SettingsReader:
         return "".join(parts)
 
     def escape(self) -> str:
-        """The character of an escape; any other that stands behind a backslash is itself."""
+        """Return the character of an escape. Any other character after a backslash is itself."""
         digits = self.text[self.at : self.at + 3]
         if len(digits) == 3 and all(digit in "01234567" for digit in digits):
             self.at += 3
@@ -197,7 +202,7 @@ class SettingsReader:
         return chr(int(code, 16))
 
     def variable(self) -> str:
-        """What a variable of the environment is; nothing where it isn't there."""
+        """Return the value of an environment variable; nothing if it is unset."""
         is_braced = self.next() == "{"
         self.at += is_braced
         begin = self.at
@@ -210,7 +215,7 @@ class SettingsReader:
         return self.environment.get(name, "") if name else "$"
 
     def home(self) -> str:
-        """The home of this user, or of one that is named."""
+        """Return the home of this user, or of a named one."""
         begin = self.at
         while self.next() and self.next() not in " \t\r\n;/\"'":
             self.at += 1
@@ -219,7 +224,7 @@ class SettingsReader:
 
 
 def joined(text: str) -> tuple[str, list[int], list[int]]:
-    """A text with lines joined that a backslash at their ends has go on; where its lines begin in that, and their numbers."""
+    """Return a text with its continued lines joined, the offsets of its lines in the result, and their numbers."""
     parts, places, lines, length = list[str](), list[int](), list[int](), 0
     for number, line in enumerate(text.split("\n"), 1):
         places.append(length)
@@ -234,7 +239,7 @@ def joined(text: str) -> tuple[str, list[int], list[int]]:
 
 
 def key_named(name: str) -> str:
-    """A key by tmux's name for it, as it is known here."""
+    """Return the canonical name of a key with this tmux name."""
     key = named_key(name)
     if not key:
         raise BadWord(f"{printable(name)[:40]} is not a known key")
@@ -245,7 +250,7 @@ def key_named(name: str) -> str:
 
 
 def one_of(*choices: str) -> Callable[[str], Value]:
-    """The check of an option that is one of these."""
+    """Return the check of an option with these choices."""
     def check(value: str) -> Value:
         if value not in choices:
             raise BadWord(f"may be {', '.join(choices[:-1])} or {choices[-1]}")
@@ -254,7 +259,7 @@ def one_of(*choices: str) -> Callable[[str], Value]:
 
 
 def number_to(most: int) -> Callable[[str], Value]:
-    """The check of an option that is a number from 0 to the most."""
+    """Return the check of an option that is a number from 0 to the most."""
     def check(value: str) -> Value:
         if not (value.isascii() and value.isdigit() and len(value) <= len(str(most)) and int(value) <= most):
             raise BadWord(f"may be 0 to {most}")
@@ -263,7 +268,7 @@ def number_to(most: int) -> Callable[[str], Value]:
 
 
 def switch(value: str) -> Value:
-    """The check of an option that is on or off."""
+    """Check an option that is on or off."""
     known = {"on": "on", "yes": "on", "1": "on", "off": "off", "no": "off", "0": "off"}.get(value.lower())
     if not known:
         raise BadWord("may be on or off")
@@ -271,14 +276,14 @@ def switch(value: str) -> Value:
 
 
 def text(value: str) -> Value:
-    """The check of an option that is any printable text."""
+    """Check an option that is any printable text."""
     if len(value) > 1000 or printable(value) != value:
         raise BadWord("may have at most 1,000 printable characters")
     return value
 
 
 def prefix(value: str) -> Value:
-    """The check of the prefix."""
+    """Check the prefix."""
     found = next((name for name in PREFIXES if key_named(name) == key_named(value)), "")
     if not found:
         raise BadWord("may be C-a to C-z, C-], C-\\, C-^ or C-_")

@@ -1,4 +1,4 @@
-"""A person's own settings file: where it lies, that it is read where one is there, and what of it is told."""
+"""The user's own settings file: its path, its optional use, and the report on it."""
 from __future__ import annotations
 
 import os
@@ -11,18 +11,18 @@ if TYPE_CHECKING:
 
 NAME = "roam.conf"
 
-# The word of `mux` that prints each line.
+# The command of `mux` that prints each line.
 PRINTS = "mux settings"
 
 
 def settings_path() -> str:
-    """Where the file lies: in the folder `roam` of the folder of settings (XDG base directories)."""
+    """Return the path of the file: in the folder `roam` of the configuration folder (XDG base directories)."""
     base = os.environ.get("XDG_CONFIG_HOME", "")
     return os.path.join(base if os.path.isabs(base) else os.path.expanduser("~/.config"), "roam", NAME)
 
 
 def no_settings() -> FileSettings:
-    """Return settings that say nothing yet. Who has no such file doesn't wait for what these import."""
+    """Return empty settings. Users without a settings file do not wait for these imports."""
     from roam_live.config.command_table import BY_NAME
     from roam_live.config.loader import FileSettings
 
@@ -30,7 +30,7 @@ def no_settings() -> FileSettings:
 
 
 def read_settings() -> FileSettings | None:
-    """What the file says, by which it is gone from now on; None where there is none."""
+    """Return the contents of the file, and use them from now on; None if there is no file."""
     path = settings_path()
     if not os.path.lexists(path):
         choose_by_file({})
@@ -41,7 +41,7 @@ def read_settings() -> FileSettings | None:
 
 
 def take(found: FileSettings, path: str) -> None:
-    """Has settings go by a file too, and this process by them; a key isn't bound to what can't be done."""
+    """Add a file to the settings, and apply them in this process. Bindings to impossible commands are dropped."""
     found.read(path)
     for (table, key), binding in list(found.bindings.items()):
         why = next(filter(None, map(refused, binding.commands)), "") if binding else ""
@@ -52,7 +52,7 @@ def take(found: FileSettings, path: str) -> None:
 
 
 def refused(words: list[str]) -> str:
-    """Why a command can't be done; nothing where it can."""
+    """Return the reason that a command is impossible; nothing if it is possible."""
     from roam_live.config.command_table import BadCommand, asked_by
 
     try:
@@ -63,19 +63,19 @@ def refused(words: list[str]) -> str:
 
 
 class OwnSettings:
-    """What the file said as it was read last in this process."""
+    """The contents of the file as last read in this process."""
 
     def __init__(self) -> None:
         self.found: FileSettings | None = None
-        # Whether a key is bound, or unbound, by a command that was typed.
+        # True if a typed command has bound or unbound a key.
         self.is_typed = False
 
     def read(self) -> None:
-        """Reads it, and goes by it."""
+        """Read it, and apply it."""
         self.found, self.is_typed = read_settings(), False
 
     def add(self, path: str) -> None:
-        """Reads another file, and goes by it too."""
+        """Read another file, and apply it too."""
         found = no_settings()
         found.values.update(BY_FILE)
         found.bindings.update(self.found.bindings if self.found else {})
@@ -83,7 +83,7 @@ class OwnSettings:
         self.found = found
 
     def bind(self, words: list[str]) -> None:
-        """Binds a key, or unbinds one, by the words of a command, until the file is read anew. BadWord tells why that can't be."""
+        """Bind or unbind a key by the words of a command, until the file is reloaded. BadWord gives the reason of a failure."""
         from roam_live.config.parser import BadWord
 
         found = no_settings()
@@ -102,7 +102,7 @@ class OwnSettings:
         self.is_typed = True
 
     def line(self) -> str:
-        """What is told of it at a terminal."""
+        """Return the line about it for a terminal."""
         return summary(self.found)
 
 
@@ -110,13 +110,13 @@ OWN = OwnSettings()
 
 
 def default_command() -> list[str]:
-    """What runs in a pane where nothing is asked for: the option `default-command`, by the shell; else nothing."""
+    """Return the default command of a pane: the option `default-command`, run by the shell; else nothing."""
     command = text_of("default-command")
     return [os.environ.get("SHELL") or "/bin/sh", "-c", command] if command else []
 
 
 def undone(found: FileSettings) -> list[str]:
-    """What of a file isn't done, a line each."""
+    """Return a line for each unsupported part of a file."""
     from roam_live.config.formats import SIDES, unread
 
     wrong = [line for side in SIDES for line in unread(f"status-{side}", str(found.values.get(f"status-{side}", "")))]
@@ -124,8 +124,7 @@ def undone(found: FileSettings) -> list[str]:
 
 
 def summary(found: FileSettings | None) -> str:
-    """What is told at a terminal of a file that was read: what it has told there itself, or how much of it isn't done; nothing where all
-    is."""
+    """Return the report on a file for a terminal: its own message, or the count of unsupported parts; nothing if all is well."""
     lines = undone(found) if found else []
     said = found.messages[-1:] if found else []
     wrong = lines[:1] if len(lines) < 2 else [f"{len(lines)} lines of {NAME} have no effect in roam; `{PRINTS}` prints them"]

@@ -1,4 +1,4 @@
-"""A person's front end of a session: a terminal connected to the session's client process, until the person leaves or the session ends."""
+"""A user's front end of a session: a terminal connected to the session's client process, until the user leaves or the session ends."""
 from __future__ import annotations
 
 import time
@@ -30,21 +30,21 @@ if TYPE_CHECKING:
     from roam_live.frontend.command_line import CommandRunner
     from roam_live.protocol.session_interface import AnySession
 
-# So many seconds after it began a front end opens what it imports later.
+# Seconds after its start until a front end opens the modules that it imports later.
 LATE = 0.2
 
-# So many seconds each of several clients has at least for what was typed before a person left.
+# The least seconds for each of several clients to take the input typed before a detach.
 LEAST_WAIT = 0.1
 
-# What is said by one that another has detached.
+# The message of a front end that another one detached.
 DETACHED = "[detached by another terminal]"
 
-# What is said besides of a paste that could not be handed over any more.
+# This is added for a paste that could not be stored any more.
 UNPASTED = " the last paste was not typed"
 
 
 class FrontEnd:
-    """A person at a terminal, and the session there: at one of its windows, where it has several."""
+    """A user at a terminal, and the session there: at one of its windows if it has several."""
 
     def __init__(self, session: AnySession, is_read_only: bool, prefix: str, prediction: str, is_new: Callable[[Places | None], bool],
                  first: FirstPainting, has_mouse: bool = False, has_clips: bool = False) -> None:
@@ -76,7 +76,7 @@ class FrontEnd:
         self.join()
 
     def join_parts(self) -> None:
-        """Tell each part what others do."""
+        """Connect the parts' calls to one another."""
         views, keyboard, windows = self.views, self.keyboard, self.windows
         views.server_ends, views.shows = self.server_ended, self.connection.show
         self.host_link.leaves = lambda: self.leave(DETACHED)
@@ -88,7 +88,7 @@ class FrontEnd:
 
     @property
     def runner(self) -> CommandRunner:
-        """Return what does commands, which is loaded as it is first used."""
+        """Return the command runner, which is loaded on first use."""
         if not self.command_runner:
             from roam_live.frontend.command_line import CommandRunner
 
@@ -96,26 +96,26 @@ class FrontEnd:
         return self.command_runner
 
     def values(self) -> dict[str, str]:
-        """Return what the words of formats stand for."""
+        """Return the values of the words in formats."""
         views, is_zoomed = self.views, self.display.part.zoomed is not None
         return format_values(self.name, views.number, self.windows.told, views.view.panes, is_zoomed)
 
     def server_ended(self, view: WindowView) -> None:
-        """Go on in another window where the server of this one has ended; if there is none the session has."""
+        """Continue in another window after the end of this one's server; without another one the session has ended."""
         view.watch_no_more(self.loop)
-        # Of another machine's session the relay is meant, which all windows have.
+        # For a remote session the relay is the server, which all windows share.
         if view.session.served == "relay" or not (view.number and self.windows.leave(view.number)):
             self.leave(*view.session.ending())
 
     def join(self) -> None:
-        """Have the loop see signals, what is typed, and what the terminal takes."""
+        """Add signals, input, and the terminal's output to the loop."""
         outer = self.display.outer
         self.loop.add(self.wakeup, self.signalled)
         self.loop.add(0, self.typed, hears=lambda: not (self.views.link.is_stuffed() or self.views.commands.is_full()))
         self.loop.add(outer.end, None, self.show, has_more=outer.has_more)
 
     def leave(self, line: str | None, status: int = 0) -> None:
-        """End with a line; None goes on."""
+        """End with a line; None continues."""
         if line is not None and self.left is None:
             self.left, self.status = line, status
             self.watchdog.stop()
@@ -123,30 +123,32 @@ class FrontEnd:
     # ---- the terminal
 
     def resized(self) -> None:
-        """Goes by a new size of the terminal."""
+        """Handle a new size of the terminal."""
         self.display.outer.is_known = False
         self.views.commands.follower.resized()
         self.display.resized()
         self.loop.later("size", 0.0 if self.views.commands.follower.is_fresh() else SIZES, self.views.commands.follower.fit)
 
     def continued(self) -> None:
-        """Takes the terminal again, which another may have had."""
+        """Take the terminal again, which another process may have used."""
         self.display.enter_again()
         self.views.commands.show_metadata()
         self.resized()
 
     def suspended(self, numbers: bytes) -> bytes:
-        """Gives the terminal back, stops, and takes it again, unless it is to leave; tells the signals that are left of these and of those
-        that came meanwhile."""
+        """Release the terminal, stop, and take it again, unless a signal ends this process.
+
+        Return the unhandled signals, of these and of those that arrived meanwhile.
+        """
         self.display.outer.suspend()
         numbers += read(self.wakeup) or b""
-        # One that is ended while it is stopped may be in the background, where to take the terminal would stop it anew.
+        # A process ended while it is stopped may be in the background. To take the terminal there would stop it again.
         if not any(number in LEAVING for number in numbers):
             self.continued()
         return bytes(number for number in numbers if number not in (signal.SIGTSTP, signal.SIGCONT))
 
     def signalled(self) -> None:
-        """Goes by the signals that came."""
+        """Handle the signals that arrived."""
         numbers = read(self.wakeup) or b""
         if signal.SIGTSTP in numbers and self.left is None:
             numbers = self.suspended(numbers)
@@ -161,7 +163,7 @@ class FrontEnd:
     # ---- the loop
 
     def turn(self) -> None:
-        """Waits until something can be done, and does it. What is at hand goes at once, where it is taken: a person waits for each key."""
+        """Wait until something is ready, and handle it. Send results at once if possible, since the user waits for each key."""
         try:
             self.loop.turn()
         except ImportError:
@@ -177,7 +179,7 @@ class FrontEnd:
             self.views.draining.settle()
 
     def typed(self) -> None:
-        """Takes what was typed."""
+        """Read input."""
         chunk = read(0)
         if chunk == b"":
             self.leave("", 1)
@@ -185,17 +187,17 @@ class FrontEnd:
         self.watchdog.typed()
 
     def show(self) -> None:
-        """Writes what the terminal takes; where it is gone this ends."""
+        """Write as much as the terminal accepts. If it is gone, this front end ends."""
         if not self.display.outer.put():
             self.leave("", 1)
 
     def ask_colours(self) -> None:
-        """Asks the terminal for its colours, where a host may know them of it."""
+        """Query the terminal's colours if a host may need them."""
         if self.session.folder and not self.views.link.is_read_only:
             self.display.outer.ask_colours()
 
     def part(self) -> None:
-        """Closes the connections: where the person has left the clients are given what was typed, all together in so many seconds."""
+        """Close the connections. After a detach the clients get the typed input, all of them within so many seconds."""
         links = [self.views.link, *(view.link for view in self.views.draining.views.values())]
         end = time.monotonic() + LAST_WAIT
         for link in links if self.left is not None else []:
@@ -205,20 +207,20 @@ class FrontEnd:
             link.close()
 
     def hands_over(self) -> bool:
-        """Whether a paste is still handed over where the person has left: that is waited for, as for what was typed last."""
+        """Return True if a paste is still being stored after a detach. The front end waits for that, as for the last input."""
         if self.left_at is None:
             self.left_at = self.loop.clock()
             self.loop.later("left", LAST_WAIT, lambda: None)
         return self.views.hands_over() and self.loop.clock() < self.left_at + LAST_WAIT
 
     def begin_late(self) -> None:
-        """Have what is imported later be there, whatever becomes of roam's files. The keys behind the prefix need some of it in any case."""
+        """Import the late modules now, in case roam's files change. Keys after the prefix need some of them anyway."""
         self.late.begin()
         if not self.late.bundle:
             defaults()
 
     def run(self) -> int:
-        """Follows the session until the person leaves or it ends, and tells the status."""
+        """Follow the session until the user detaches or it ends, and return the status."""
         try:
             self.loop.later("late", LATE, self.begin_late)
             self.ask_colours()
@@ -234,8 +236,10 @@ class FrontEnd:
         return self.status
 
     def end(self) -> None:
-        """Leave the terminal and the session. What was typed is handed over before a terminal is waited for that takes nothing, and
-        whatever hangs behind that is ended by a signal."""
+        """Release the terminal and the session.
+
+        The typed input is sent first, in case the terminal accepts nothing. A signal ends whatever hangs afterwards.
+        """
         outer, left = self.display.outer, self.left
         all_done(self.views.commands.left, lambda: outer.begin_leave(left and left + UNPASTED * self.views.hands_over()), self.part,
                  outer.end_leave, self.late.end, lambda: unwoken(*LEAVING))

@@ -1,4 +1,4 @@
-"""What keys mean behind the prefix, the keymap of a person who has bound others, and the list of keys."""
+"""The commands of keys after the prefix, the keymap with the user's own bindings, and the list of keys."""
 from __future__ import annotations
 
 from roam_live.config.environment import PREFIX, PREFIXES
@@ -12,21 +12,21 @@ if TYPE_CHECKING:
     from roam_live.config.command_table import CommandWish, NamedCommand
     from roam_live.config.loader import Binding
 
-    # What a settings file binds: by the table and the name of a key, nothing where it is unbound.
+    # The bindings of a settings file by table and key name; None for an unbound key.
     Own = dict[tuple[str, str], "Binding | None"]
 
-# What comes among keys and is none: an escape before one of these is a key of its own.
+# Events among the keys that are no keys. An escape before one of them is a key of its own.
 NO_KEYS = ("text", "paste", "pasted", MOUSE, COLOUR, ANSWERED)
 
-# What a wish begins with that is a key's of a person's own: its table and its name stand behind.
+# The start of a request by a user's own binding; its table and key name follow.
 OWN = "own"
 
-# For so many seconds after a border was moved the next move needs no prefix; and for so many after C-b q a digit is a pane's.
+# Seconds after a move of a border in which the next move needs no prefix, and seconds after C-b q in which a digit selects a pane.
 REPEATS = 0.5
 PICKS = 3.0
 DIGITS = "123456789"
 
-# So many rows a view goes back at most.
+# The most rows that a view scrolls back.
 MOST_VIEW = 500
 NEWEST = f"view -{MOST_VIEW}"
 
@@ -57,19 +57,20 @@ C-b and then:
 
 
 def help_with(prefix: str) -> str:
-    """The help, where a key of this name is the prefix."""
-    # A prefix that is typed twice is itself, and nothing else.
+    """Return the help text for a prefix of this name."""
+    # A prefix that is typed twice is itself.
     lines = [line for line in HELP.split("\n") if prefix == PREFIX or not line.startswith(f"  {prefix} ")]
     return "\n".join(lines).replace(PREFIX, prefix)
 
 
-# What `defaults` returns, once it was asked for.
+# The cached result of `defaults`.
 DEFAULTS: dict[str, CommandWish] = {}
 
 
 def defaults() -> dict[str, CommandWish]:
-    """Return what the keys behind the prefix ask for where nobody bound them otherwise, by the table of commands: acts, or wishes. An arrow
-    is the wish to have the pane there in focus."""
+    """Return the default commands of keys after the prefix, from the table of commands: acts, or requests. An arrow requests the focus on
+    that side's pane.
+    """
     if not DEFAULTS:
         DEFAULTS.update(default_wishes())
     return DEFAULTS
@@ -84,32 +85,32 @@ def default_wishes() -> dict[str, CommandWish]:
 
 
 def moves_border(name: str) -> bool:
-    """Return True if a key moves a border, where nobody bound it otherwise."""
+    """Return True if a key moves a border by default."""
     return name in defaults() and defaults()[name].wish.startswith("border")
 
 
 def with_meta(escape: Key, key: Key) -> Key | None:
-    """Return the key with Meta that a terminal sends as an escape and another key right behind it; None if they aren't one."""
+    """Return the key with Meta that a terminal sends as an escape and another key right after it; None if they are two keys."""
     return Key(f"M-{key.name}", escape.text + key.text) if escape.name == ESCAPE and key.name not in NO_KEYS else None
 
 
 class Keymap:
-    """What keys mean at one person's terminal: the prefix, the keys that he has bound, and which may be repeated without the prefix."""
+    """The commands of keys at one user's terminal: the prefix, the user's bindings, and those that repeat without the prefix."""
 
     def __init__(self, prefix: str = PREFIX) -> None:
         self.name, self.prefix = prefix, PREFIXES[prefix]
         self.repeats_until = 0.0
-        # The keys that a person has bound, by their table and name; those that mean nothing, and whether all of a table are so else.
+        # The user's bindings by table and key name; unbound keys, and a flag for a table without other bindings.
         self.own: dict[tuple[str, str], Binding | None] = {}
-        # The terminal's rows, half of which are a page.
+        # The terminal's rows; a page is half of them.
         self.rows = 24
 
     def choose(self, prefix: str) -> None:
-        """Make the key of a name the prefix."""
+        """Make the key of this name the prefix."""
         self.name, self.prefix, self.repeats_until = prefix, PREFIXES[prefix], 0.0
 
     def joined(self, keys: list[Key]) -> list[Key]:
-        """Return keys, of which an escape and the one behind it are one with Meta if a person has bound that."""
+        """Return keys, with an escape and its successor as one key with Meta if the user has bound that."""
         if not self.own:
             return keys
         from roam_live.input.key_names import name_of_key
@@ -124,7 +125,7 @@ class Keymap:
         return found
 
     def own_wish(self, table: str, key: Key, now: float) -> str | None:
-        """Return the wish of a person's own binding of a key, "" if it is bound to nothing, None if there is no such binding."""
+        """Return the request of a user's own binding, "" if the key is unbound, None if there is no such binding."""
         if not self.own:
             return None
         from roam_live.input.key_names import names_of_key
@@ -140,7 +141,7 @@ class Keymap:
         return f"{OWN} {table} {name}" if binding else ""
 
     def repeats(self, key: Key, now: float) -> bool:
-        """Return True if a key needs no prefix for a moment: one that moves a border, or a person's own that may be repeated."""
+        """Return True if a key needs no prefix for a moment: one that moves a border, or a user's own with repeat."""
         if now >= self.repeats_until:
             return False
         from roam_live.input.key_names import names_of_key
@@ -150,16 +151,16 @@ class Keymap:
         return moves_border(key.name) or binding is not None and binding.repeats
 
 
-# What stands for all keys of a table that nothing binds; and the last row where there are more than have room.
+# The name for all unbound keys of a table; and the last row of a list that has too many keys.
 ALL = "all"
 FOOT = "{} to {} of {}: arrows, PgUp and PgDn scroll, another key leaves"
 
-# So many columns a key has, and so many what a command is told behind its name.
+# Columns of a key, and the most columns of a command's arguments.
 COLUMNS, MOST = 10, 48
 
 
 def help_of(prefix: str, own: Own, is_typed: bool = False) -> str:
-    """The keys, where a person has bound these, by the file alone or also by a command that was typed."""
+    """Return the list of keys with the user's bindings, from the file alone or with typed commands too."""
     if not own:
         return help_with(prefix)
     by = f"roam.conf or {prefix} :bind" if is_typed else "roam.conf"
@@ -170,7 +171,7 @@ def help_of(prefix: str, own: Own, is_typed: bool = False) -> str:
 
 
 def section(title: str, own: Own, table: str) -> list[str]:
-    """What a settings file binds in a table, under a title."""
+    """Return the bindings of a settings file in one table, with a title."""
     from roam_live.input.key_names import spelled_name
 
     found = {name: binding for (one, name), binding in own.items() if one == table}
@@ -179,14 +180,14 @@ def section(title: str, own: Own, table: str) -> list[str]:
 
 
 def told(binding: Binding | None) -> str:
-    """What a key asks for, in the words of the file."""
+    """Return a binding in the words of the file."""
     if not binding:
         return "nothing"
     return "; ".join(" ".join(f"'{word}'" if " " in word or not word else word for word in words) for words in binding.commands)
 
 
 def default_lines(own: Own) -> list[str]:
-    """A line for each command that keys have which nobody bound otherwise."""
+    """Return a line for each command with default keys that the user has not rebound."""
     from roam_live.config.command_table import BY_NAME, DEFAULT_KEYS
     from roam_live.input.key_names import named, named_key
 
@@ -199,7 +200,7 @@ def default_lines(own: Own) -> list[str]:
 
 
 def command_line(command: NamedCommand, keys: list[tuple[str, str]]) -> str:
-    """The line of a command: its keys, its name with what each has behind it, and what it does."""
+    """Return the line of a command: its keys with their arguments, its name, and its effect."""
     rests = ", ".join(rest for _, rest in keys if rest)
     does = command.help.partition(", with a command")[0]
     name = f"{command.names[0]} {rests}" if 0 < len(rests) <= MOST else command.names[0]

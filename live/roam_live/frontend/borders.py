@@ -1,21 +1,20 @@
-"""The borders between panes: which splits there are, as far as rectangles tell it, whose own split a border is, and the layout's rule by
-which the sizes of their parts are reckoned."""
+"""The borders between panes: the splits that rectangles imply, the pane whose split a border belongs to, and the layout's size rule."""
 from __future__ import annotations
 
 from roam_live.common import tty
 from roam_live.common.named_fields import NamedFields
 from roam_live.protocol.panes import Rect
 
-# What a session, or a part of it, is made of: a pane, by its number, or two parts; and the rectangle that it fills.
+# A session or a part of it: a pane number or two parts, and the rectangle that it fills.
 Box = tuple[Rect, "int | PaneSplit"]
 
-# A pane has so many columns and rows at least; and it grows by so many at once at most.
+# The least columns and rows of a pane; and the most cells of one resize.
 LEAST = {"right": 4, "down": 2}
 MOST_GROWTH = 99
 
 
 class PaneSplit(NamedFields):
-    """Two parts beside one another (`right`), or one below the other (`down`)."""
+    """Two parts side by side (`right`), or one below the other (`down`)."""
 
     way: str
     first: int | PaneSplit
@@ -23,17 +22,17 @@ class PaneSplit(NamedFields):
 
 
 def begin_of(rect: Rect, way: str) -> int:
-    """A rectangle's first column or row, along a way."""
+    """Return a rectangle's first column or row, by direction."""
     return rect.col if way == "right" else rect.row
 
 
 def end_of(rect: Rect, way: str) -> int:
-    """The column or row behind a rectangle, where the border is."""
+    """Return the column or row after a rectangle, the position of its border."""
     return rect.col + rect.cols if way == "right" else rect.row + rect.rows
 
 
 def way_between(first: Rect, second: Rect) -> str:
-    """The way from a rectangle to one that a border alone parts from it, as long as it; nothing where that isn't so."""
+    """Return the direction from a rectangle to an equally long one across a single border; nothing if there is none."""
     if (first.row, first.rows) == (second.row, second.rows) and end_of(first, "right") + 1 == second.col:
         return "right"
     if (first.col, first.cols) == (second.col, second.cols) and end_of(first, "down") + 1 == second.row:
@@ -42,13 +41,15 @@ def way_between(first: Rect, second: Rect) -> str:
 
 
 def around(first: Rect, second: Rect) -> Rect:
-    """What two rectangles and the border between them fill."""
+    """Return the rectangle of two rectangles and the border between them."""
     return Rect(first.row, first.col, end_of(second, "down") - first.row, end_of(second, "right") - first.col)
 
 
 def joined(boxes: dict[int, Box], is_in_order: bool, seen: set[frozenset[Rect]]) -> int | PaneSplit | None:
-    """The splits of boxes by the smallest numbers of their panes; None where they can't be. In order, the one with the greatest number was
-    split off last, behind what it was split from."""
+    """Return the splits of boxes by the smallest numbers of their panes; None if there is no such layout.
+
+    In order, the box with the greatest number was split off last, from the one before it.
+    """
     if len(boxes) == 1:
         return next(iter(boxes.values()))[1]
     state = frozenset(rect for rect, _ in boxes.values())
@@ -71,31 +72,33 @@ def joined(boxes: dict[int, Box], is_in_order: bool, seen: set[frozenset[Rect]])
 
 
 def splits_of(rects: dict[int, Rect]) -> int | PaneSplit | None:
-    """The splits by which panes were made, as far as their rectangles tell it; None where they tell none. A new pane has the smallest free
-    number, so that these tell the rest where none was closed."""
+    """Return the splits that produced the panes, as far as rectangles show it; None if they show none.
+
+    A new pane has the smallest free number. So the numbers decide the rest if no pane was closed.
+    """
     boxes: dict[int, Box] = {pane: (rect, pane) for pane, rect in rects.items()}
     in_order = joined(boxes, True, set())
     return joined(boxes, False, set()) if in_order is None else in_order
 
 
 def is_told_by_numbers(rects: dict[int, Rect]) -> bool:
-    """Whether the panes' numbers may tell the splits: where one is missing a pane was closed, and they don't."""
+    """Return True if pane numbers may decide the splits. A missing number means that a pane was closed, and then they don't."""
     boxes: dict[int, Box] = {pane: (rect, pane) for pane, rect in rects.items()}
     return sorted(rects) == list(range(1, len(rects) + 1)) and joined(boxes, True, set()) is not None
 
 
 def box_of(parts: int | PaneSplit, rects: dict[int, Rect]) -> Rect:
-    """The rectangle that parts fill."""
+    """Return the rectangle of parts."""
     return rects[parts] if isinstance(parts, int) else around(box_of(parts.first, rects), box_of(parts.second, rects))
 
 
 def panes_of(parts: int | PaneSplit) -> list[int]:
-    """The panes of parts."""
+    """Return the panes of parts."""
     return [parts] if isinstance(parts, int) else panes_of(parts.first) + panes_of(parts.second)
 
 
 def least_of(parts: int | PaneSplit, way: str) -> int:
-    """How long parts are at least, along a way."""
+    """Return the least length of parts, by direction."""
     if isinstance(parts, int):
         return LEAST[way]
     first, second = least_of(parts.first, way), least_of(parts.second, way)
@@ -103,8 +106,10 @@ def least_of(parts: int | PaneSplit, way: str) -> int:
 
 
 class Border(NamedFields):
-    """A border, along which panes lie `right` or `down`: its least and its greatest column or row, a pane that touches it at either side,
-    and the panes whose own split it is: whether it goes along with one that grows (1) or towards it (-1)."""
+    """A border with panes to its `right` or below (`down`): its range of columns or rows, a pane on each side, and its owners.
+
+    Owners are the panes whose own split it is: with 1 the border moves along with a growing pane, with -1 towards it.
+    """
 
     way: str
     least: int
@@ -114,12 +119,12 @@ class Border(NamedFields):
     leaves: list[tuple[int, int]]
 
     def at(self, rects: dict[int, Rect]) -> int:
-        """The column or row in which it is; 0 where that isn't known."""
+        """Return its column or row; 0 if unknown."""
         return end_of(rects[self.before], self.way) if self.before in rects else 0
 
 
 def border_at(rects: dict[int, Rect], row: int, col: int) -> Border | None:
-    """The border that has a place of the session; None where none has."""
+    """Return the border at a position of the session; None if there is none."""
     parts = splits_of(rects)
     while isinstance(parts, PaneSplit):
         way, box, first = parts.way, box_of(parts, rects), box_of(parts.first, rects)
@@ -137,8 +142,7 @@ def border_at(rects: dict[int, Rect], row: int, col: int) -> Border | None:
 
 
 class Above(NamedFields):
-    """A split above a pane: whether the pane is in its first part, how far its border is shifted from the middle, and how long both parts
-    are at least."""
+    """A split above a pane: a flag for its first part, the border's shift from the middle, and the least lengths of both parts."""
 
     way: str
     is_first: bool
@@ -147,35 +151,35 @@ class Above(NamedFields):
     least_second: int
 
     def part(self, whole: int) -> int:
-        """How long the part with the pane is where the split has a length."""
+        """Return the length of the pane's part for a length of the split."""
         first = first_length(whole, self.shift, self.least_first, self.least_second)
         return first if self.is_first else whole - 1 - first
 
 
 def first_length(whole: int, shift: int, least_first: int, least_second: int) -> int:
-    """How long the first part of a split is: to its middle and the shift, as far as both parts have room."""
+    """Return the length of the first part of a split: its middle plus the shift, as far as both parts have room."""
     return min(max((whole - 1) // 2 + shift, least_first), whole - 1 - least_second)
 
 
 def length_of(rect: Rect, way: str) -> int:
-    """A rectangle's length along a way."""
+    """Return a rectangle's length, by direction."""
     return rect.cols if way == "right" else rect.rows
 
 
 def area_of(rects: dict[int, Rect]) -> Rect:
-    """What panes and the borders between them fill."""
+    """Return the rectangle of all panes and the borders between them."""
     first = min(rects.values(), key=lambda rect: (rect.row, rect.col))
     last = max(rects.values(), key=lambda rect: (rect.row + rect.rows, rect.col + rect.cols))
     return around(first, last)
 
 
 def shift_of(split: PaneSplit, rects: dict[int, Rect]) -> int:
-    """How far a split's border is from the middle. Where a part is as short as it can be the layout may have it further off."""
+    """Return the distance of a split's border from the middle. If a part has its least length the layout's value may be larger."""
     return length_of(box_of(split.first, rects), split.way) - (length_of(box_of(split, rects), split.way) - 1) // 2
 
 
 def above(pane: int, parts: int | PaneSplit, rects: dict[int, Rect]) -> list[Above]:
-    """The splits above a pane, from the outermost inwards."""
+    """Return the splits above a pane, from the outermost inwards."""
     found: list[Above] = []
     while isinstance(parts, PaneSplit):
         is_first = pane in panes_of(parts.first)
@@ -186,28 +190,28 @@ def above(pane: int, parts: int | PaneSplit, rects: dict[int, Rect]) -> list[Abo
 
 
 def length_at(whole: int, splits: list[Above], way: str) -> int:
-    """How long a pane is where the area has a length, by the splits above it."""
+    """Return the length of a pane for a length of the area, from the splits above it."""
     for split in splits:
         whole = split.part(whole) if split.way == way else whole
     return whole
 
 
 def size_for(wanted: tty.Size, least: tty.Size, splits: list[Above]) -> tty.Size:
-    """The smallest size of a session, from a least one on, at which a pane has so many rows and columns; the largest one, where none gives
-    it as many."""
+    """Return the smallest size of a session, from `least` on, that gives a pane the wanted rows and columns; the largest size if none does.
+    """
     rows = next((rows for rows in range(least[0], tty.MOST[0]) if length_at(rows - 1, splits, "down") >= wanted[0]), tty.MOST[0])
     return rows, next((cols for cols in range(least[1], tty.MOST[1]) if length_at(cols, splits, "right") >= wanted[1]), tty.MOST[1])
 
 
 def cut_at(rect: Rect, way: str, first: int) -> tuple[Rect, Rect]:
-    """The two parts of a rectangle, of which the first has a length."""
+    """Return the two parts of a rectangle, the first with a given length."""
     if way == "right":
         return rect._replace(cols=first), rect._replace(col=rect.col + first + 1, cols=rect.cols - first - 1)
     return rect._replace(rows=first), rect._replace(row=rect.row + first + 1, rows=rect.rows - first - 1)
 
 
 def laid(parts: int | PaneSplit, rects: dict[int, Rect], box: Rect) -> dict[int, Rect]:
-    """The rectangles of panes that have rectangles now, once they fill another box."""
+    """Return the rectangles of panes after their layout fills another box."""
     if isinstance(parts, int):
         return {parts: box}
     first = first_length(length_of(box, parts.way), shift_of(parts, rects), *(least_of(part, parts.way) for part in parts[1:]))
@@ -215,19 +219,21 @@ def laid(parts: int | PaneSplit, rects: dict[int, Rect], box: Rect) -> dict[int,
     return {**laid(parts.first, rects, boxes[0]), **laid(parts.second, rects, boxes[1])}
 
 
-# ---- even shares
+# ---- even sizes
 
 
 def row_of(parts: int | PaneSplit, way: str) -> list[int | PaneSplit]:
-    """What stands side by side along a way: the parts of a split, and of splits that way among these."""
+    """Return the parts side by side in one direction: those of a split, and of splits in that direction among them."""
     if isinstance(parts, PaneSplit) and parts.way == way:
         return row_of(parts.first, way) + row_of(parts.second, way)
     return [parts]
 
 
 def split_sizes(whole: int, least: list[int]) -> list[int]:
-    """A length in so many shares and a border between each two: equal ones, the last of them one longer where it doesn't come out, but none
-    shorter than it can be."""
+    """Divide a length into equal parts with a border between each two.
+
+    The last part is one longer if there is a remainder, and none is shorter than its least length.
+    """
     left, fixed = whole - len(least) + 1, [0] * len(least)
     while True:
         free = [place for place, length in enumerate(fixed) if not length]
@@ -242,15 +248,16 @@ def split_sizes(whole: int, least: list[int]) -> list[int]:
 
 
 def growths(pane: int, by: int) -> list[str]:
-    """The acts by which a pane grows by so much along its own split."""
+    """Return the acts that grow a pane by so much along its own split."""
     whole, rest = divmod(abs(by), MOST_GROWTH)
     sign = 1 if by > 0 else -1
     return [f"focus {pane}", *[f"grow {sign * MOST_GROWTH}"] * whole, *[f"grow {sign * rest}"] * (rest > 0)]
 
 
 class Evened:
-    """Even shares for panes: the acts that give them, as far as a pane's own split has the border; where the panes are then; and whether a
-    border can't be moved."""
+    """Even split sizes for panes: the acts that set them for borders with an owner, the resulting positions, and a flag for immovable
+    borders.
+    """
 
     def __init__(self, parts: int | PaneSplit, rects: dict[int, Rect]) -> None:
         self.before, self.acts, self.is_stuck = rects, list[str](), False
@@ -258,7 +265,7 @@ class Evened:
         self.even(parts, area_of(rects))
 
     def even(self, parts: int | PaneSplit, box: Rect) -> None:
-        """Gives parts that fill a box even shares, from the outermost split inwards: what is inside goes by what is outside."""
+        """Give the parts of a box even sizes, from the outermost split inwards, since inner sizes depend on outer ones."""
         if isinstance(parts, int):
             self.rects[parts] = box
             return

@@ -1,4 +1,4 @@
-"""What a person's own keys and command line ask for, done at this terminal."""
+"""Runs the commands of a user's own key bindings and of the command line at this terminal."""
 from __future__ import annotations
 
 import os
@@ -23,8 +23,7 @@ TYPE_CHECKING = False
 if TYPE_CHECKING:
     from collections.abc import Callable
 
-# So many seconds a line stands that a command tells; so many lines that were typed are kept, each so long; and so many programs run at
-# once, of which so much is heard.
+# Seconds for which a command's message is shown; limits of the history and of its lines; of concurrent programs, and of their output.
 SAID = 4.0
 MOST_LINES, LONGEST_LINE = 100, 1000
 MOST_RUNS, MOST_HEARD = 8, 1 << 16
@@ -32,18 +31,18 @@ ELSEWHERE = "this session has one window"
 
 
 class CommandLine(AskedLine):
-    """A command that is typed: lines that were typed before are had by the arrows, and names are completed by Tab."""
+    """A typed command: arrows recall earlier lines, and Tab completes names."""
 
     def __init__(self, before: deque[str]) -> None:
         super().__init__(":", most=LONGEST_LINE)
         self.before, self.place = before, len(before)
 
     def line(self) -> str:
-        """The line as it is shown."""
+        """Return the visible line."""
         return f":{self.text}"
 
     def edit(self, name: str) -> bool:
-        """Takes a key that edits it."""
+        """Take an editing key."""
         if name in ("up", "down", "\x10", "\x0e"):
             self.place = min(max(self.place + (-1 if name in ("up", "\x10") else 1), 0), len(self.before))
             self.text = self.before[self.place] if self.place < len(self.before) else ""
@@ -54,7 +53,7 @@ class CommandLine(AskedLine):
         return super().edit(name)
 
     def complete(self) -> None:
-        """Completes the name of the command, as far as there is one way."""
+        """Complete the name of the command, as far as it is unique."""
         before, _, begun = self.text.rpartition("; ")
         names = completed(begun) if begun and " " not in begun else []
         if names:
@@ -63,10 +62,10 @@ class CommandLine(AskedLine):
 
 
 class ShellRun:
-    """A command of the shell that runs beside: what it says is shown, and where it runs in the background the last line is told."""
+    """A shell command that runs in parallel. Its output is shown; in the background only its last line is."""
 
     def __init__(self, loop: Loop, command: str, shows: Callable[[list[str]], object]) -> None:
-        # Few sessions run one.
+        # Few sessions run a shell command.
         import subprocess
 
         self.loop, self.command, self.shows = loop, command, shows
@@ -79,7 +78,7 @@ class ShellRun:
         loop.add(self.end, self.hear)
 
     def hear(self) -> None:
-        """Takes what it says, of which the end is kept, until it says no more."""
+        """Read its output until end of file, and keep the last part."""
         chunk = read(self.end)
         if chunk:
             self.heard = (self.heard + chunk)[-MOST_HEARD:]
@@ -91,12 +90,12 @@ class ShellRun:
             self.shows([printable(line.expandtabs()) for line in lines])
 
     def has_ended(self) -> bool:
-        """Whether its shell has ended."""
+        """Return True if its shell has ended."""
         return self.process.poll() is not None
 
 
 class CommandRunner:
-    """Does commands, at the window where the person is."""
+    """Runs commands in the user's current window."""
 
     def __init__(self, keyboard: Interpreter, settings: FrontSettings) -> None:
         self.keyboard, self.settings, self.loop = keyboard, settings, keyboard.loop
@@ -104,22 +103,22 @@ class CommandRunner:
         self.runs: list[ShellRun] = []
 
     def tell(self, text: str) -> None:
-        """Tells a line in the last row."""
+        """Show a message in the last row."""
         if text:
             self.keyboard.commands().display.row.tell(text, SAID)
 
     def show(self, lines: list[str], is_behind: bool) -> None:
-        """Shows lines in a list, where there are several; of one, or where a list can't be, the last is told."""
+        """Show several lines in a list. For one line, or without a list, show the last one as a message."""
         if is_behind or len(lines) < 2 or not self.keyboard.commands().lists.show_lines(lines):
             self.tell(lines[-1].strip() if lines else "")
 
     def run_all(self, commands: list[list[str]]) -> None:
-        """Does commands one after the other, up to one that can't be done, which is told."""
+        """Run commands in sequence, up to the first that fails, and report its error."""
         try:
             for place, words in enumerate(commands):
                 asked = asked_by(words)
                 if asked.begins:
-                    # What follows is for the pane that is there then.
+                    # The rest applies to the pane that is focused then.
                     rest = commands[place + 1 :]
                     self.keyboard.commands().handing.begin(asked.wish, asked.begins, lambda: self.run_all(rest))
                     return
@@ -128,7 +127,7 @@ class CommandRunner:
             self.tell(str(fault))
 
     def do(self, asked: CommandWish) -> None:
-        """Does what a command asks for."""
+        """Carry out the request of a command."""
         commands = self.keyboard.commands()
         does: dict[str, Callable[[str], object]] = {
             "tell": self.tell_text, "window name": self.name_window, "command line": self.ask,
@@ -149,7 +148,7 @@ class CommandRunner:
                 self.keyboard.grant(asked.wish)
 
     def run_wish(self, wish: str) -> None:
-        """Does what a key of a person's own asks for, or what a command line is for."""
+        """Carry out the request of a user's own key, or of a command line."""
         word, _, rest = wish.partition(" ")
         if word != KEY:
             self.do(CommandWish([], wish, ""))
@@ -162,11 +161,11 @@ class CommandRunner:
     # ---- the line
 
     def ask(self, text: str = "") -> None:
-        """Asks for a command."""
+        """Ask for a command."""
         self.keyboard.commands().acts.ask_line(CommandLine(self.lines), "command")
 
     def typed(self, text: str) -> None:
-        """Does what was typed."""
+        """Run a typed command."""
         if not text.strip():
             return
         if not self.lines or self.lines[-1] != text:
@@ -181,27 +180,27 @@ class CommandRunner:
             return
         self.run_all([[str(word) for word in command.words] for command in commands])
 
-    # ---- what has a text
+    # ---- commands with a text
 
     def tell_text(self, text: str) -> None:
-        """Tells a text, in which formats stand."""
+        """Show a text as a message, with its formats filled in."""
         try:
             self.tell(printable(self.settings.filled(text)))
         except ValueError as fault:
             raise BadCommand(str(fault)) from None
 
     def type_prefix(self, text: str) -> None:
-        """Types the prefix."""
+        """Type the prefix."""
         prefix = self.keyboard.commands().modes.keymap.prefix
         self.keyboard.commands().type_key(acts_of(Key(prefix, prefix)))
         self.keyboard.commands().synchronizing.settle()
 
     def read_settings(self, text: str) -> None:
-        """Reads the settings file anew, or a file that is named too."""
+        """Reload the settings file, or read a named file too."""
         self.settings.read(text)
 
     def name_window(self, text: str) -> None:
-        """Gives the window a name, or asks for one."""
+        """Name the window, or ask for a name."""
         commands = self.keyboard.commands()
         if not text:
             self.keyboard.grant("window name")
@@ -211,7 +210,7 @@ class CommandRunner:
             commands.windows().say(f"name {commands.session.number} {name_word(text)}")
 
     def set_option(self, words: list[str]) -> None:
-        """Sets an option, at this terminal and until the settings are read anew."""
+        """Set an option at this terminal, until the settings are reloaded."""
         from roam_live.config.loader import FileSettings
         from roam_live.config.parser import BadWord
 
@@ -222,7 +221,7 @@ class CommandRunner:
             found.set_option([*words[1:]])
         except BadWord as fault:
             raise BadCommand(str(fault)) from None
-        # This one is the window's alone.
+        # This option belongs to the window alone.
         is_on, others = found.values.pop(OPTION, "off") == "on", {OPTION: BY_FILE[OPTION]} if OPTION in BY_FILE else {}
         choose_by_file({**found.values, **others})
         if is_on == synchronizing.is_on():
@@ -231,7 +230,7 @@ class CommandRunner:
             self.keyboard.grant("synchronize")
 
     def bind(self, words: list[str]) -> None:
-        """Binds a key, or unbinds one, at this terminal and until the settings are read anew."""
+        """Bind or unbind a key at this terminal, until the settings are reloaded."""
         from roam_live.config.parser import BadWord
 
         try:
@@ -241,7 +240,7 @@ class CommandRunner:
         self.settings.go_by()
 
     def run_shell(self, text: str, is_behind: bool) -> None:
-        """Runs a command of the shell beside, or in the background."""
+        """Run a shell command in parallel, or in the background."""
         self.runs = [run for run in self.runs if not run.has_ended()]
         if len(self.runs) >= MOST_RUNS:
             raise BadCommand(f"{MOST_RUNS} shell commands are running already")

@@ -1,4 +1,4 @@
-"""The parts of a front end that do what a person asks for in one window, and how they work together."""
+"""The parts of a front end that serve one window, and their cooperation."""
 from __future__ import annotations
 
 from roam_live.common import tty
@@ -31,20 +31,20 @@ if TYPE_CHECKING:
     from roam_live.frontend.spawn_commands import Handing
     from roam_live.protocol.session_interface import AnySession
 
-# What is told of a paste that is begun in a window that is gone before its end.
+# The message for a paste that was begun in a window that is gone before its end.
 WINDOW_GONE = "not pasted: its window is gone"
 
-# What waits in the loop for a window, and is nothing in another.
+# Timers that belong to one window, and mean nothing in another.
 OF_WINDOW = ("fit", "others", "size", "requested size", "motion", "border", "untold", "even", "zoom", "zoom left", "zoom comes",
              "synchronize")
 
-# What is told if a module can't be imported, and for how many seconds.
+# The message after a module failed to import, and its duration in seconds.
 REPLACED = "roam was replaced; detach and attach"
 REPLACED_TOLD = 3.0
 
 
 class Commands:
-    """What one person does in a window of a session."""
+    """The actions of one user in a window of a session."""
 
     def __init__(self, session: AnySession, panes: PanesSubscriber, link: ClientLink, display: Display, loop: Loop,
                  leave: Callable[[str | None], None], modes: ModeStack, gives_back: Callable[[Key], object],
@@ -52,7 +52,7 @@ class Commands:
                  is_new: Callable[[Places | None], bool] = lambda places: False, is_whole: bool = False) -> None:
         self.session, self.link, self.display, self.loop, self.leave, self.modes = session, link, display, loop, leave, modes
         self.windows, self.gives_back = windows, gives_back
-        # Whether the session is shown whole where it has room, with its own status row.
+        # True if the session is shown whole if it fits, with its own status row.
         self.is_whole = is_whole
         self.acts = acts = WindowActs(session, panes, link, display, loop, modes, host)
         self.size = SessionSize(acts, self.size_told)
@@ -60,7 +60,7 @@ class Commands:
         self.left_zoom = LeftZoom(acts, self.size, self.zooming.is_on, lambda: self.follower.mend(is_late=True))
         self.follower = SizeFollower(acts, self.size, self.zooming, self.left_zoom, is_new)
         self.panes = PaneActions(acts, self.zooming, windows)
-        # Copy mode, what moves borders by keys, and what hands over commands, once they were used here.
+        # Copy mode, the border keys, and the uploads of start options, once they were used here.
         self.copy_mode: Copying | None = None
         self.border_mover: BorderKeys | None = None
         self.spawner: Handing | None = None
@@ -68,18 +68,18 @@ class Commands:
                                  lambda place: windows().go_to_shown(place))
         self.lists = Lists(acts, self.is_copying)
         self.synchronizing = Synchronizing(acts, self.zooming.is_on, self.show_known)
-        # The session's size and the labels of its panes, as they were told last.
+        # The session's size and the labels of its panes, as last reported.
         self.known: tuple[tty.Size, str] = (NO_SIZE, "")
         acts.settles = lambda: self.synchronizing.settle(is_last=True)
         acts.ends_zoom, acts.focus_moves, acts.borders_move = self.zooming.ended_by, self.focus_moves, self.borders_move
         acts.intake.spreads = self.synchronizing.pasted_in
         display.moved = self.fit_drawn
 
-    # ---- what is loaded as it is first used: few who attach wait for it
+    # ---- loaded on first use, since few attached users need them
 
     @property
     def handing(self) -> Handing:
-        """Return what hands over commands for new panes."""
+        """Return the uploads of start options for new panes."""
         if not self.spawner:
             from roam_live.frontend.spawn_commands import Handing
 
@@ -88,7 +88,7 @@ class Commands:
 
     @property
     def border_keys(self) -> BorderKeys:
-        """Return what moves borders by keys."""
+        """Return the borders that keys move."""
         if not self.border_mover:
             from roam_live.frontend.resize_keys import BorderKeys
 
@@ -114,14 +114,14 @@ class Commands:
             self.copy_mode.close()
 
     def ask_buffers(self, is_newest: bool) -> None:
-        """Paste the newest buffer, or open a list of them, in place of copy mode."""
+        """Paste the newest buffer, or open a list of buffers, in place of copy mode."""
         self.end_copying()
         self.lists.ask_buffers(is_newest)
 
-    # ---- what parts do behind one another
+    # ---- cooperation of the parts
 
     def size_told(self, is_given: bool) -> None:
-        """Go by a size that the session is given, or refused."""
+        """Handle a size that the session got, or refused."""
         if is_given:
             self.left_zoom.overrule()
         else:
@@ -129,36 +129,36 @@ class Commands:
         self.show_known()
 
     def focus_moves(self, acts: tuple[str, ...]) -> None:
-        """Go by acts of this person that move the focus."""
+        """Handle this user's acts that move the focus."""
         if self.copy_mode:
             self.copy_mode.focus_moved(acts)
         self.lists.close()
 
     def borders_move(self) -> bool:
-        """Return True if a border that this person moves is on its way: it changes the sizes of panes, and no focus."""
+        """Return True if a border that this user moves is on its way: it changes the sizes of panes, but not the focus."""
         drags = (self.border_mover.drag if self.border_mover else None, self.pointing.border)
         return any(drag is not None and drag.grown for drag in drags)
 
     def fit_drawn(self) -> None:
-        """Have what is drawn over a pane go by where that is now."""
+        """Move everything drawn over a pane to the pane's current rectangle."""
         if not self.display.part.is_held:
             if self.copy_mode:
                 self.copy_mode.fit()
             self.lists.fit()
 
     def tell_replaced(self) -> None:
-        """Tell that a module of this roam can't be imported any more, and go on without what needs it."""
+        """Report that a module of this roam no longer imports, and continue without the feature."""
         if self.copy_mode:
             self.copy_mode.give_up()
         self.display.row.tell(REPLACED, REPLACED_TOLD)
 
-    # ---- what is typed
+    # ---- input
 
     def type_key(self, acts: list[str], key: Key = Key("", "")) -> None:
-        """Type what a key asks for: where keys go to all panes, those of it that do."""
+        """Type the acts of a key. While keys go to all panes, only its typed acts do."""
         keys = [act for act in acts if act.startswith(TYPES)]
         if keys and key.name == INTERRUPT and not self.link.is_read_only:
-            # A program may have it in another form than that of an interrupt.
+            # A program may get it in another form than an interrupt.
             self.acts.pastes.interrupt()
         if not keys or not self.synchronizing.is_working():
             places = self.acts.places() if key.extended else None
@@ -171,7 +171,7 @@ class Commands:
             self.synchronizing.add(keys)
 
     def formed(self, acts: list[str], key: Key, pane: int) -> list[str]:
-        """Return acts, with those of the key at their end in the form in which a pane's program asked for it."""
+        """Return acts, with those of the key at their end in the form that a pane's program requested."""
         typed = acts_of(key)
         form = form_for(key.extended, self.acts.panes.modes(pane)) if key.extended and typed and acts[-len(typed) :] == typed else ""
         return [*acts[: -len(typed)], *acts_of(Key("text", form))] if form else acts
@@ -183,16 +183,18 @@ class Commands:
         self.acts.note_key()
 
     def is_full(self) -> bool:
-        """Return True if so much waits for rows, for the focus or for a window that nothing more is to come. What waits behind a paste
-        keeps nothing back: C-c and the prefix are read in any case."""
+        """Return True if too much input waits for rows, for the focus or for a window to accept more.
+
+        Input after a paste blocks nothing: C-c and the prefix are read anyway.
+        """
         if not (self.synchronizing.keys or self.copy_mode or self.modes.pushed):
             return False
         return self.synchronizing.is_full() or self.copy_mode is not None and self.copy_mode.is_full() or self.windows().waiting.is_full()
 
-    # ---- what is reported
+    # ---- reports
 
     def panes_changed(self) -> None:
-        """Take note that something is reported of the panes: where the focus is now, if that or a pane is new."""
+        """Handle a report about the panes: the new focus, if it or a pane has changed."""
         if self.acts.panes_changed():
             self.synchronizing.hide_predictions()
         self.size.panes_changed()
@@ -210,12 +212,12 @@ class Commands:
         self.windows().waiting.told_panes()
 
     def show_metadata(self) -> None:
-        """Give the terminal the title and the cursor's shape of the pane in focus, and ask it for what its program wants of the mouse."""
+        """Set the terminal's title and cursor shape by the focused pane, and request the mouse reports that its program wants."""
         self.display.outer.set_title_and_shape(*self.acts.panes.title_and_shape)
         self.display.outer.ask(self.pointing.asked())
 
     def show_known(self) -> None:
-        """Have the display go by what is known of the session: while it may get a size that it was given that is its size."""
+        """Update the display from the known session. While a requested size is pending, that is its size."""
         places, is_untold = self.acts.panes.places, self.acts.panes.is_untold()
         if places or is_untold:
             self.known = (places.size(), places.labels()) if places else (NO_SIZE, "")
@@ -227,29 +229,28 @@ class Commands:
     # ---- scrollback rows
 
     def copy(self, wish: str) -> None:
-        """Open copy mode in the pane in focus, a page up or in its search on request; if no rows are kept the view that all share
-        scrolls."""
+        """Open copy mode in the focused pane, a page up or in its search on request. Without scrollback, the shared view scrolls."""
         self.lists.close()
         self.copying.start(wish, lambda: self.scroll_back(wish))
 
     def scroll_back(self, wish: str) -> bool:
-        """Scroll the view that all share, and return True if that is possible."""
+        """Scroll the shared view, and return True if that is possible."""
         if wish != "copy search" and self.acts.begin_scroll(wish == "copy page"):
             return True
         self.display.row.tell("this pane has no stored rows")
         return False
 
-    # ---- from window to window
+    # ---- moves between windows
 
     def left(self) -> None:
-        """Do what is left to do where the person leaves."""
+        """Finish the user's actions before a detach."""
         self.synchronizing.settle(is_last=True)
         if self.modes.has(ScrollMode):
             self.acts.end_scroll()
         self.zooming.leave()
 
     def part(self) -> None:
-        """Do what is left to do where the person goes to another window: what was drawn, and waited for, is this window's."""
+        """Finish the user's actions before a move to another window. Popups and pending actions belong to this window."""
         self.left()
         self.end_copying()
         self.lists.close()
@@ -260,8 +261,8 @@ class Commands:
             self.loop.drop(name)
 
     def follow_on(self, before: Commands, left_size: tty.Size) -> None:
-        """Go on in this window with what the person has begun elsewhere, as a paste. The window may have been shown whole as it was left,
-        with a size."""
+        """Continue an action begun in another window, such as a paste. `left_size` is the size in which this window was last shown whole.
+        """
         self.pointing.is_on = before.pointing.is_on
         self.display.moved = self.fit_drawn
         self.follower.begin_window(left_size)

@@ -1,5 +1,7 @@
-"""A front end's connection to the client process of the window where the person is: it is had again where it is lost, and a person is told
-where lines that were typed aren't taken."""
+"""A front end's connection to the client process of the user's window.
+
+It reconnects after a loss, and the user gets a message if typed lines are not taken.
+"""
 from __future__ import annotations
 
 import os
@@ -16,13 +18,13 @@ TYPE_CHECKING = False
 if TYPE_CHECKING:
     from collections.abc import Callable
 
-# What the moment is called at which it is looked again, and how many seconds lie between two looks.
+# The name of the timer for the check, and the seconds between checks.
 MOMENT = "untaken"
 LOOKS = 1.0
 
-# No line was taken for so many seconds while the server was heard: it keeps acts for which it has no memory, and all behind them. It is
-# heard if something is painted, or if it answers a question, which is asked of a server on this machine. Otherwise that is known once a
-# silence of the server would have been told, after ten seconds.
+# No line was taken for so many seconds although the server is alive: it keeps acts for which it has no memory, and all later ones. A
+# painting or an answer shows that it is alive. A server on this machine is asked. Otherwise the front end waits until a silence of the
+# server would have been reported, after ten seconds.
 UNTAKEN = 2.0
 UNTAKEN_SILENTLY = 12.0
 
@@ -31,36 +33,34 @@ NOT_TAKEN = "no keys are accepted: the server may be out of memory, or the clien
 
 
 class UntakenLines:
-    """Looks, while lines aren't taken, for how long none was.
+    """Checks how long no line was taken while some wait.
 
-    `link` returns the link to the client process of the window where the person is. `asks` asks the server for a sign of life, which
-    `answered` takes.
+    `link` returns the link to the client process of the user's window. `asks` asks the server for a sign of life, and `answered` takes it.
     """
 
     def __init__(self, link: Callable[[], ClientLink], row: LastRow, loop: Loop, asks: Callable[[], object] = lambda: None) -> None:
         self.link, self.row, self.loop, self.asks = link, row, loop, asks
-        # The link for which that is counted, how many of its lines were taken, since when no more were, and when something was painted or
-        # answered.
+        # The observed link, the number of lines taken, the start of the current pause, and the moment of the last painting or answer.
         self.counted: ClientLink | None = None
         self.taken = 0
         self.since = self.painted = self.alive = 0.0
 
     def note_sent(self) -> None:
-        """A line is given."""
+        """Record that a line is sent."""
         if MOMENT not in self.loop.due:
             self.count()
             self.loop.later(MOMENT, LOOKS, self.look)
 
     def answered(self) -> None:
-        """The server answered."""
+        """Record that the server answered."""
         self.alive = self.loop.clock()
 
     def count(self) -> None:
-        """Count from now on."""
+        """Start counting now."""
         self.counted, self.taken, self.since = self.link(), self.link().taken, self.loop.clock()
 
     def look(self) -> None:
-        """Tell a person if no line was taken for long, until one is; look again while lines aren't taken."""
+        """Inform the user if no line was taken for long, until one is; check again while lines aren't taken."""
         link = self.link()
         if link is not self.counted or link.taken != self.taken:
             self.count()
@@ -74,7 +74,7 @@ class UntakenLines:
             self.loop.later(MOMENT, LOOKS, self.look)
 
     def why(self) -> str:
-        """Say why no line is taken, or return "" if that isn't so, or a silence of the server tells it."""
+        """Return the reason that no line is taken; "" if lines are taken, or if a silence of the server explains it."""
         link, waits = self.link(), self.loop.clock() - self.since
         if not link.peer or link.is_done() or self.row.silent:
             return ""
@@ -84,30 +84,29 @@ class UntakenLines:
         return NOT_TAKEN if is_alive or waits >= UNTAKEN_SILENTLY else ""
 
 
-# So many bytes may wait for the terminal before what brings more is left alone.
+# Bytes that may wait for the terminal before paintings stay unread.
 PAINTED_LIMIT = 1 << 16
 
-# While a terminal is drawn larger by hand it has hundreds of sizes: the session gets one that has stood for so many seconds. Of one that it
-# had got before a smaller followed it would be cut.
+# During a resize by mouse a terminal has hundreds of sizes. The session gets one that has lasted for so many seconds. A smaller size in
+# between would cut its lines.
 SIZES = 0.3
 
-# How often it is looked whether the server is there, where no process is known.
+# Seconds between checks for a server whose process is unknown.
 PROBES = 2.0
 
-# So many seconds a line stands that tells what a person has lost.
+# Seconds for which a message about lost input is shown.
 LOSS_TOLD = 3.0
 
 
 class Connecting:
-    """The connection of one front end. A call goes to another window if the one where the person is has gone, and returns True if it
-    does."""
+    """The connection of one front end. A call moves to another window if the user's window has gone, and returns True if it does."""
 
     def __init__(self, views: WindowViews, leaves_window: Callable[[int], bool]) -> None:
         self.views, self.leaves_window, self.display, self.loop = views, leaves_window, views.display, views.loop
         self.untaken = UntakenLines(lambda: views.link, self.display.row, self.loop, self.ask_server)
 
     def begin(self, records: list[DisplayRecord]) -> None:
-        """Go on with the connection that the first painting came by, of which these records came; without one, connect."""
+        """Continue with the connection of the first painting and its records; without one, connect."""
         if not self.views.link.peer:
             self.connect()
             return
@@ -117,7 +116,7 @@ class Connecting:
             self.note(record)
 
     def connect(self) -> None:
-        """Connect to the client; if that can't be done now it is tried again, and the person may leave."""
+        """Connect to the client. If that fails now, retry later, and let the user detach."""
         view = self.views.view
         failed = view.reconnector.connect()
         if failed and self.is_window_gone() and self.leaves_window(view.number):
@@ -135,26 +134,25 @@ class Connecting:
             self.display.row.tell(loss, LOSS_TOLD)
 
     def is_window_gone(self) -> bool:
-        """Return True if the window where the person is has no folder any more: that one of another machine's is gone may be reported too
-        late."""
+        """Return True if the folder of the user's window is gone. For a remote window the report may come too late."""
         folder = self.views.view.session.folder
         return bool(self.views.number and folder and not os.path.isdir(folder))
 
     def show(self) -> None:
-        """Have the window painted where the person is, once there is a connection."""
+        """Request a painting of the user's window once there is a connection."""
         if self.views.link.peer:
             self.show_window()
         else:
             self.connect()
 
     def show_window(self) -> None:
-        """Have a client that is connected paint what is to be shown."""
+        """Request the wanted painting from a connected client."""
         self.display.notice = ""
         self.display.begin()
         self.follow_window()
 
     def follow_window(self) -> None:
-        """Go by what a client that is connected reports, and have it show what there is to see."""
+        """Subscribe to the reports of a connected client, and request the view."""
         link, commands = self.views.link, self.views.commands
         self.loop.add(link, self.hear, self.send, hears=lambda: len(self.display.outer.waiting) < PAINTED_LIMIT,
                       has_more=lambda: link.waiting)
@@ -164,12 +162,12 @@ class Connecting:
         commands.acts.act(*([] if commands.modes.has(ScrollMode) else [NEWEST]))
 
     def pause(self, said: str, wait: float) -> None:
-        """Say what is in the way for so long."""
+        """Show the reason for the interruption for so many seconds."""
         self.views.acts.paused = wait >= 1
         self.display.show(f"{said}; next try in {wait} s" + ("; C-c or q leaves" if wait >= 1 else ""))
 
     def lost(self) -> None:
-        """Go on without the connection, which is had again: at once for the first time, else after a pause that grows."""
+        """Continue without the connection, and reconnect: at once the first time, else after a growing pause."""
         reconnector = self.views.view.reconnector
         self.loop.remove(self.views.link)
         said, wait = reconnector.lost(), reconnector.pause()
@@ -178,19 +176,19 @@ class Connecting:
             self.pause(said, wait)
 
     def probe(self) -> None:
-        """Look whether the server is there; a client whose server isn't ends."""
+        """Check that the server is there; without it the client ends."""
         self.loop.later("probe", PROBES, self.probe)
         self.views.view.session.is_served()
 
-    # ---- what comes and goes
+    # ---- input and output
 
     def say(self, line: str) -> None:
-        """Say a line about what is shown here, if there is a client: each that is connected to is told anew."""
+        """Send a line about the view if there is a client. Every new connection gets it anew."""
         if self.views.link.peer:
             self.views.link.say(line)
 
     def hear(self) -> None:
-        """Take what the client reported."""
+        """Read the client's reports."""
         records = self.views.link.read_events()
         if records is None:
             self.lost()
@@ -204,7 +202,7 @@ class Connecting:
         self.note(record)
 
     def note(self, record: DisplayRecord) -> None:
-        """Take note of a record: by the size of what is painted that of the session may be known, if nothing else reports it."""
+        """Take a record. Without other reports, the size of the painting may reveal that of the session."""
         if record.word in ("paint", "anew"):
             self.untaken.painted = self.loop.clock()
         elif record.word == "size":
@@ -213,7 +211,7 @@ class Connecting:
                 self.loop.later("size", SIZES, follower.fit_first)
 
     def send(self) -> None:
-        """Send what the client takes."""
+        """Send as much as the client accepts."""
         self.untaken.note_sent()
         if not self.views.link.send():
             self.views.link.hear_last()

@@ -1,4 +1,4 @@
-"""What a person's terminal shows: a part of a session as it is painted, or lines in place of it, and a line in the last row."""
+"""The contents of a user's terminal: a painted part of a session, or lines in its place, and a line in the last row."""
 from __future__ import annotations
 
 from roam_live.common import tty
@@ -17,57 +17,55 @@ TYPE_CHECKING = False
 if TYPE_CHECKING:
     from collections.abc import Callable
 
-# A terminal that is drawn larger or smaller by hand is painted anew once in so many seconds at most.
+# During a resize by mouse a terminal is repainted once in so many seconds at most.
 DRAWN = 0.05
 
-# So many seconds later nothing stands there any more of a window that was left, where the other isn't painted yet.
+# Seconds after which the rest of the previous window is erased if the new one is not painted yet.
 ENTERS = 0.15
 
 TOO_SMALL = "too small"
 
 
 class Display:
-    """What is shown on a terminal: a part of a session, as it is painted, and in the last row a line of the front end's own. Where the
-    session may be shown whole, with its status row, a line that is told stands over that.
+    """The display on a terminal: a painted part of a session, and a line of the front end in the last row.
 
-    What a client tells comes in whole records, so nothing is ever written into the middle of a painting, and none is read.
+    If the session is shown whole, with its status row, messages cover that row. A client sends whole records, so nothing is ever written
+    into the middle of a painting, and paintings are not parsed.
     """
 
     def __init__(self, loop: Loop, says: Callable[[str], object]) -> None:
         self.outer, self.loop, self.says = OuterTerminal(), loop, says
         self.part = ShownPart(self.outer, loop, says, self.choose)
         self.row = LastRow(self.outer, loop, self.part, lambda: bool(self.notice) or self.is_entering)
-        # What stands in place of the session, the first of its lines that is shown and the last that may be, and what its last row tells of
-        # that.
+        # The text in place of the session, its first visible line, the last possible first one, and the note about it in the last row.
         self.notice = self.notice_foot = ""
         self.notice_first = self.notice_most = 0
-        # Whether what stands on the terminal is still of the window that was left.
+        # True while the terminal still shows the previous window.
         self.is_entering = False
-        # Whether the client was told of the mask of what is drawn over a part of what is painted; and what is called where what is shown of
-        # the session may be another part.
+        # True if the client knows the mask of a popup; and a call for a possible change of the visible part.
         self.is_masked = False
         self.moved: Callable[[], object] = lambda: None
-        # Whether what is painted next may erase the last row.
+        # True if the next painting may erase the last row.
         self.is_line_lost = False
 
-    # ---- what is asked for
+    # ---- requests
 
     def begin(self) -> None:
-        """Know nothing of what a client paints that was just connected to."""
+        """Reset the state of paintings for a new client connection."""
         self.part.begin()
         self.row.silent, self.row.line_put, self.is_masked = 0, None, False
 
     def know(self, size: tty.Size, labels: str, may_be_whole: bool) -> None:
-        """Go by what is known of the session: its size, the labels of its panes, and whether it may be shown whole."""
+        """Use the known state of the session: its size, the labels of its panes, and whether it may be shown whole."""
         part, before = self.part, self.part.told_size
         part.told_size, self.row.labels, part.may_be_whole = size, labels, may_be_whole
-        # What is shown of one that is smaller now may begin too far below, or to the right.
+        # In a session that shrank, the view may begin too far down, or too far right.
         self.choose(is_anew=sizes.is_smaller(size, before) and part.place != (0, 0))
         part.mend_place()
         self.row.put()
 
     def choose(self, is_anew: bool = False, is_painted: bool = False) -> None:
-        """Ask for what is to be shown if that isn't what was asked for; else if it has to be asked for anew, or be painted."""
+        """Request the wanted view if it differs from the last request. Otherwise request it anew, or a repaint, if needed."""
         rows, cols = self.outer.size()
         if rows < tty.LEAST_SHOWN[0] or cols < tty.LEAST_SHOWN[1]:
             line = "{}: {} by {} is needed".format(TOO_SMALL, *tty.LEAST_SHOWN)
@@ -82,31 +80,31 @@ class Display:
         self.moved()
 
     def resettle(self) -> None:
-        """Paint all anew, where nothing stands in its place."""
+        """Repaint everything, unless a notice covers the session."""
         if not self.notice:
             self.choose(is_painted=True)
 
     def release(self) -> None:
-        """Show what there is again, where it was held."""
+        """Show new paintings again after a pause."""
         if self.part.is_held:
             self.part.is_held = False
             self.choose(is_anew=True)
 
     def zoom(self, rect: Rect | None) -> None:
-        """Show this rectangle of the session alone; None shows the session again."""
+        """Show only this rectangle of the session; None shows the whole session again."""
         self.part.zoomed, self.part.is_held = rect, False
         self.choose(is_anew=True)
 
     # ---- another window, and the last row
 
     def begin_window(self) -> None:
-        """Know nothing of the window where the person goes: what stands there is the other's until it is painted, or that takes long."""
+        """Reset the state for a new window. The old one stays visible until the new one is painted, or that takes long."""
         self.part.begin_window()
         self.row.labels, self.is_entering = "", True
         self.loop.later("entered", ENTERS, self.blank)
 
     def blank(self) -> None:
-        """Show nothing of the window that was left any more."""
+        """Erase the rest of the previous window."""
         self.end_entering()
         if not self.notice:
             self.outer.write(tty.CLEARED)
@@ -114,19 +112,19 @@ class Display:
             self.row.put()
 
     def end_entering(self) -> None:
-        """Take note that nothing stands there any more of the window that was left."""
+        """Record that the old window is no longer visible."""
         self.is_entering = False
         self.loop.drop("entered")
 
     def switch_row(self) -> None:
-        """Hide the last row, or show it again."""
+        """Toggle the last row."""
         self.part.is_row_hidden, self.row.line_put = not self.part.is_row_hidden, None
         self.resettle()
 
-    # ---- what is told
+    # ---- records
 
     def take(self, record: DisplayRecord) -> None:
-        """Take a record of what is shown here."""
+        """Take a record about the view."""
         if record.word == "size":
             self.take_size((record.numbers[0], record.numbers[1]))
         elif record.word == "part":
@@ -140,17 +138,17 @@ class Display:
             self.row.change()
 
     def take_size(self, size: tty.Size) -> None:
-        """Take the size of what is painted from here on."""
+        """Take the size of the next paintings."""
         self.part.painted_size, self.is_line_lost = size, True
         if self.part.asked is None:
             self.part.whole_size = size
             self.choose()
 
     def take_painting(self, record: DisplayRecord) -> None:
-        """Take a painting: one that has no room, or comes before all is painted anew, doesn't reach the terminal, and no reset does."""
+        """Take a painting. One that does not fit, or comes before the full repaint, does not reach the terminal, and no reset does."""
         is_anew, part, popup = record.word == "anew", self.part, self.part.popup
         if part.asked is None:
-            # A size that was told before isn't told again.
+            # A size that was reported before is not reported again.
             part.whole_size = part.painted_size
         if self.notice or part.is_held or not part.fits() or part.is_stale and not is_anew:
             part.is_stale = True
@@ -164,22 +162,24 @@ class Display:
         is_over = is_anew or self.is_line_lost or part.asked is None or not part.has_row()
         part.is_stale = self.is_line_lost = False
         if is_over or was_entering:
-            # Another painting leaves the last row as it is, and whatever changes its line has it written then.
+            # Other paintings leave the last row unchanged, and any change of its line writes it.
             self.row.put(is_over)
         if popup:
             self.outer.write(popup.laid(is_anew))
 
     def shown_at(self, row: int, col: int, is_near: bool = False) -> tuple[int, int] | None:
-        """Return the cell position of the session that is shown at a row and a column of the terminal, all from 1; None if none is, as in
-        the last row, or the nearest that is."""
+        """Return the session's cell at a row and a column of the terminal, all from 1.
+
+        None if there is none, as in the last row; with `is_near`, the nearest one.
+        """
         if self.notice or self.part.is_stale:
             return None
         return sizes.place_at((row, col), self.part.begins_at(), self.part.painted_size, is_near)
 
-    # ---- what is drawn over a part
+    # ---- popups
 
     def lay(self, popup: Popup) -> None:
-        """Draw something over a part of what is shown, which stays that part: all is painted anew for it, but for that."""
+        """Show a popup over part of the view, which stays in place. Everything else is repainted for it."""
         was_masked, self.part.popup = self.is_masked, popup
         if was_masked:
             self.says("unmask")
@@ -189,12 +189,12 @@ class Display:
         self.says("mask {} {} {} {}".format(popup.rect.row - 1, popup.rect.col - 1, popup.rect.rows, popup.rect.cols))
 
     def draw(self) -> None:
-        """Go by other lines, or another cursor, of what is drawn."""
+        """Draw the changes of a popup's lines and cursor."""
         if self.part.popup and not self.notice and not self.part.is_stale:
             self.outer.write(self.part.popup.laid())
 
     def lift(self) -> None:
-        """Draw nothing any more."""
+        """Remove the popup."""
         self.part.popup, self.row.popup_line, self.row.is_popup_asking = None, "", False
         if self.is_masked:
             self.is_masked = False
@@ -205,7 +205,7 @@ class Display:
     # ---- lines in place of the session
 
     def show(self, text: str, first: int = 0, foot: str = "") -> None:
-        """Show lines in place of the session; if they have no room, and a last row is to tell that, from one on."""
+        """Show lines in place of the session, from one on if they do not fit. A foot in the last row reports that."""
         self.notice, self.part.is_stale, self.row.line_put, self.notice_foot = text, True, None, foot
         self.end_entering()
         self.forget_drawn()
@@ -219,19 +219,21 @@ class Display:
         self.choose(is_painted=True)
 
     def forget_drawn(self) -> None:
-        """Know that nothing of what was drawn stands on the terminal any more."""
+        """Record that popups are no longer visible on the terminal."""
         if self.part.popup:
             self.part.popup.forget()
 
     def enter_again(self) -> None:
-        """Take the terminal again, where nothing stands of what was painted."""
+        """Take the terminal again after its contents are gone."""
         self.outer.enter_again()
         self.part.is_stale, self.row.line_put = True, None
         self.forget_drawn()
 
     def resized(self) -> None:
-        """Go by a new size of the terminal: at once if there is no room for what is shown, and for all of it a moment later, since many
-        sizes come where it is drawn by hand."""
+        """Handle a new size of the terminal. If the view no longer fits, act at once.
+
+        The rest follows a moment later, since a resize by mouse causes many sizes.
+        """
         self.row.line_put = None
         if self.notice:
             self.show(self.notice, self.notice_first, self.notice_foot)
@@ -241,8 +243,10 @@ class Display:
 
 
 def notice_page(text: str, size: tty.Size, first: int, foot: str) -> tuple[list[str], int, int]:
-    """Return the lines of a notice that a terminal of a size shows, from one on, the first of them among all, and the last one that may be
-    the first. If they have no room, and there is a foot, it stands in the last row."""
+    """Return the visible lines of a notice, the index of the first one, and the last possible first one.
+
+    If they do not fit, and there is a foot, it takes the last row.
+    """
     rows, cols = size
     lines = [part for line in text.split("\n") for part in wrapped(printable(line), max(1, cols - 1))]
     most = len(lines) - rows + 1 if foot and rows > 1 and len(lines) > rows else 0
@@ -254,7 +258,7 @@ def notice_page(text: str, size: tty.Size, first: int, foot: str) -> tuple[list[
 
 
 def wrapped(line: str, width: int) -> list[str]:
-    """The rows of so many columns that a line takes, cut between words where it can be."""
+    """Return the rows of a line at a width, with breaks between words if possible."""
     rows: list[str] = []
     begin = 0
     while len(line) - begin > width:

@@ -1,4 +1,4 @@
-"""What modes ask for: plain values, which `Commands` carries out.
+"""The effects of modes: plain values, which `Commands` carries out.
 
 Each is a small class of its own, since two tuples with equal fields would be equal, and since dataclasses take longer to load than all of
 these together.
@@ -33,21 +33,21 @@ class TextEffect(Effect):
 
 
 class NumberEffect(Effect):
-    """An effect on what a number names."""
+    """An effect on a numbered object."""
 
     def __init__(self, number: int) -> None:
         self.number = number
 
 
-# ---- which mode takes a key
+# ---- modes and keys
 
 
 class StackEffect(Effect):
-    """What the stack of modes itself carries out."""
+    """An effect on the stack of modes itself."""
 
 
 class PopMode(StackEffect):
-    """The mode that asks for this ends."""
+    """The mode that returned this ends."""
 
 
 class PassKey(StackEffect, KeyEffect):
@@ -55,28 +55,28 @@ class PassKey(StackEffect, KeyEffect):
 
 
 class SendLiteral(StackEffect, KeyEffect):
-    """The modes below take a key as itself: the prefix that is typed twice."""
+    """The modes below take a key literally: the prefix that is typed twice."""
 
 
 # ---- the session
 
 
 class TypeKey(Effect):
-    """A key is typed in the pane in focus, by its acts."""
+    """A key is typed in the focused pane, by its acts."""
 
     def __init__(self, acts: list[str], key: Key) -> None:
         self.acts, self.key = acts, key
 
 
 class TypeActs(Effect):
-    """Acts that are not a key's are typed."""
+    """Acts other than a key's are typed."""
 
     def __init__(self, *acts: str) -> None:
         self.acts = list(acts)
 
 
 class ClosePane(NumberEffect):
-    """The pane in focus of a window is closed, 0 for a session without windows."""
+    """The focused pane of a window is closed, 0 for a session without windows."""
 
 
 class SendRequest(TextEffect):
@@ -84,7 +84,7 @@ class SendRequest(TextEffect):
 
 
 class BeginPaste(TextEffect):
-    """A paste begins, of which nothing is typed if there is a reason against it."""
+    """A paste begins. With a reason against it, nothing of it is typed."""
 
 
 class AddPaste(TextEffect):
@@ -92,7 +92,7 @@ class AddPaste(TextEffect):
 
 
 class EndPaste(Effect):
-    """A paste is whole."""
+    """A paste is complete."""
 
 
 class PasteBuffer(NumberEffect):
@@ -103,29 +103,29 @@ class PasteBuffer(NumberEffect):
 
 
 class Perform(Effect):
-    """The front end does what a command's wish names."""
+    """The front end carries out the request of a command."""
 
     def __init__(self, wish: str) -> None:
         self.wish = wish
 
 
 class TellUnbound(KeyEffect):
-    """The last row says that a key is not bound."""
+    """The last row shows that a key is not bound."""
 
 
 class ShowStatus(Effect):
-    """A line stands in the last row, for some seconds, or until it is cleared."""
+    """The last row shows a line, for some seconds, or until it is cleared."""
 
     def __init__(self, line: str, seconds: float | None) -> None:
         self.line, self.seconds = line, seconds
 
 
 class ClearStatus(Effect):
-    """Such a line ends."""
+    """The message ends."""
 
 
 class ShowPrompt(TextEffect):
-    """A line that is being typed stands in the last row."""
+    """The last row shows a line that is being typed."""
 
 
 class HidePrompt(Effect):
@@ -144,14 +144,14 @@ class HoldKey(KeyEffect):
 
 
 class ScrollHelp(Effect):
-    """The list of keys scrolls, by rows and by pages; it ends if it has room for all."""
+    """The list of keys scrolls, by rows and by pages; it ends if all of it fits."""
 
     def __init__(self, rows: int, pages: int) -> None:
         self.rows, self.pages = rows, pages
 
 
 class CloseHelp(Effect):
-    """The session is shown again in place of the list of keys, and the modes take a key then, if there is one."""
+    """The session replaces the list of keys again, and the modes then take a key if there is one."""
 
     def __init__(self, key: Key | None = None) -> None:
         self.key = key
@@ -173,8 +173,8 @@ class CopyKey(KeyEffect):
 
 
 class CopyText(TextEffect):
-    """Copy mode takes a part of a paste, for a line that it asks for."""
+    """Copy mode takes a part of a paste, for its line."""
 
 
 class OfferPaste(KeyEffect):
-    """Copy mode takes a paste if it asks for a line; else it ends, and the modes below take the key."""
+    """Copy mode takes a paste into its line; without one it ends, and the modes below take the key."""

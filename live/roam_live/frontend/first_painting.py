@@ -1,5 +1,8 @@
-"""Shows a window on a person's terminal before the rest of the front end is loaded: the terminal is taken, the client process is asked for
-the window, and its painting is written. The front end goes on with the terminal and the connection."""
+"""Shows a window on a user's terminal before the rest of the front end is loaded.
+
+It takes the terminal, requests the window from the client process, and writes the painting. The front end adopts the terminal and the
+connection.
+"""
 from __future__ import annotations
 
 import time
@@ -24,15 +27,15 @@ LEAVING = (signal.SIGTERM, signal.SIGHUP, signal.SIGINT)
 
 
 class FirstPainting:
-    """A person's terminal, and the connection to the client process of the window that is shown there first.
+    """A user's terminal, and the connection to the client process of the first window.
 
-    `says` takes the lines by which the display asks the client for something. The front end sets it when it goes on with the display.
+    `says` takes the lines by which the display requests views from the client. The front end sets it when it adopts the display.
     """
 
     def __init__(self, session: AnySession, is_read_only: bool, prefix: str, prediction: str, is_whole: bool = False,
                  loop: Loop | None = None) -> None:
         self.loop, self.is_whole = loop or Loop(), is_whole
-        # Signals are kept from here on, since the terminal has to be given back.
+        # Signals are queued from here on, since the terminal has to be restored.
         self.wakeup = woken(signal.SIGWINCH, signal.SIGCONT, signal.SIGTSTP, *LEAVING)
         self.link = ClientLink(session.terminals, is_read_only, prediction)
         self.says: Callable[[str], object] = self.link.say
@@ -43,13 +46,13 @@ class FirstPainting:
         self.records: list[DisplayRecord] = []
 
     def begin(self) -> None:
-        """Take the terminal, and ask the client for the window, if there is one."""
+        """Take the terminal, and request the window from the client, if there is one."""
         self.display.outer.enter()
         self.display.outer.put()
         try:
             self.link.connect()
         except OSError:
-            # The front end tries again, and reports why it failed.
+            # The front end retries, and reports the reason of a failure.
             return
         self.display.begin()
         self.display.know(NO_SIZE, "", self.is_whole)
@@ -63,7 +66,7 @@ class FirstPainting:
                 break
             records = self.link.read_events()
             if records is None:
-                # The end of the connection is read again.
+                # The end of the connection is read again later.
                 break
             for record in records:
                 self.display.take(record)
@@ -71,5 +74,5 @@ class FirstPainting:
         self.display.outer.put()
 
     def leave(self) -> None:
-        """Give the terminal back."""
+        """Restore the terminal."""
         all_done(lambda: self.display.outer.leave(None), self.link.close)

@@ -1,4 +1,4 @@
-"""Has a person follow a session at a terminal. The session is shown first, and the rest of the front end is loaded behind that."""
+"""Lets a user follow a session at a terminal. The session is shown first, and the rest of the front end is loaded afterwards."""
 from __future__ import annotations
 
 import roam_bundle
@@ -14,16 +14,18 @@ if TYPE_CHECKING:
     from roam_live.protocol.panes import Places
     from roam_live.protocol.session_interface import AnySession
 
-# Seconds that the first painting has before the rest is loaded, which would delay it by as long. A later one, as over a network, is written
-# behind that.
+# Seconds for the first painting before the rest is loaded, which would delay it by as long. A later one, for example over a network, is
+# written afterwards.
 PAINTS = 0.05
 
 
 def follow(session: AnySession, is_read_only: bool, prefix: str, prediction: str,
            is_new: Callable[[Places | None], bool] = lambda places: False, is_whole: bool = False) -> int:
-    """Have a person follow a session at this terminal, and return the status. Predictions are shown always, if that helps, or never. A
-    session that is new, which may be known a moment later, gets this terminal's size, whatever that is. It may be shown whole, if there is
-    room for its own status row."""
+    """Let a user follow a session at this terminal, and return the status. Predictions are shown always, adaptively, or never.
+
+    A new session, which may be known a moment later, takes this terminal's size, whatever it is. It may be shown whole, if its own status
+    row fits.
+    """
     try:
         has_mouse, has_clips = wants_mouse(), sets_clipboard()
         with FrontEndLock(session.common):

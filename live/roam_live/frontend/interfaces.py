@@ -1,5 +1,4 @@
-"""What parts of a front end need of one that lies above them. Nothing of this module is loaded while a tool runs: it is for who checks
-types."""
+"""Interfaces of upper parts of a front end for lower ones. Tools never load this module: it serves type checking."""
 from __future__ import annotations
 
 from typing import Protocol
@@ -8,36 +7,36 @@ from roam_live.input.keys import Key
 
 
 class WaitingKeys(Protocol):
-    """What is typed for a window that isn't there yet."""
+    """Input for a window that isn't there yet."""
 
     def open(self, handed: str = "", stays: bool = False) -> None:
-        """Have a window be opened, by a command that was handed over if it is named."""
+        """Open a window, with uploaded start options if named."""
 
     def is_full(self) -> bool:
-        """Return True if so much waits that nothing more is to come."""
+        """Return True if too much input waits to accept more."""
 
     def told_panes(self) -> None:
-        """Open a list that waits for what is reported of the panes."""
+        """Open a list that waits for a report about the panes."""
 
     def hold(self, key: Key) -> bool:
-        """Have a key wait, and return True if it does."""
+        """Queue a key, and return True if it has to wait."""
 
 
 class OtherWindows(Protocol):
-    """The windows of a session, as the one where the person is asks for others."""
+    """The windows of a session, as the current one uses them."""
 
     @property
     def waiting(self) -> WaitingKeys:
-        """What is typed for a window that isn't there yet."""
+        """Return the input for a window that isn't there yet."""
 
     def why_one(self) -> str:
-        """Return why no other window can be had here, "" if one can."""
+        """Return the reason that this session has only one window, "" if it may have others."""
 
     def grant(self, wish: str) -> None:
-        """Do what a person asks for of windows."""
+        """Carry out a user's request about windows."""
 
     def go_to_shown(self, place: int) -> None:
-        """Go to the window whose label stands at a place in the last row."""
+        """Go to the window whose label is at a position in the last row."""
 
     def say(self, line: str) -> bool:
-        """Say a line to the host, and return True if it is there."""
+        """Send a line to the host, and return True if it is connected."""

@@ -1,4 +1,4 @@
-"""Takes what a person types, has the modes say what it asks for, and carries that out."""
+"""Reads a user's input, asks the modes for its effects, and carries them out."""
 from __future__ import annotations
 
 import os
@@ -29,20 +29,20 @@ if TYPE_CHECKING:
 
     from roam_live.frontend.interfaces import OtherWindows
 
-# What comes among keys and the terminal reports.
+# Events among the keys that are reports of the terminal.
 REPORTED = (COLOUR, ANSWERED, MOUSE)
 
-# So many seconds others have for leaving, and a line stands that tells how many did.
+# Seconds for other terminals to detach, and for the message with their number.
 LEAVES_IN = 2.0
 OTHERS_STAY = "cannot detach the others: the pty host does not answer"
 
-# What is told of a key that is not bound.
+# The message for an unbound key.
 UNBOUND = "{0} {1} is not bound; {0} ? lists the keys"
 
-# What is done by a wish, by its first word, whoever wishes it; and what somebody who only watches may not wish.
+# The functions of requests by first word, for every user; and those that a read-only user may not make.
 ANYBODY: dict[str, Callable[[Interpreter, Commands, str], object]] = {
     "detach": lambda keyboard, commands, wish: commands.leave("[detached]"),
-    # The signal comes as from elsewhere, once what was typed is taken.
+    # The signal arrives like one from elsewhere, once the input is read.
     "suspend": lambda keyboard, commands, wish: os.kill(os.getpid(), signal.SIGTSTP),
     "repaint": lambda keyboard, commands, wish: commands.follower.repaint(),
     "row": lambda keyboard, commands, wish: commands.follower.switch_row(),
@@ -68,17 +68,17 @@ EDITORS: dict[str, Callable[[Interpreter, Commands, str], object]] = {
 
 
 class Interpreter:
-    """Carries out what the modes of one person ask for. Calls return what is done in the window where the person is, and all windows."""
+    """Carries out the effects of one user's modes. Calls return the commands of the current window, and all windows."""
 
     def __init__(self, modes: ModeStack, display: Display, loop: Loop, commands: Callable[[], Commands],
                  windows: Callable[[], OtherWindows]) -> None:
         self.modes, self.display, self.loop, self.commands = modes, display, loop, commands
         self.windows: Callable[[], OtherWindows] = windows
         self.keys = Keys()
-        # The list of keys as it is shown, or was last.
+        # The list of keys, current or last.
         self.help = ""
-        # What does the commands of a person's own keys; what takes a command that was typed; and what returns the commands of a window
-        # that the person left, None if nothing of it goes on.
+        # Calls that run the commands of a user's own keys, and take a typed command. The third returns the commands of a previous window,
+        # None if nothing of it continues.
         self.runs: Callable[[str], object] = lambda wish: None
         self.enters: Callable[[str], object] = lambda text: None
         self.left_window: Callable[[int], Commands | None] = lambda number: None
@@ -110,22 +110,22 @@ class Interpreter:
         }
 
     def choose(self, prefix: str) -> None:
-        """Make the key of a name the prefix."""
+        """Make the key of this name the prefix."""
         self.modes.keymap.choose(prefix)
         self.modes.keymap.rows = self.display.outer.size()[0]
         self.display.row.name_keys(prefix, self.commands().link.is_read_only)
 
-    # ---- what is typed
+    # ---- input
 
     def fed(self, chunk: bytes) -> None:
-        """Take bytes that were typed."""
+        """Take typed bytes."""
         self.typed(self.keys.fed(chunk))
         self.loop.drop("escape")
         if self.keys.waits():
             self.loop.later("escape", number_of("escape-time", ESCAPE_TIME) / 1000, lambda: self.typed(self.keys.ended()))
 
     def typed(self, keys: list[Key]) -> None:
-        """Take keys; those behind one that goes to another window, or opens one, are for that."""
+        """Take keys. Those after one that goes to another window, or opens one, belong to that window."""
         here = self.commands()
         here.follower.follow_latest()
         keys = self.modes.keymap.joined(keys)
@@ -142,7 +142,7 @@ class Interpreter:
         self.commands().synchronizing.settle()
 
     def take_any(self, key: Key) -> None:
-        """Take a key, or what the terminal reports."""
+        """Take a key, or a report of the terminal."""
         if key.name in REPORTED and not (key.name == MOUSE and self.modes.has(PastingMode, HoldMode)):
             self.reported(key)
             return
@@ -152,7 +152,7 @@ class Interpreter:
             self.commands().tell_replaced()
 
     def reported(self, key: Key) -> None:
-        """Take what the terminal reports: what is done with the mouse, or a colour that it has."""
+        """Take a report of the terminal: a mouse event, or a colour."""
         if key.name == MOUSE:
             self.commands().pointing.take(key.text)
         elif key.name == ANSWERED:
@@ -161,11 +161,11 @@ class Interpreter:
             self.commands().acts.host.tell_colour(key.text)
 
     def take_back(self, key: Key) -> None:
-        """Take a key that copy mode gives back: it was typed before a prompt that is there now."""
+        """Take a key back from copy mode: it was typed before the current prompt."""
         self.take(key, self.modes.lowest())
 
     def take(self, key: Key, mode: Mode | None = None) -> None:
-        """Take a key, in a mode or in the highest. Under a notice nothing is typed; the prefix means there what it always does."""
+        """Take a key, in a mode or in the top one. Under a notice nothing is typed, but the prefix works as usual."""
         modes, is_paused, now = self.modes, self.commands().acts.paused, time.monotonic()
         if modes.pushed and self.display.notice != self.help:
             modes.drop(HelpMode)
@@ -183,14 +183,14 @@ class Interpreter:
             self.carry_out(under_notice(asked) if is_covered else asked)
 
     def carry_out(self, asked: list[Effect]) -> None:
-        """Carry out effects, in their order."""
+        """Carry out effects, in order."""
         for effect in asked:
             self.does[type(effect)](effect)
 
-    # ---- what is asked for
+    # ---- requests
 
     def grant(self, wish: str) -> None:
-        """Do what the front end itself is asked for."""
+        """Carry out a request to the front end itself."""
         commands, word = self.commands(), wish.partition(" ")[0]
         if word in ANYBODY:
             ANYBODY[word](self, commands, wish)
@@ -198,18 +198,18 @@ class Interpreter:
             EDITORS[word](self, commands, wish)
 
     def pick_pane(self) -> None:
-        """Have a digit be a pane's."""
+        """Let a digit select a pane."""
         self.display.row.tell(f"{self.display.row.labels}: press a pane's number", PICKS)
         self.modes.push(PickingMode(time.monotonic()))
 
     def tell_unbound(self, asked: effects.TellUnbound) -> None:
-        """Tell that a key is not bound."""
+        """Show that a key is not bound."""
         from roam_live.input.key_names import spelled
 
         self.display.row.tell(UNBOUND.format(self.modes.keymap.name, spelled(asked.key)))
 
     def leave_others(self) -> None:
-        """Have all other terminals at the session detached."""
+        """Detach all other terminals of the session."""
         host = self.commands().acts.host
         if host.peer:
             host.ask(LEAVE_OTHERS)
@@ -218,20 +218,20 @@ class Interpreter:
             self.others_left("")
 
     def others_left(self, count: str) -> None:
-        """Tell how many others are detached."""
+        """Show how many others are detached."""
         self.loop.drop("others leave")
         told = f"{count} other terminal{'' if count == '1' else 's'} detached" if count.isdigit() else OTHERS_STAY
         self.display.row.tell(told, LEAVES_IN)
 
     def close_pane(self, asked: effects.ClosePane) -> None:
-        """Close the pane in focus of a window, also of one that the person has left since he was asked."""
+        """Close the focused pane of a window, even of one that the user has left since the question."""
         here = self.commands()
         commands = here if here.session.number == asked.number else self.left_window(asked.number)
         if commands:
             commands.acts.act("close")
 
     def enter(self, asked: effects.EnterLine) -> None:
-        """Take a line that was typed."""
+        """Take a typed line."""
         word, _, number = asked.purpose.partition(" ")
         if word == "command":
             self.enters(asked.text)
@@ -250,7 +250,7 @@ class Interpreter:
         self.modes.push(HelpMode(keymap))
 
     def scroll_help(self, asked: effects.ScrollHelp) -> None:
-        """Scroll the list of keys, which ends if it has room for all."""
+        """Scroll the list of keys, which ends if all of it fits."""
         display = self.display
         if not display.notice_most:
             self.modes.drop(HelpMode)
@@ -260,13 +260,13 @@ class Interpreter:
         display.show(display.notice, max(0, min(display.notice_first + rows, display.notice_most)), FOOT)
 
     def close_help(self, asked: effects.CloseHelp) -> None:
-        """Show the session again, and take the key that ended the list of keys, if it means something else."""
+        """Show the session again, and take the key that ended the list of keys if it has another meaning."""
         self.display.uncover()
         if asked.key:
             self.take(asked.key)
 
     def offer_paste(self, asked: effects.OfferPaste) -> None:
-        """Have copy mode take a paste, if it asks for a line; else it ends, and the key means what it means elsewhere."""
+        """Offer a paste to copy mode, which takes it into a line. Otherwise copy mode ends, and the key gets its usual meaning."""
         copying = self.commands().copying
         if copying.takes_paste():
             self.modes.push(CopyPasteMode())

@@ -1,5 +1,4 @@
-"""Lists from which a person chooses, drawn over the pane in focus: the paste buffers of the pty host, the windows of a session, and lines
-that are only read."""
+"""Lists drawn over the focused pane: the pty host's paste buffers, a session's windows, and plain lines to read."""
 from __future__ import annotations
 
 from roam_live.common.text import printable
@@ -16,13 +15,13 @@ TYPE_CHECKING = False
 if TYPE_CHECKING:
     from collections.abc import Callable
 
-# So many seconds a line stands.
+# Seconds for which a message is shown.
 TOLD = 2.0
 NONE_KEPT = "there are no buffers"
 UNTOLD = "not pasted: the pty host is not connected"
 
-# Where the connection to what keeps them is cut, as by a relay that goes another way, they are asked for again after so many seconds, while
-# it may be there soon.
+# If the connection to the host is cut, for example by a relay with a new transport, a new one may come soon. Until then the request is
+# repeated after so many seconds.
 AGAIN = 0.05
 LINE = "buffer {} of {}: Return pastes it, up and down choose, q leaves"
 LISTED = "line {} of {}: up, down, PgUp and PgDn scroll, q leaves"
@@ -30,19 +29,19 @@ WINDOWS_LINE = "window {}, of {}: Return and a digit go there, up and down choos
 
 
 def window_list(keymap: Keymap, described: dict[int, str], chosen: int) -> ListMode:
-    """Return a list of windows, by their numbers, of which one is chosen at first. A digit goes to a window at once."""
+    """Return a list of windows by number, with one chosen at first. A digit selects a window directly."""
     lines = [ListLine(text, WINDOWS_LINE.format(number, len(described)), Perform(f"go {number}")) for number, text in described.items()]
     digits: dict[str, Effect] = {str(number % 10): Perform(f"go {number}") for number in range(1, 11)}
     return ListMode(keymap, lines, list(described).index(chosen) if chosen in described else 0, digits)
 
 
 def first_shown(mode: ListMode, rect: Rect) -> int:
-    """Return the first line that is shown in a rectangle."""
+    """Return the first visible line in a rectangle."""
     return max(0, mode.chosen - rect.rows + 1)
 
 
 def painted(mode: ListMode, rect: Rect) -> list[bytes]:
-    """Return the rows of a list as they are written in a rectangle: the chosen line is reversed."""
+    """Return the rows of a list as written in a rectangle, with the chosen line reversed."""
     found: list[bytes] = []
     first = first_shown(mode, rect)
     for place in range(first, first + rect.rows):
@@ -52,15 +51,15 @@ def painted(mode: ListMode, rect: Rect) -> list[bytes]:
 
 
 class Lists:
-    """The list of one person that is open in a window, if there is one."""
+    """The open list of one user in a window, if there is one."""
 
     def __init__(self, acts: WindowActs, is_copying: Callable[[], bool]) -> None:
         self.acts, self.is_copying = acts, is_copying
         self.mode: ListMode | None = None
-        # What the list is of: `buffers`, `lines` or `windows`; and the making of the pane over which it is drawn, and where.
+        # The kind of list: `buffers`, `lines` or `windows`; the generation of the pane below it, and its position.
         self.kind = self.pane = ""
         self.rect = Rect(1, 1, 1, 1)
-        # How often was asked which buffers there are: an answer to an earlier question is none to this.
+        # The number of requests for buffers: an answer to an earlier one is ignored.
         self.asked = 0
 
     def is_on(self) -> bool:
@@ -68,7 +67,7 @@ class Lists:
         return self.mode is not None
 
     def open(self, kind: str, mode: ListMode) -> bool:
-        """Show a list over the pane in focus, and return True if that is possible."""
+        """Show a list over the focused pane, and return True if that is possible."""
         self.close()
         places, acts = self.acts.places(), self.acts
         pane = places.focus if places else 0
@@ -81,7 +80,7 @@ class Lists:
         return True
 
     def close(self) -> None:
-        """End the list, and wait for no answer."""
+        """End the list, and ignore later answers."""
         self.asked += 1
         if self.mode:
             self.acts.modes.remove(self.mode)
@@ -95,17 +94,17 @@ class Lists:
         self.acts.display.row.say(mode.lines[mode.chosen].status)
 
     def cursor(self, mode: ListMode) -> tuple[int, int]:
-        """Return where the terminal's cursor stands: on the chosen line."""
+        """Return the position of the terminal's cursor: on the chosen line."""
         return self.rect.row + mode.chosen - first_shown(mode, self.rect), self.rect.col
 
     def draw(self) -> None:
-        """Show which line is chosen."""
+        """Show the chosen line."""
         if self.mode:
             self.acts.display.row.say(self.mode.lines[self.mode.chosen].status)
             self.acts.display.draw()
 
     def fit(self) -> None:
-        """Go by where its pane is now, whose end ends the list."""
+        """Follow the rectangle of its pane. The end of that pane closes the list."""
         places = self.acts.panes.places
         if not self.mode or not places:
             return
@@ -120,17 +119,17 @@ class Lists:
     # ---- buffers
 
     def ask_buffers(self, is_newest: bool) -> None:
-        """Paste the newest buffer, or open a list of them, once the host has reported which there are."""
+        """Paste the newest buffer, or open a list of them, once the host has reported them."""
         self.close()
         self.ask_again(self.asked, is_newest)
 
     def ask_again(self, asked: int, is_newest: bool) -> None:
-        """Ask which buffers there are, unless something else was asked since."""
+        """Request the list of buffers, unless a newer request exists."""
         if asked == self.asked:
             self.acts.host.scrollback.buffers(lambda notes: self.answered(asked, notes, is_newest))
 
     def answered(self, asked: int, notes: list[BufferNote] | None, is_newest: bool) -> None:
-        """Take which buffers there are, None if the host did not report them."""
+        """Take the list of buffers, None if the host did not report it."""
         if asked != self.asked:
             return
         if notes is None and self.acts.host.is_connecting():
@@ -147,7 +146,7 @@ class Lists:
     # ---- lines, and windows
 
     def show_lines(self, lines: list[str]) -> bool:
-        """Show lines that are only read, and return True if that is possible: prompts and copy mode go first."""
+        """Show lines to read, and return True if that is possible: prompts and copy mode have precedence."""
         if self.acts.modes.pushed and not self.acts.modes.has(HoldMode) or self.acts.paused:
             return False
         listed = [ListLine(line, LISTED.format(place, len(lines))) for place, line in enumerate(lines, 1)]
@@ -158,7 +157,7 @@ class Lists:
         return self.open("windows", window_list(self.acts.modes.keymap, described, here))
 
     def refresh_windows(self, described: dict[int, str]) -> None:
-        """Go by other windows, or other names of them: the chosen one stays chosen if it is there still."""
+        """Use changed windows or names. The chosen one stays chosen if it still exists."""
         if not self.mode or self.kind != "windows":
             return
         if not described:

@@ -1,5 +1,4 @@
-"""What a person points at: reports of the mouse for the programs in panes, typed as acts, and what roam makes of them where it has the
-mouse itself."""
+"""The mouse: reports for the programs in panes, typed as acts, and roam's own actions if it uses the mouse."""
 from __future__ import annotations
 
 from roam_live.frontend.modes import ScrollMode
@@ -17,49 +16,54 @@ if TYPE_CHECKING:
 # A row and a column of the session, from 1.
 Place = tuple[int, int]
 
-# So many seconds lie between two reports of motion, and while so many lines are on their way no other goes: what is dragged over a slow
-# network doesn't lag ever more.
+# Seconds between two motion reports; and the most lines in flight before the next one. So a drag over a slow network does not lag ever
+# more.
 APART = 0.02
 MOST_ON_WAY = 4
 
-# A notch of the wheel is so many rows, or arrows where a program shows the other screen, as `panes` tells it.
+# Rows for a notch of the wheel, or arrows if a program shows the alternate screen according to `panes`.
 NOTCH = 3
 OTHER = "other"
 
-# So many seconds a line stands that tells who has the mouse.
+# Seconds for which the message about the owner of the mouse is shown.
 TOLD = 3.0
 ON = "roam has the mouse: click, wheel, drag; {} m gives it back"
 OFF = "the mouse selects text, except in programs that use it"
 
 
 def inside(rect: Rect, place: Place) -> Place:
-    """The place of a pane that is nearest to a place."""
+    """Return the nearest position inside a pane."""
     return min(max(place[0], rect.row), rect.row + rect.rows - 1), min(max(place[1], rect.col), rect.col + rect.cols - 1)
 
 
 class Pointing:
-    """The mouse of one person. Calls return the mouse in copy mode, return True if that is open, ask the terminal for reports anew, and go
-    to the window whose label has a place in the last row."""
+    """The mouse of one user.
+
+    Calls return copy mode's mouse, return True if copy mode is open, request reports from the terminal anew, and go to the window at a
+    position in the last row.
+    """
 
     def __init__(self, acts: WindowActs, copying: Callable[[], CopyPointing], is_copying: Callable[[], bool], asks: Callable[[], object],
                  goes_to: Callable[[int], object]) -> None:
         self.acts, self.copying, self.is_copying, self.asks, self.goes_to, self.loop = acts, copying, is_copying, asks, goes_to, acts.loop
-        # Whether roam has the mouse itself; and the border that is dragged.
+        # True if roam itself uses the mouse; and the border being dragged.
         self.is_on = False
         self.border: BorderDrag | None = None
-        # The pane in which the first button is held where no program has it, and where on the terminal it was pressed; and how often.
+        # The pane and position of a first-button press that no program takes, and the count of clicks.
         self.grasped: tuple[int, Place] | None = None
         self.clicks = Clicks()
-        # The pane whose program was told that a button is held, by the button.
+        # By button, the pane whose program got the press.
         self.held: dict[int, int] = {}
-        # The newest motion that wasn't typed yet, with its pane and place; the pane, place and button of the last, and when it was.
+        # The newest untyped motion, with its pane and position; then the pane, position, button and moment of the last typed one.
         self.motion: tuple[int, MouseReport, Place] | None = None
         self.moved: tuple[int, Place, int] | None = None
         self.moved_at = 0.0
 
     def asked(self) -> str:
-        """Which reports the outer terminal is asked for, where this person types at all and the panes are known: those that the program in
-        the pane in focus has asked for, or roam itself."""
+        """Return the reports to request from the terminal: those that the focused pane's program or roam itself needs.
+
+        A read-only user, or one with unknown panes, needs none.
+        """
         panes = self.acts.panes
         if self.acts.link.is_read_only or not panes.places:
             return ""
@@ -67,18 +71,18 @@ class Pointing:
         return "motion" if tracking == "motion" else "drags" if tracking or self.is_on else ""
 
     def switch(self) -> None:
-        """Has roam have the mouse itself, or no more."""
+        """Toggle roam's own use of the mouse."""
         self.is_on = not self.is_on
         self.asks()
         self.acts.display.row.tell(ON.format(self.acts.modes.keymap.name) if self.is_on else OFF, TOLD)
 
     def panes_changed(self) -> None:
-        """Takes note of what is told of the panes."""
+        """Take a report about the panes."""
         if self.border:
             self.border.panes_changed()
 
     def take(self, text: str) -> None:
-        """Takes a report of the outer terminal."""
+        """Take a report of the outer terminal."""
         report, acts = report_of(text), self.acts
         if not report:
             return
@@ -92,7 +96,7 @@ class Pointing:
         if report.is_release:
             self.grasped = None
         elif self.border and not report.moves():
-            # That it was let go wasn't told.
+            # Its release was not reported.
             self.end_drag()
         is_near = holder > 0 or self.border is not None
         place, places = acts.display.shown_at(report.row, report.col, is_near), acts.places()
@@ -106,7 +110,7 @@ class Pointing:
             self.point(report, places, place, holder)
 
     def goes(self, report: MouseReport) -> bool:
-        """Goes to the window whose label in the last row a button is held on, and tells whether it does."""
+        """Go to the window whose label in the last row was pressed, and return True if there is one."""
         acts = self.acts
         is_press = not report.is_release and not report.moves() and report.number() == 0
         place = acts.display.row.window_at(report.row, report.col) if is_press and acts.modes.is_typing() else None
@@ -117,8 +121,11 @@ class Pointing:
         return True
 
     def point(self, report: MouseReport, places: Places, place: Place, holder: int = 0) -> None:
-        """Goes by a report at a place of the session. The pane whose program was told that a button is held has the reports of that button,
-        wherever the mouse is: its program is told the nearest place, as on a terminal of its own."""
+        """Handle a report at a position of the session.
+
+        The pane whose program got a press has all reports of that button, wherever the mouse is. Its program gets the nearest position, as
+        on a terminal of its own.
+        """
         pane = holder or places.pane_at(*place)
         if self.grasped and report.moves() and report.number() == 0:
             (pane, pressed), self.grasped = self.grasped, None
@@ -137,7 +144,7 @@ class Pointing:
             self.press(report, pane, place, pane == places.focus)
 
     def press(self, report: MouseReport, pane: int, place: Place, has_focus: bool) -> None:
-        """Goes by a button that is held or let go in a pane, or by the wheel over one: its program has it, where it asked for that."""
+        """Handle a press or release in a pane, or the wheel over one. Its program gets it on request."""
         if self.type(pane, report, place):
             if not report.is_release and not report.is_wheel():
                 self.held[report.number()] = pane
@@ -152,25 +159,23 @@ class Pointing:
     # ---- copy mode
 
     def copies(self, report: MouseReport) -> bool:
-        """Whether copy mode takes a report."""
+        """Return True if copy mode takes a report."""
         acts = self.acts
         if not self.is_copying() or acts.paused or acts.display.notice or not acts.modes.is_typing():
             return False
         return self.copying().take(report)
 
     def grasp(self, pane: int, place: Place) -> None:
-        """Takes note of where the first button is held, at a place of the terminal: what is dragged from there is selected, and a word by a
-        double click."""
+        """Record a first-button press at a position of the terminal. A drag from there selects text, and a double click selects a word."""
         self.grasped = pane, place
         if self.clicks.press(place, self.loop.clock()) == 2:
             self.grasped = None
             self.copying().open_by_click(pane, place)
 
-    # ---- where roam has the mouse
+    # ---- roam's own mouse
 
     def turn(self, report: MouseReport, pane: int) -> None:
-        """Goes by the wheel over a pane whose program hasn't the mouse: on the other screen it is sent arrows, else the rows that scrolled
-        off are shown."""
+        """Handle the wheel over a pane whose program does not use the mouse: arrows on the alternate screen, else the scrollback."""
         way = {UP: "up", DOWN: "down"}.get(report.number())
         if not self.is_on or not way:
             return
@@ -180,8 +185,7 @@ class Pointing:
             self.copying().open_by_wheel(pane)
 
     def point_back(self, report: MouseReport, places: Places, place: Place) -> None:
-        """Goes by a report while rows are shown that scrolled off: the wheel scrolls, and where roam has the mouse what another pane is
-        pointed at with ends that."""
+        """Handle a report while scrollback is shown: the wheel scrolls. If roam uses the mouse, an event on another pane ends that."""
         pane, is_press = places.pane_at(*place), not report.moves() and not report.is_release
         if pane == places.focus and report.number() in (UP, DOWN):
             self.acts.scroll(pane, NOTCH if report.number() == UP else -NOTCH)
@@ -190,7 +194,7 @@ class Pointing:
             self.point(report, places, place)
 
     def grip(self, places: Places, place: Place) -> None:
-        """Takes the border at a place, to be dragged."""
+        """Take the border at a position, to drag it."""
         from roam_live.frontend.borders import border_at
         from roam_live.frontend.resize_keys import BorderDrag
 
@@ -199,29 +203,31 @@ class Pointing:
             self.border = BorderDrag(self.acts, border, self.end_drag)
 
     def drag(self, drag: BorderDrag, report: MouseReport, place: Place) -> None:
-        """Drags a border, until its button is let go."""
+        """Drag a border until the release of its button."""
         if report.number() == 0:
             drag.to(*place)
             if report.is_release:
                 drag.let_go()
 
     def end_drag(self) -> None:
-        """Drags no border any more."""
+        """Stop dragging."""
         self.border = None
         self.loop.drop("border")
 
     # ---- reports
 
     def type(self, pane: int, report: MouseReport, place: Place) -> bool:
-        """Has a report typed into a pane, where its program asked for such, and its form has one; tells whether it is. The pane is named
-        with it, in one line of acts: nobody else's focus comes between."""
+        """Type a report into a pane if its program wants it and its form can express it, and return True if so.
+
+        The same line of acts names the pane, so that nobody else's focus comes between.
+        """
         text = self.text(pane, report, place)
         if text:
             self.acts.act_together(f"focus {pane}", *(f"char {ord(letter):x}" for letter in text))
         return text != ""
 
     def text(self, pane: int, report: MouseReport, place: Place) -> str:
-        """What a pane's program is sent for a report; nothing where it is none for it."""
+        """Return the text of a report for a pane's program; nothing if the program does not want it."""
         modes, places = self.acts.panes.modes(pane), self.acts.panes.places
         rect = places.rects.get(pane) if places else None
         if not rect or not is_wanted(report, modes):
@@ -230,7 +236,7 @@ class Pointing:
         return sent(report._replace(row=row - rect.row + 1, col=col - rect.col + 1), modes)
 
     def put_motion(self, is_now: bool = False) -> None:
-        """Has the newest motion typed, once it may be, or now: what follows it has to come behind it."""
+        """Type the latest motion report once permitted, or now. Later input has to follow it."""
         self.loop.drop("motion")
         if not self.motion:
             return

@@ -1,4 +1,4 @@
-"""What a person does with panes: splits and closes one, and puts another in focus."""
+"""A user's actions on panes: split, close, and focus."""
 from __future__ import annotations
 
 from roam_live.frontend.effects import ClosePane
@@ -12,20 +12,20 @@ if TYPE_CHECKING:
 
     from roam_live.frontend.interfaces import OtherWindows
 
-# What is told where no pane is known that was in focus before.
+# The message if no previously focused pane is known.
 NO_LAST = "no other pane was active before"
 
 
 class PaneActions:
-    """The panes of a window, as one person has them. A call returns the windows of the session."""
+    """The panes of a window for one user. A call returns the windows of the session."""
 
     def __init__(self, acts: WindowActs, zooming: Zooming, windows: Callable[[], OtherWindows]) -> None:
         self.acts, self.zooming, self.windows = acts, zooming, windows
-        # The panes that were in focus, the newest first, each by its making: another pane of the number is another.
+        # The previously focused panes, the newest first, each by its generation: a reused number is another pane.
         self.makings: list[str] = []
 
     def panes_changed(self) -> None:
-        """Take note of what is reported: where the focus is, and which panes there are."""
+        """Take a report: the focus, and the current panes."""
         places, making = self.acts.panes.places, self.acts.panes.making
         if not places:
             return
@@ -33,14 +33,14 @@ class PaneActions:
         self.makings = [now, *(one for one in self.makings if one != now and one in there)] if now else self.makings
 
     def ring(self, pane: int) -> None:
-        """Ring, and tell of a pane that isn't in focus."""
+        """Ring, and name the pane if it isn't focused."""
         display = self.acts.display
         display.outer.ring()
         if self.acts.focus() != pane and not display.row.told:
             display.row.tell(f"bell in pane {pane}")
 
     def split(self, wish: str) -> None:
-        """Split the pane in focus, or tell why that can't be done."""
+        """Split the focused pane, or show the reason of a failure."""
         places = self.zooming.unzoomed(self.acts.places())
         why = places.unsplit(wish.split()[1]) if places else ""
         if why:
@@ -49,7 +49,7 @@ class PaneActions:
             self.acts.act(wish)
 
     def close(self) -> None:
-        """Close the pane in focus, once that is confirmed if something else than a shell may run there."""
+        """Close the focused pane. If a program other than a shell may run there, ask first."""
         places, busy = self.acts.places(), self.acts.session.busy()
         pane = places.focus if places else 0
         if places and pane and len(places.rects) == 1 and not self.windows().why_one():
@@ -63,7 +63,7 @@ class PaneActions:
             self.acts.ask(f"close {runs}? y closes it", ClosePane(self.acts.session.number))
 
     def go(self, way: str) -> None:
-        """Put the pane on a side in focus; the next one if no rectangle is known."""
+        """Focus the pane on a side; the next one if no rectangle is known."""
         places = self.acts.places()
         if places and not places.focus:
             places = self.acts.panes.places
@@ -73,7 +73,7 @@ class PaneActions:
             self.acts.act(f"focus {pane}" if pane else "next")
 
     def go_back(self) -> None:
-        """Put the pane in focus that was before this one."""
+        """Focus the previous pane."""
         places = self.acts.places()
         others = (pane for pane in (int(one.partition(" ")[0]) for one in self.makings) if places and pane != places.focus)
         pane = next(others, 0)

@@ -1,4 +1,4 @@
-"""What a person pastes, which is kept until its end, and what is typed behind it."""
+"""A user's pastes, buffered until their end, and the input after them."""
 from __future__ import annotations
 
 from roam_live.common.event_loop import Loop
@@ -14,28 +14,28 @@ TYPE_CHECKING = False
 if TYPE_CHECKING:
     from collections.abc import Callable, Iterable, Sequence
 
-# A paste of so many characters at most is typed as acts.
+# The most characters of a paste that is typed as acts.
 SHORT = 40
 
-# One of which nothing more comes for so many seconds is taken for whole, so that a terminal that tells no end keeps nothing back.
+# A paste without further input for so many seconds counts as complete, in case the terminal never reports its end.
 ENDS = 5.0
 
-# So many seconds a host has for taking a text. They are counted each second: those of an outage don't count.
+# Seconds for a host to store a text, counted each second, without outages.
 HANDING = 60.0
 COUNTS = 1.0
 
-# So many acts wait behind one at most. Keys that are typed then are dropped, but for C-c.
+# The most acts that wait after a paste. Later keys are dropped, except for C-c.
 MOST_BEHIND = 1 << 16
 
-# Once a person was told that a paste isn't typed, keys are dropped for so many seconds: they were typed behind it.
+# After the message that a paste is not typed, keys are dropped for so many seconds, since they were typed after it.
 DROPS = 1.0
 
-# Why what is pasted isn't typed in each of several panes.
+# The reason that a paste goes to one pane and not to several.
 ALONE = "pasted into the active pane only: {}"
 NO_TEXTS = "the pty host accepts no texts"
 NO_ROOM = f"for all panes it exceeds {MOST_BYTES >> 20} MB"
 
-# The act of C-c, by which a person drops what waits.
+# The act of C-c, which drops the waiting input.
 INTERRUPT = "char 3"
 
 NOT_TAKEN = "not pasted: the pty host accepts nothing"
@@ -49,26 +49,27 @@ TOO_LONG = f"not pasted: it exceeds {MOST_BYTES >> 20} MB, alone or with the pas
 
 
 class Behind:
-    """Acts that are typed behind a paste: as pasted ones, or all together in a line of their own, or neither."""
+    """Acts typed after a paste: as pasted ones, together in a line of their own, or neither."""
 
     def __init__(self, acts: tuple[str, ...], is_pasted: bool = False, is_together: bool = False) -> None:
         self.acts, self.is_pasted, self.is_together = acts, is_pasted, is_together
 
     def type_at(self, link: ClientLink) -> None:
-        """Has them typed."""
+        """Type them."""
         if self.is_together:
             link.say(" ; ".join(self.acts))
         else:
             link.type(*self.acts, is_pasted=self.is_pasted)
 
     def without_keys(self) -> Behind:
-        """Return the same without what goes to a program: the acts that move the focus, or give the session a size."""
+        """Return only the acts that do not go to a program: those that move the focus or change the session's size."""
         kept = () if self.is_pasted else tuple(act for act in self.acts if not act.startswith(TYPES))
         return Behind(kept, is_together=self.is_together)
 
     def from_move(self) -> Behind | None:
-        """Return the same without the keys before the act that moves the focus; None if none moves it. A line that types in several panes
-        has the focus go there and back."""
+        """Return the same without the keys before the act that moves the focus; None if none does. A line that types in several panes moves
+        the focus there and back.
+        """
         place = next((place for place, act in enumerate(self.acts) if act.startswith(MOVES)), None)
         if place is None or self.is_pasted or self.is_together and any(act.startswith(TYPES) for act in self.acts):
             return None
@@ -76,54 +77,57 @@ class Behind:
 
 
 class Paste:
-    """A paste for which a placeholder is typed, once the pty host holds it: a text, or a buffer of the host's by its number. It may
-    be for another pane than that in focus."""
+    """A paste whose placeholder is typed once the pty host has stored it: a text, or one of the host's buffers by number.
+
+    It may be for another pane than the focused one.
+    """
 
     def __init__(self, text: str, is_bracketed: bool, buffer: int | None = None, focuses: tuple[int, int] | None = None) -> None:
         self.name, self.text, self.is_bracketed, self.buffer = random_name(), text, is_bracketed, buffer
         # The pane that gets the focus for it, and the one that gets it back.
         self.focuses = focuses
         self.is_stored = False
-        # For how many seconds it has waited, and when that was counted last.
+        # The seconds of its wait, and the moment of the last count.
         self.waited = self.counted = 0.0
-        # Why nothing of it is typed where it is never held.
+        # The reason to report if it is never stored.
         self.why = NOT_TAKEN
 
     def line(self) -> str:
-        """The line that types its placeholder, which nothing joins."""
+        """Return the line that types its placeholder, which no other acts join."""
         there, *back = [f"focus {pane}" for pane in self.focuses or ()] or [""]
         return " ; ".join(filter(None, ["paste", there, *placeholder_acts(self.name), *back]))
 
 
 class Pastes:
-    """Pastes and acts, in the order in which they come: a short paste as acts, a longer one as a placeholder, of which the text is handed
-    to the host. Calls tell a person something, and return True during an outage, as while the server is silent."""
+    """Pastes and acts in order: a short paste as acts, a longer one as a placeholder, with its text stored at the host.
+
+    Calls show a message, and return True during an outage, such as a silent server.
+    """
 
     def __init__(self, link: ClientLink, host: HostClient, loop: Loop, tells: Callable[[str], object],
                  is_cut: Callable[[], object]) -> None:
         self.link, self.host, self.loop, self.tells, self.is_cut = link, host, loop, tells, is_cut
         self.waiting: list[Behind | Paste] = []
-        # How many acts wait among them.
+        # The number of waiting acts among them.
         self.behind = 0
-        # Until when keys are dropped since a paste wasn't typed, and why that wasn't.
+        # The end of the time in which keys are dropped after a failed paste, and the reason.
         self.drops_until, self.drops_why = 0.0, ""
         host.answers = self.answered
 
-    # ---- what is handed over
+    # ---- storing
 
     def handing(self) -> int:
-        """How many characters wait to be handed over."""
+        """Return the number of characters that wait to be stored."""
         return sum(len(one.text) for one in self.waiting if isinstance(one, Paste))
 
     def hand(self, paste: Paste) -> None:
-        """Waits until a paste is held."""
+        """Wait until the host has stored a paste."""
         self.waiting.append(paste)
         paste.counted = self.loop.clock()
         self.loop.later(f"hand {paste.name}", COUNTS, lambda: self.count(paste))
 
     def count(self, paste: Paste) -> None:
-        """Count the time for which a paste has waited, but for that of an outage, or for which this process was stopped, and go on without
-        the paste once that is too long."""
+        """Count the waiting time of a paste, without outages and stops of this process. After too long, continue without the paste."""
         now = self.loop.clock()
         if not self.is_cut():
             paste.waited += min(now - paste.counted, 2 * COUNTS)
@@ -133,10 +137,10 @@ class Pastes:
         else:
             self.loop.later(f"hand {paste.name}", COUNTS, lambda: self.count(paste))
 
-    # ---- what becomes of it
+    # ---- the host's answers
 
     def answered(self, name: str, word: str, more: str) -> None:
-        """Takes what the host tells of a text."""
+        """Take the host's report about a text."""
         paste = next((one for one in self.waiting if isinstance(one, Paste) and one.name == name), None)
         if not paste:
             if word == LOST and self.loop.clock() >= self.drops_until:
@@ -164,14 +168,12 @@ class Pastes:
         self.type_waiting()
 
     def refuse(self, why: str, is_lost: bool = False) -> None:
-        """Tell why a paste isn't typed, and whether what was typed behind it is lost. Keys that come within a moment were typed behind it
-        too."""
+        """Show the reason that a paste isn't typed, and note if later input is lost. Keys of the next moment count as later input too."""
         self.tells(BEHIND_IT.format(why) if is_lost else why)
         self.drops_until, self.drops_why = self.loop.clock() + DROPS, "" if is_lost else why
 
     def fail(self, paste: Paste, why: str) -> None:
-        """Go on without a paste, and without what was typed and pasted behind it, which alone may mean something else, up to the next act
-        that moves the focus."""
+        """Drop a paste with the input after it, up to the next act that moves the focus. Alone that input might mean something else."""
         waiting = list(self.waiting)
         place = waiting.index(paste)
         self.cancel(paste)
@@ -183,16 +185,20 @@ class Pastes:
         self.type_waiting()
 
     def drop_waiting(self) -> None:
-        """Drops the pastes that wait, and all keys between and behind them. The other acts are typed: the focus and the session's size go
-        by them. Nothing is typed before all pastes are gone, since the first of them may be what keeps the others back."""
+        """Drop the waiting pastes, and all keys between and after them. Other acts are typed, since they determine the focus and the
+        session's size.
+
+        Nothing is typed before all pastes are gone, since the first of them may delay the others.
+        """
         left, _ = self.left_of(self.waiting)
         self.wait_for(left)
         self.tells(DROPPED)
         self.type_waiting()
 
     def left_of(self, waiting: Iterable[Behind | Paste], is_to_move: bool = False) -> tuple[list[Behind | Paste], bool]:
-        """Drop these pastes and keys, or those before the act that moves the focus, and return what is left of them, and True if there is
-        such an act."""
+        """Drop these pastes and keys, or with `is_to_move` those before the act that moves the focus. Return the rest, and True if there is
+        such an act.
+        """
         left: list[Behind | Paste] = []
         has_moved = False
         for one in waiting:
@@ -207,19 +213,19 @@ class Pastes:
         return [one for one in left if isinstance(one, Paste) or one.acts], has_moved
 
     def wait_for(self, waiting: Sequence[Behind | Paste]) -> None:
-        """Has these wait, and no others."""
+        """Replace the waiting acts and pastes by these."""
         self.waiting = list(waiting)
         self.behind = sum(len(one.acts) for one in waiting if isinstance(one, Behind))
 
     def cancel(self, paste: Paste) -> None:
-        """Hands a paste over no more."""
+        """Stop storing a paste."""
         self.host.cancel(paste.name)
         self.loop.drop(f"hand {paste.name}")
 
-    # ---- what is typed
+    # ---- typing
 
     def type(self, *acts: str, is_pasted: bool = False) -> None:
-        """Types acts, behind the pastes that wait; a C-c drops these."""
+        """Type acts, after the waiting pastes; a C-c drops these."""
         if not is_pasted:
             self.drop_by(acts)
             if self.drops_until or self.is_full():
@@ -230,26 +236,28 @@ class Pastes:
             self.link.type(*acts, is_pasted=is_pasted)
 
     def type_lines(self, lines: list[list[str]]) -> None:
-        """Types keys in lines of their own, behind the pastes that wait; a C-c drops these."""
+        """Type keys in lines of their own, after the waiting pastes; a C-c drops these."""
         for acts in lines:
             self.drop_by(acts)
             if not self.drops():
                 self.put(Behind(tuple(acts), is_together=True))
 
     def type_together(self, *acts: str) -> None:
-        """Types acts in a line of their own, behind the pastes that wait."""
+        """Type acts in a line of their own, after the waiting pastes."""
         if any(act.startswith(MOVES) for act in acts):
             self.drops_until = 0.0
         self.put(Behind(acts, is_together=True))
 
     def drop_by(self, acts: Sequence[str]) -> None:
-        """Drops the pastes that wait, and the keys behind them, if a C-c is among acts, which is typed in any case."""
+        """If a C-c is among acts, drop the waiting pastes and the keys after them. The C-c is typed in any case."""
         if INTERRUPT in acts:
             self.interrupt()
 
     def interrupt(self) -> None:
-        """Drop the pastes that wait here and the keys behind them, also what the client hasn't read of them, so that a C-c is typed at
-        once. Keys that were typed without a paste before them stay."""
+        """Drop waiting pastes and the keys after them, also those that the client hasn't read, so that C-c is typed at once.
+
+        Keys typed without a paste before them stay.
+        """
         self.drops_until = 0.0
         dropped = self.link.drop_pasted()
         for line in dropped:
@@ -262,8 +270,7 @@ class Pastes:
             self.tells(DROPPED)
 
     def taken(self, acts: tuple[str, ...]) -> tuple[str, ...]:
-        """Return those of these acts that are typed while keys may be dropped: all from the act that moves the focus on, and no key
-        before it."""
+        """Return the acts to type while keys are dropped: all from the act that moves the focus on, and no keys before it."""
         move = Behind(acts).from_move()
         if any(act.startswith(TYPES) for act in acts) and self.drops():
             acts = (move if move and not self.is_full() else Behind(acts).without_keys()).acts
@@ -272,8 +279,7 @@ class Pastes:
         return acts
 
     def drops(self) -> bool:
-        """Return True if keys that are typed now are dropped, which a person is told: too much waits, or they were typed behind a paste
-        that wasn't typed."""
+        """Return True if keys are dropped now, and show that: too much input waits, or they follow a paste that failed."""
         if self.is_full():
             self.tells(FULL_BEHIND)
             return True
@@ -286,7 +292,7 @@ class Pastes:
         return True
 
     def put(self, acts: Behind) -> None:
-        """Types acts, if there are any: now, where no paste waits."""
+        """Type these acts, at once if no paste waits."""
         if not acts.acts:
             return
         if self.waiting:
@@ -296,7 +302,7 @@ class Pastes:
             acts.type_at(self.link)
 
     def type_waiting(self) -> None:
-        """Types what may be typed now."""
+        """Type everything that may be typed now."""
         while self.waiting:
             first = self.waiting[0]
             if isinstance(first, Behind):
@@ -309,33 +315,33 @@ class Pastes:
             del self.waiting[0]
 
     def is_full(self) -> bool:
-        """Whether so much waits behind a paste that no more keys are to come."""
+        """Return True if too much input waits after a paste to accept more keys."""
         return self.behind >= MOST_BEHIND or self.link.is_full_behind()
 
     def hands_over(self) -> bool:
-        """Whether a paste waits to be handed over."""
+        """Return True if a paste waits to be stored."""
         return bool(self.waiting)
 
 
 class PasteIntake:
-    """A paste that comes, and what becomes of it. A call tells why nothing is pasted now."""
+    """A paste during its arrival. A call returns the reason if pastes are refused now."""
 
     def __init__(self, pastes: Pastes, panes: PanesSubscriber, refuses: Callable[[], str]) -> None:
         self.pastes, self.panes, self.refuses = pastes, panes, refuses
         self.loop, self.tells = pastes.loop, pastes.tells
-        # What came of it, and why nothing of it is typed.
+        # Its text so far, and the reason if it is not typed.
         self.chunks: list[str] = []
         self.size = 0
         self.why = ""
-        # The panes in which what is pasted is typed, of which the first is in focus; none where that has it alone.
+        # The panes that get the paste, the focused one first; none if only that gets it.
         self.spreads: Callable[[], list[int]] = list
 
     def begin(self, why: str = "") -> None:
-        """A paste begins; nothing of it is typed where it is told why, or nothing is pasted now, nor as it ends."""
+        """Begin a paste. With a reason, or if pastes are refused now or at its end, nothing of it is typed."""
         self.chunks, self.size, self.why = [], 0, why or self.refuses()
 
     def add(self, text: str) -> None:
-        """More of it comes."""
+        """Add a part of it."""
         self.size += len(text)
         if not self.why and self.size + self.pastes.handing() > MOST_BYTES:
             self.why = TOO_LONG
@@ -346,7 +352,7 @@ class PasteIntake:
         self.loop.later("paste", ENDS, self.end)
 
     def end(self) -> None:
-        """It is whole."""
+        """End a paste."""
         self.loop.drop("paste")
         text, why = cleaned("".join(self.chunks)), self.why or self.refuses()
         self.chunks, self.size = [], 0
@@ -358,13 +364,15 @@ class PasteIntake:
             self.paste(text)
 
     def break_off(self) -> None:
-        """Nothing more comes of one here: it isn't typed."""
+        """Abandon a paste, whose rest does not come here, and type nothing of it."""
         self.loop.drop("paste")
         self.chunks, self.size = [], 0
 
     def paste(self, text: str) -> None:
-        """Types a text as acts where it is short, and else hands it over; that too where it isn't known here whether the program wants
-        brackets, as of another machine's."""
+        """Type a short text as acts, and store a longer one at the host.
+
+        It is also stored if bracketed paste is unknown here, as for a remote session.
+        """
         panes = self.spreads()
         if panes and self.is_spread(text, panes):
             return
@@ -381,7 +389,7 @@ class PasteIntake:
         self.pastes.hand(paste)
 
     def is_spread(self, text: str, panes: list[int]) -> bool:
-        """Hands a text over for each of these panes, by a placeholder of its own there, and tells whether it does: else why not is told."""
+        """Store a text for each of these panes, with a placeholder of its own, and return True; or show the reason of a failure."""
         data = text.encode("utf-8", "replace")
         if not self.pastes.host.takes_texts():
             self.tells(ALONE.format(NO_TEXTS))
@@ -396,7 +404,7 @@ class PasteIntake:
         return True
 
     def paste_buffer(self, number: int) -> None:
-        """Has a buffer of the host's be pasted."""
+        """Paste one of the host's buffers."""
         why = self.refuses()
         if why:
             self.tells(why)
@@ -409,5 +417,5 @@ class PasteIntake:
 
 
 def weight(waiting: Iterable[Behind | Paste]) -> int:
-    """Count the acts and pastes that wait."""
+    """Return the number of waiting acts and pastes."""
     return sum(1 if isinstance(one, Paste) else len(one.acts) for one in waiting)

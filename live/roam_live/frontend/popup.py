@@ -1,4 +1,4 @@
-"""What a front end draws itself over a part of what is painted, under a mask, so that no painting writes there; with its own cursor."""
+"""A popup that the front end draws over part of a painting, with its own cursor. A mask keeps paintings out of it."""
 from __future__ import annotations
 
 from roam_live.protocol.panes import Rect
@@ -7,33 +7,32 @@ TYPE_CHECKING = False
 if TYPE_CHECKING:
     from collections.abc import Callable, Iterable
 
-# The cursor and its style are kept as a painting left them, and are brought back before the next (DECSC, DECRC).
+# The cursor and its style after a painting are saved, and restored before the next one (DECSC, DECRC).
 KEPT, BACK = b"\x1b7", b"\x1b8"
 
 
 def put_at(row: int, col: int) -> bytes:
-    """What puts the cursor on a row and a column of the terminal, from 1, and shows it."""
+    """Return the sequence that moves the cursor to a row and a column of the terminal, from 1, and shows it."""
     return b"\x1b[%d;%dH\x1b[?25h" % (row, col)
 
 
 class Popup:
-    """Lines in a rectangle of the terminal, which nothing that is painted reaches. Calls tell the text of each of its rows, and where the
-    cursor stands, from 1."""
+    """Lines in a rectangle of the terminal that no painting reaches. Calls return the text of each row, and the cursor's position from 1.
+    """
 
     def __init__(self, rect: Rect, lines: Callable[[], Iterable[bytes]], cursor: Callable[[], tuple[int, int]]) -> None:
         self.rect, self.lines, self.cursor = rect, lines, cursor
-        # What stands in its rows, as far as it is known; and whether the cursor is where it has it.
+        # The texts now in its rows, as far as known; and True if the cursor is its own.
         self.shown: list[bytes] = []
         self.is_placed = False
 
     def lifted(self) -> bytes:
-        """What is written before a painting: the cursor stands where the last one left it."""
+        """Return the sequence before a painting: it puts the cursor back to the painting's position."""
         was_placed, self.is_placed = self.is_placed, False
         return BACK if was_placed else b""
 
     def laid(self, is_anew: bool = False) -> bytes:
-        """What is written behind a painting, or where the lines are others: those that changed, and the cursor. After a painting anew none
-        of them stands there."""
+        """Return the output after a painting or a change: the changed lines, and the cursor. After a full repaint, all lines."""
         parts = [] if self.is_placed else [KEPT]
         before, self.shown = [] if is_anew else self.shown, list(self.lines())
         for number, line in enumerate(self.shown):
@@ -43,9 +42,9 @@ class Popup:
         return b"".join(parts) + self.placed()
 
     def placed(self) -> bytes:
-        """What puts the cursor where it stands here."""
+        """Return the sequence that moves the cursor to its place in the popup."""
         return put_at(*self.cursor())
 
     def forget(self) -> None:
-        """Knows nothing of what stands on the terminal."""
+        """Forget the contents of the terminal."""
         self.shown, self.is_placed = [], False

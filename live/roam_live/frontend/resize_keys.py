@@ -1,4 +1,4 @@
-"""Borders that a person moves by keys, and even shares for all panes."""
+"""Borders that a user moves by keys, and even sizes for all panes."""
 from __future__ import annotations
 
 from collections import deque
@@ -13,19 +13,19 @@ TYPE_CHECKING = False
 if TYPE_CHECKING:
     from collections.abc import Callable
 
-# So many keys wait at most until the session has its size again; and even shares take so many lines of acts at most, each once what comes
-# of the one before is told.
+# The most keys that wait for the session's old size; and the most lines of acts for even split sizes. Each line follows the report of the
+# previous one's effect.
 MOST_WAITING = 64
 MOST_LINES = 10
 
-# So many seconds after a growth was taken, of which nothing is told, it was refused.
+# Seconds after which an accepted resize without a report counts as refused.
 SETTLES = 0.25
 NO_PANE = "this border cannot be moved: the panes on both sides are split"
 
 # The side opposite to each.
 OPPOSITE = {"left": "right", "right": "left", "up": "down", "down": "up"}
 
-# So many seconds a line stands that tells why shares aren't even.
+# Seconds for which the reason for uneven sizes is shown.
 TOLD = 3.0
 NO_BORDER = {"right": "pane {} has no border on its left or right", "down": "pane {} has no border above or below it"}
 NO_ROOM = "this border cannot move further"
@@ -36,13 +36,15 @@ NO_FOCUS = "the active pane is not known yet"
 
 
 def axis_of(side: str) -> str:
-    """Along which way a pane's border on a side is moved."""
+    """Return the direction in which a pane's border on a side moves."""
     return "right" if side in ("left", "right") else "down"
 
 
 def side_border(rects: dict[int, Rect], pane: int, side: str) -> Border | None:
-    """The border on a side of a pane; None where it has none there. Where the panes' numbers don't tell whose own split it is, and the
-    rectangles have it that no pane's is, the two at this side are tried."""
+    """Return the border on a side of a pane; None if there is none.
+
+    If neither numbers nor rectangles show its owner, the two panes at this side are candidates.
+    """
     rect, way = rects[pane], axis_of(side)
     is_behind = side in ("right", "down")
     at = end_of(rect, way) if is_behind else begin_of(rect, way) - 1
@@ -56,7 +58,7 @@ def side_border(rects: dict[int, Rect], pane: int, side: str) -> Border | None:
 
 
 def is_across(rect: Rect, other: Rect, side: str) -> bool:
-    """Whether another rectangle lies across a border from one, as long as that."""
+    """Return True if another rectangle is across a border, with equal length."""
     first, second = (rect, other) if side in ("right", "down") else (other, rect)
     way = axis_of(side)
     along = "down" if way == "right" else "right"
@@ -65,35 +67,36 @@ def is_across(rect: Rect, other: Rect, side: str) -> bool:
 
 
 class BorderDrag:
-    """A border that a person drags. It goes by growths of a pane whose own split it is, one after another, each once what came of the one
-    before is told. Whose it is may be known wrongly, where panes were closed: a growth that moves another border is undone, and the pane
-    on the other side tried."""
+    """A border that a user drags, in steps: each resizes a pane that owns the border, and waits for a report of the effect.
+
+    After a pane was closed the owner may be misjudged. A step that moves another border is undone, and the pane on the other side is tried.
+    """
 
     def __init__(self, acts: WindowActs, border: Border, ended: Callable[[], object], moment: str = "border") -> None:
         self.acts, self.loop, self.border, self.ended = acts, acts.loop, border, ended
-        # What the moment is called at which it is settled.
+        # The name of the timer that settles it.
         self.moment = moment
         others = [leaf for leaf in ((border.before, 1), (border.behind, -1)) if leaf not in border.leaves]
         self.leaves = border.leaves + others if border.leaves else []
         self.aim = 0
-        # The pane that grows, by how much, and the places before that; whether it is undone by that; and whether it is let go.
+        # The growing pane, the amount, and the positions before; a flag for an undo step; and a flag for the released button.
         self.grown: tuple[int, int, Places] | None = None
         self.is_undone = self.is_over = False
-        # True if this person moved the focus to a pane that isn't known yet: a growth would put it back.
+        # True if this user moved the focus to a still unknown pane: a resize would move it back.
         self.awaits_focus = False
 
     def to(self, row: int, col: int) -> None:
-        """Drags it to a place of the session."""
+        """Drag it to a position of the session."""
         self.aim = min(max(col if self.border.way == "right" else row, self.border.least), self.border.most)
         self.pull()
 
     def let_go(self) -> None:
-        """Leaves it where it is dragged to, once it is there."""
+        """End the drag at its target, once the border is there."""
         self.is_over = True
         self.pull()
 
     def pull(self) -> None:
-        """Has it go where it is to be, unless it goes already."""
+        """Move it to its target, unless a step is in progress."""
         places = self.acts.places()
         if self.grown:
             return
@@ -111,13 +114,13 @@ class BorderDrag:
             self.grow(pane, min(max(sign * (self.aim - at), -MOST_GROWTH), MOST_GROWTH), places)
 
     def grow(self, pane: int, by: int, places: Places) -> None:
-        """Has a pane grow, with the focus where it was in the end."""
+        """Resize a pane, and restore the focus."""
         self.grown = pane, by, places
         self.loop.later(self.moment, SETTLES, self.settle)
         self.acts.act_together(f"focus {pane}", f"grow {by}", *[f"focus {places.focus}"] * (places.focus != pane))
 
     def panes_changed(self) -> None:
-        """Takes note of what is told of the panes: of what comes of a growth where the pane has another size."""
+        """Take a report about the panes. A new size of the pane is the effect of a step."""
         places = self.acts.panes.places
         if self.awaits_focus and self.acts.moved_to is None:
             self.loop.drop(self.moment)
@@ -139,7 +142,7 @@ class BorderDrag:
             self.pull()
 
     def settle(self) -> None:
-        """Goes on where nothing comes of a growth that was taken: it is no further than it can be."""
+        """Continue if an accepted step has no effect: the border is at its limit."""
         if self.acts.link.untaken():
             self.loop.later(self.moment, SETTLES, self.settle)
             return
@@ -147,25 +150,25 @@ class BorderDrag:
         self.end_over()
 
     def end_over(self) -> None:
-        """Ends once it is let go."""
+        """End the drag after the release."""
         if self.is_over:
             self.ended()
 
 
 class BorderKeys:
-    """What one person does with borders by keys."""
+    """A user's actions on borders by keys."""
 
     def __init__(self, acts: WindowActs, size: SessionSize, zooming: Zooming) -> None:
         self.acts, self.size, self.zooming, self.loop = acts, size, zooming, acts.loop
-        # The border that goes, and keys that wait until the session has its size again.
+        # The moving border, and keys that wait until the session has its old size.
         self.drag: BorderDrag | None = None
         self.waiting: deque[str] = deque(maxlen=MOST_WAITING)
-        # Where the panes are to be by the acts that were typed for even shares, and how many more lines may be.
+        # The expected positions after the acts for even sizes, and the number of further lines.
         self.wanted: dict[int, Rect] | None = None
         self.lines_left = 0
 
     def ask(self, wish: str) -> None:
-        """Does what a key asks for, `even` or a side: once nothing is zoomed any more."""
+        """Carry out the request of a key, `even` or a side, once nothing is zoomed."""
         if self.zooming.is_on():
             self.zooming.end()
         self.waiting.append(wish)
@@ -173,7 +176,7 @@ class BorderKeys:
         self.do_waiting()
 
     def do_waiting(self, is_late: bool = False) -> None:
-        """Does what waits, once it is told where the panes are at the session's size, and where the focus is that was moved."""
+        """Carry out the waiting request, once the panes at the session's size and the moved focus are reported."""
         places, here = self.acts.panes.places, self.acts.places()
         is_known = here is None or here.focus > 0
         if is_late and self.waiting and not is_known:
@@ -187,7 +190,7 @@ class BorderKeys:
                 self.move(wish)
 
     def panes_changed(self) -> None:
-        """Goes by what is told of the panes."""
+        """Handle a report about the panes."""
         places = self.acts.panes.places
         if self.drag:
             self.drag.panes_changed()
@@ -198,7 +201,7 @@ class BorderKeys:
     # ---- one border
 
     def move(self, side: str) -> None:
-        """Moves the border on a side of the pane in focus towards that side, or where it has none there the one on the other side."""
+        """Move the border on a side of the focused pane towards that side; without one, the border on the other side."""
         places, way = self.acts.places(), axis_of(side)
         if not places:
             self.acts.display.row.tell(UNTOLD)
@@ -216,7 +219,7 @@ class BorderKeys:
         self.pull(self.drag, at + sum(BESIDE[side]))
 
     def pull(self, drag: BorderDrag, aim: int) -> None:
-        """Has a border go to a column or a row, as far as it may."""
+        """Move a border to a column or a row, as far as possible."""
         if not drag.leaves:
             self.acts.display.row.tell(NO_PANE)
             self.drop()
@@ -228,20 +231,20 @@ class BorderKeys:
             drag.let_go()
 
     def drop(self) -> None:
-        """Forgets a border that goes."""
+        """Forget a moving border."""
         self.drag = None
         self.loop.drop("border by key")
 
     # ---- all of them
 
     def even(self) -> None:
-        """Gives all panes even shares."""
+        """Give all panes even sizes."""
         self.drop()
         self.lines_left = MOST_LINES
         self.go_on(is_first=True)
 
     def go_on(self, is_first: bool = False) -> None:
-        """Types what is left to do for even shares: what a pane's own split hides is told once that has room."""
+        """Type the remaining acts for even sizes. A border hidden by a pane's own split follows once there is room."""
         self.wanted = None
         self.loop.drop("even")
         places = self.acts.panes.places
@@ -261,12 +264,12 @@ class BorderKeys:
             self.acts.display.row.tell(EVEN)
 
     def back(self, places: Places) -> list[str]:
-        """The act that puts the focus back where this person has it."""
+        """Return the act that restores this user's focus."""
         here = self.acts.places()
         return [f"focus {here.focus if here and here.focus else places.focus}"]
 
     def settle(self) -> None:
-        """Goes on by what is told by now, once what was typed is taken."""
+        """Continue with the reports so far, once the input is taken."""
         if self.acts.link.untaken():
             self.loop.later("even", SETTLES, self.settle)
         else:

@@ -1,5 +1,4 @@
-"""What a settings file chooses at one front end, and commands that are typed: the prefix, when predictions are shown, and what the last row
-has at its ends."""
+"""The effects of a settings file and of typed commands on one front end: the prefix, predictions, and the ends of the last row."""
 from __future__ import annotations
 
 import os
@@ -25,15 +24,15 @@ if TYPE_CHECKING:
 
 OPTIONS = ("status-left", "status-right")
 
-# What `status-left` is if no settings file sets it.
+# The default of `status-left`.
 DEFAULT_LEFT = "[#S] "
 
-# What the moment is called at which a clock in it goes on.
+# The name of the timer for its clock.
 MOMENT = "status"
 
 
 def format_values(session: str, number: int, told: WindowsState, panes: PanesSubscriber, is_zoomed: bool) -> dict[str, str]:
-    """Return what the words of formats stand for in a window of a session."""
+    """Return the values of the words in formats for a window of a session."""
     name, host = told.names.get(number) or told.runs.get(number, ""), os.uname().nodename
     return {"session": session, "window": name or "", "index": str(number or 1),
             "flags": "*" + "Z" * is_zoomed, "pane": str(panes.places.focus) if panes.places else "", "title": panes.title_and_shape[0],
@@ -41,15 +40,17 @@ def format_values(session: str, number: int, told: WindowsState, panes: PanesSub
 
 
 class StatusRow:
-    """Both ends of the last row of one front end. A call returns what the words of formats stand for. `name` is the session's name, which
-    the row shows if no settings file sets its left end; a session without windows has none."""
+    """Both ends of one front end's last row. A call returns the values of the words in formats.
+
+    `name` is the session's name, which the row shows if no settings file sets its left end. A session without windows has none.
+    """
 
     def __init__(self, display: Display, loop: Loop, values: Callable[[], dict[str, str]], name: str = "") -> None:
         self.display, self.loop, self.values, self.name = display, loop, values, name
         self.formats: list[Format] = []
 
     def choose(self) -> list[str]:
-        """Goes by the formats that are chosen now; tells what of them isn't there, a line each."""
+        """Use the current formats, and return a line for each unsupported part."""
         texts = {option: text_of(option) for option in OPTIONS}
         has_default = bool(self.name) and OPTIONS[0] not in BY_FILE
         display, self.formats = self.display, []
@@ -57,7 +58,7 @@ class StatusRow:
         wrong: list[str] = []
         if any(texts.values()):
             texts[OPTIONS[0]] = DEFAULT_LEFT if has_default else texts[OPTIONS[0]]
-            # Who has none doesn't wait for these.
+            # A user without a settings file does not wait for these.
             from roam_live.config.formats import read_format, unread
 
             self.formats = [read_format(text) for text in texts.values()]
@@ -68,7 +69,7 @@ class StatusRow:
         return wrong
 
     def tick(self) -> None:
-        """Has the row say what it says now, and again once a clock in it goes on."""
+        """Update the row, and again when its clock changes."""
         self.display.row.put()
         if self.formats:
             from roam_live.config.formats import changes_in
@@ -79,12 +80,12 @@ class StatusRow:
                 self.loop.later(MOMENT, min(waits), self.tick)
 
     def named(self) -> tuple[list[Styled], list[Styled]]:
-        """Return the session's name for the left end, as DEFAULT_LEFT has it, if that takes at most a third of the row."""
+        """Return the session's name for the left end, as in DEFAULT_LEFT, if that takes at most a third of the row."""
         text = f"[{self.name}] "
         return [Styled(ROW_STYLE, text)] if columns(text) * 3 <= self.display.outer.size()[1] else [], []
 
     def shown(self) -> tuple[list[Styled], list[Styled]]:
-        """What stands at both ends now."""
+        """Return the current texts of both ends."""
         from roam_live.config.formats import filled
 
         values, now = self.values(), time.time()
@@ -92,7 +93,7 @@ class StatusRow:
         return left, right
 
     def filled(self, text: str) -> str:
-        """What a format says now, without its styles. ValueError tells what of it isn't there in roam."""
+        """Return the current text of a format, without its styles. ValueError names an unsupported part."""
         from roam_live.config.formats import filled, read_format
 
         read = read_format(text)
@@ -101,31 +102,31 @@ class StatusRow:
         return "".join(one.text for one in filled(read, self.values(), time.time()))
 
 
-# So many seconds a line stands that tells what of the settings isn't done.
+# Seconds for which the message about unsupported settings is shown.
 TOLD = 3.0
 
-# What is told where the settings are read anew.
+# The message after the settings are reloaded.
 READ = "roam.conf was read"
 
 
 class FrontSettings:
-    """What is chosen now. A call returns what is done in each window of the front end, the one that is shown first."""
+    """The current settings. A call returns the commands of each window, the current one first."""
 
     def __init__(self, keyboard: Interpreter, status_row: StatusRow, prefix: str, prediction: str) -> None:
         self.keyboard, self.display, self.status_row = keyboard, keyboard.display, status_row
         self.prefix, self.prediction, self.row = prefix, prediction, text_of("status")
         self.all_commands: Callable[[], list[Commands]] = list
-        # What does commands.
+        # Runs commands.
         self.runs: Callable[[list[list[str]]], object] = lambda commands: None
         self.display.part.is_row_hidden = self.row == "off"
         self.bind()
 
     def bind(self) -> None:
-        """Have keys mean what the settings say."""
+        """Bind keys by the settings."""
         self.keyboard.modes.keymap.own = OWN.found.bindings if OWN.found else {}
 
     def read(self, path: str = "") -> None:
-        """Go by the settings file as it is now, or by one that is named too."""
+        """Apply the settings file in its current state, and another file if named."""
         if path:
             OWN.add(path)
         else:
@@ -134,16 +135,16 @@ class FrontSettings:
         self.run_file()
 
     def filled(self, text: str) -> str:
-        """Return what a format says now. ValueError says what of it isn't there in roam."""
+        """Return the current text of a format. ValueError names an unsupported part."""
         return self.status_row.filled(text)
 
     def run_file(self) -> None:
-        """Run what the settings file has the shell run."""
+        """Run the shell commands of the settings file."""
         if OWN.found and OWN.found.runs:
             self.runs([["run-shell", "-b", command] for command in OWN.found.runs])
 
     def go_by(self, otherwise: str = "") -> None:
-        """Go by the settings as they are now."""
+        """Apply the current settings."""
         self.bind()
         here, *left = self.all_commands()
         try:
@@ -164,7 +165,7 @@ class FrontSettings:
         self.tell(otherwise)
 
     def tell(self, otherwise: str = "") -> None:
-        """Have the last row go by the settings, and tell what of them isn't done here."""
+        """Update the last row by the settings, and report unsupported parts."""
         wrong = self.status_row.choose()
         told = OWN.line() or "; ".join(wrong[:1]) or otherwise
         if told:

@@ -1,4 +1,4 @@
-"""Which part of a session a terminal shows, as it is asked of the client process."""
+"""The part of a session that a terminal shows, as it is requested from the client process."""
 from __future__ import annotations
 
 from roam_live.common import tty
@@ -13,90 +13,90 @@ TYPE_CHECKING = False
 if TYPE_CHECKING:
     from collections.abc import Callable
 
-# A part that the client chose over an earlier screen is asked for again after so many seconds, and after twice as many each time, until it
-# has the new one.
+# A part that the client chose on an outdated screen is requested again after so many seconds, each time after twice as many, until the
+# client has the new screen.
 CHOSEN_AGAIN = 0.05
 MOST_CHOSEN = 8
 
 
 class ShownPart:
-    """The part of one terminal. Calls say a line to the client, and choose what is shown, asking for it anew where that is so."""
+    """The visible part of one terminal. Calls send a line to the client, and choose the view, anew on request."""
 
     def __init__(self, outer: OuterTerminal, loop: Loop, says: Callable[[str], object], chooses: Callable[[bool], object]) -> None:
         self.outer, self.loop, self.says, self.chooses = outer, loop, says, chooses
-        # The session's size, as it is told where its panes are, and as it was painted whole; NO_SIZE where that isn't known.
+        # The session's size, as reported with its panes, and as painted whole; NO_SIZE if unknown.
         self.told_size = self.whole_size = NO_SIZE
-        # Whether the whole is shown where there is room for it; what was asked for, where that is a part; the size of what is painted next,
-        # and where the part that is painted begins.
+        # True if the whole is shown if it fits; the requested part, if any; the size of the next painting, and the first row and column of
+        # the painted part.
         self.may_be_whole = False
         self.asked: tty.Size | None = None
         self.painted_size, self.place = NO_SIZE, (0, 0)
-        # The rectangle of the session that alone is shown, where a pane is zoomed, and the corner that was asked for; and whether nothing
-        # new is shown until the session has the size that it is to have.
+        # The rectangle of a zoomed pane, which is shown alone, and the requested corner; and True while nothing new is shown until the
+        # session has its expected size.
         self.zoomed: Rect | None = None
         self.corner: tuple[int, int] | None = None
         self.is_held = False
-        # Whether all of the session is asked for from its first row and column on, since what is shown began elsewhere; whether it is told
-        # where the part begins that was asked for last; and how often in a row one was asked for again.
+        # True if the whole session is requested from its first row and column, since the view began elsewhere. True if the position of the
+        # last requested part is reported. Then the number of repeated requests in a row.
         self.is_from_first = self.is_placed = False
         self.chosen = 0
-        # Whether nothing that is painted may reach the terminal before all is painted anew.
+        # True while no painting may reach the terminal until everything is repainted.
         self.is_stale = True
-        # Whether the last row is hidden while nothing is drawn, and what is drawn over the part.
+        # True if the last row is hidden without a popup, and the popup over the part.
         self.is_row_hidden = False
         self.popup: Popup | None = None
 
     def begin(self) -> None:
-        """Know nothing of what a client paints that was just connected to: it paints the whole where it isn't asked for a part."""
+        """Reset the state for a new client connection. It paints the whole session unless asked for a part."""
         self.asked, self.painted_size, self.place = None, NO_SIZE, self.place if self.popup else (0, 0)
         self.corner, self.is_from_first, self.is_stale = None, False, True
 
     def begin_window(self) -> None:
-        """Know nothing of the window where the person goes."""
+        """Reset the state for a new window."""
         self.told_size = self.whole_size = NO_SIZE
         self.place, self.zoomed, self.is_held = (0, 0), None, False
 
-    # ---- what there is
+    # ---- its state
 
     def size(self) -> tty.Size:
-        """Return the session's size, as far as it is known."""
+        """Return the session's size, as far as known."""
         return self.told_size if self.told_size != NO_SIZE else self.whole_size
 
     def has_row(self) -> bool:
-        """Return True if the last row is the front end's own; one that is hidden is so only while something is drawn."""
+        """Return True if the last row is the front end's own; a hidden one is so only under a popup."""
         return not self.is_row_hidden or self.popup is not None
 
     def room(self) -> tty.Size:
-        """Return the size of a session of which this terminal shows all: a row of it is the session's status row, which is left out."""
+        """Return the size of a session that this terminal shows whole. The session's own status row needs no room."""
         rows, cols = self.outer.size()
         return rows + self.is_row_hidden, cols
 
     def wanted(self) -> tty.Size | None:
-        """Return the part of the session that is to be shown, None for the whole."""
+        """Return the size of the part to show, None for the whole session."""
         return sizes.part_for(self.outer.size(), self.has_row(), self.size(), self.zoomed, self.may_be_whole)
 
     def shows_all(self) -> bool:
-        """Return True if all of the session is shown, as far as its size is known: its status row may be left out."""
+        """Return True if all of the session is visible, as far as its size is known, with or without its status row."""
         size = self.size()
         return self.zoomed is not None or self.asked is None or size == NO_SIZE or has_all(size, self.asked)
 
     def fits(self) -> bool:
-        """Return True if there is room for what is painted, above the last row or there too."""
+        """Return True if the painting fits, above the last row or with it."""
         rows, cols = self.outer.size()
         return self.painted_size[0] <= rows - (self.asked is not None and self.has_row()) and self.painted_size[1] <= cols
 
     def begins_at(self) -> tuple[int, int]:
-        """Return where what is shown begins."""
+        """Return the first row and column of the view."""
         return self.place if self.asked else (0, 0)
 
     def visible(self, rect: Rect) -> Rect | None:
-        """Return what is shown of a rectangle of the session, as a rectangle of the terminal, None if nothing is."""
+        """Return the visible part of a session's rectangle, as a rectangle of the terminal; None if there is none."""
         return sizes.visible(rect, self.begins_at(), self.asked or self.painted_size)
 
-    # ---- what is asked for
+    # ---- requests
 
     def choose(self, is_anew: bool) -> bool:
-        """Ask for what is to be shown if that isn't what was asked for, or if it has to be asked for anew. Return True if it does."""
+        """Request the wanted view if it differs from the last request, or if `is_anew`. Return True if it does."""
         part = self.wanted()
         self.is_from_first = not self.zoomed and has_all(self.size(), part) and (self.is_from_first or self.place != (0, 0))
         corner = (self.zoomed.row - 1, self.zoomed.col - 1) if self.zoomed else (0, 0) if self.is_from_first else None
@@ -107,8 +107,10 @@ class ShownPart:
         return True
 
     def ask(self, part: tty.Size | None) -> None:
-        """Ask for a part of the session, or for all of it: for that part with the cursor that is nearest to the first row and column, or,
-        where something is drawn over it, for the one that is shown."""
+        """Request a part of the session, or all of it.
+
+        The part contains the cursor and is nearest to the first row and column. Under a popup it is the visible one.
+        """
         self.asked, self.is_stale, self.is_placed = part, True, False
         if part and (self.corner or self.popup):
             self.place = self.corner or sizes.kept_place(self.size(), part, self.place)
@@ -117,19 +119,21 @@ class ShownPart:
             self.says("part {} {}".format(*part) if part else "whole")
 
     def ask_again(self) -> None:
-        """Ask for the part again as it is wanted now, where one was asked for."""
+        """Request the wanted part again, if one was requested."""
         if self.asked:
             self.ask(self.wanted())
 
     def repaint(self) -> None:
-        """Have all painted anew."""
+        """Request a full repaint."""
         self.is_stale = True
         self.says("repaint")
 
     def mend_place(self) -> None:
-        """Ask for another part if the one that is shown has the session's own status row. The client chooses a part over the screen that it
-        has, and may have the new one of a session that became smaller only after that was told here. What has all panes begins at the first
-        row and column, whatever screen the client has; of another part the client has to choose again."""
+        """Request another part if the visible one has the session's own status row.
+
+        The client chooses a part on its own screen, which may be outdated after the session shrank. A part with all panes begins at the
+        first row and column, whatever screen the client has. For another part the client has to choose again.
+        """
         if not self.asked or self.corner or self.is_held or not self.is_beyond(self.asked):
             self.chosen = 0
         elif has_all(self.size(), self.asked):
@@ -138,15 +142,15 @@ class ShownPart:
             self.loop.later("part", CHOSEN_AGAIN * 2 ** self.chosen, self.choose_again)
 
     def is_beyond(self, part: tty.Size) -> bool:
-        """Return True if it is told where the part begins, and it reaches beyond the panes."""
+        """Return True if the part's position is reported, and it extends beyond the panes."""
         return self.is_placed and sizes.is_beyond(self.size(), part, self.place)
 
     def choose_again(self) -> None:
-        """Have the client choose the part again, if it still has to."""
+        """Let the client choose the part again, if that is still necessary."""
         if self.asked and not self.corner and not self.is_held and self.is_beyond(self.asked):
             self.chosen += 1
             self.chooses(True)
 
     def hold(self) -> None:
-        """Show nothing new until the session has the size that it is to have: what stands there stays."""
+        """Show nothing new until the session has its expected size. The current contents stay."""
         self.is_held = self.is_stale = True

@@ -1,4 +1,4 @@
-"""Whom the size of a window's session follows: it is fitted to a terminal as far as that cuts nothing that others see."""
+"""The terminal whose size a window's session follows: a session is fitted to it unless that cuts something that others see."""
 from __future__ import annotations
 
 import time
@@ -16,40 +16,40 @@ TYPE_CHECKING = False
 if TYPE_CHECKING:
     from collections.abc import Callable
 
-# So many seconds later it is looked again whether the panes are told, before the session is fitted to the terminal.
+# Seconds until the next check for reported panes, before the session is fitted to the terminal.
 FITS_AGAIN = 0.3
 
-# What is told where the session gets this terminal's size since somebody types here.
+# The message after the session takes this terminal's size because of input here.
 LATEST_TOLD = "resized to this terminal (window-size latest): longer lines were cut"
 SIZED_TOLD = 2.0
 
-# For so many seconds a session is new, and goes by its terminal's size, whatever that is: a window may get its size once it is there.
+# A session is new for so many seconds, and takes any size of its terminal. A window may get its size only then.
 NEW = 2.0
 
 
 class SizeFollower:
-    """Fits the session to one terminal, as far as that may be."""
+    """Fits the session to one terminal, as far as permitted."""
 
     def __init__(self, acts: WindowActs, size: SessionSize, zooming: Zooming, left_zoom: LeftZoom,
                  is_new: Callable[[Places | None], bool]) -> None:
         self.acts, self.size, self.zooming, self.left_zoom, self.loop = acts, size, zooming, left_zoom, acts.loop
-        # Whether the session is new, and whether it and this terminal were fitted to each other once.
+        # True if the session is new, and True once it and this terminal were fitted to each other.
         self.is_new, self.is_fitted, self.new_until = is_new, False, 0.0
-        # Whether this terminal showed all of the session before it had another size itself; and the size that this window had as it was
-        # left, if all of it was shown here then: one that nobody changed since follows the terminal.
+        # True if this terminal showed the whole session before its own size changed; and the size of this window when the user left it, if
+        # it was shown whole. Unless somebody changed that size, it follows the terminal.
         self.showed_all = False
         self.left_size = NO_SIZE
 
     def begin_window(self, left_size: tty.Size) -> None:
-        """Know nothing of the window to which the person goes, but the size with which it was left."""
+        """Reset the state for a new window, except for the size with which the user left it."""
         self.is_fitted, self.showed_all, self.left_size = False, False, left_size
 
     def is_fresh(self) -> bool:
-        """Return True while the session is so new that it goes by this terminal's size."""
+        """Return True while the session is so new that it takes this terminal's size."""
         return time.monotonic() < self.new_until
 
     def fit_first(self) -> None:
-        """Fit the session to this terminal, once something is known of it: a new one has nothing yet that could be cut."""
+        """Fit the session to this terminal, once something is known of it: a new one has nothing that could be cut."""
         if self.is_fitted:
             return
         panes = self.acts.panes
@@ -57,7 +57,7 @@ class SizeFollower:
         if step == sizes.IS_NEW:
             self.is_fitted, self.new_until = True, time.monotonic() + NEW
         elif step == sizes.LATER:
-            # What is reported soon may be another size than what was painted so far.
+            # A report may soon give another size than the painting so far.
             self.loop.later("fit", FITS_AGAIN, self.fit_first)
             return
         else:
@@ -65,15 +65,17 @@ class SizeFollower:
         self.fit()
 
     def resized(self) -> None:
-        """Take note of what was shown before the terminal had another size, the first of many if it is drawn by hand."""
+        """Record the view before the terminal's size changed, which in a resize by mouse is the first of many changes."""
         self.acts.modes.keymap.rows = self.acts.display.outer.size()[0]
         if not self.loop.due.keys() & {"size", "others"}:
             shows_all = self.zooming.showed_all if self.zooming.is_on() else self.acts.display.part.shows_all()
             self.showed_all = self.size.requested is not None or shows_all
 
     def fit(self) -> None:
-        """Fit the session to this terminal: a new session goes by each size. For the rest it has to be known who else is attached, which
-        may be reported soon."""
+        """Fit the session to this terminal. A new session takes each size.
+
+        Otherwise the other terminals have to be known, and a report of them may come soon.
+        """
         host, size, own = self.acts.host, self.size.coming(), tty.largest(self.acts.display.part.room())
         self.showed_all = self.showed_all or size == self.left_size != NO_SIZE
         host.say_here()
@@ -93,7 +95,7 @@ class SizeFollower:
         self.showed_all, self.left_size = False, NO_SIZE if size != NO_SIZE else self.left_size
 
     def follow(self, size: tty.Size, own: tty.Size) -> None:
-        """Have the session follow this terminal from its size to another, if it does."""
+        """Make the session follow this terminal from its size to another, if it does."""
         if self.size.follows(size, own, self.showed_all):
             self.size.ask()
         elif not sizes.is_smaller(own, size):
@@ -102,7 +104,7 @@ class SizeFollower:
         self.showed_all, self.left_size = False, NO_SIZE
 
     def follow_latest(self) -> None:
-        """Give the session this terminal's size if somebody types here, by `window-size latest`, whatever that cuts."""
+        """Set the session to this terminal's size after input here, by `window-size latest`, whatever that cuts."""
         acts = self.acts
         if not follows_latest() or acts.link.is_read_only or self.size.requested or acts.paused or self.zooming.is_on():
             return
@@ -111,19 +113,18 @@ class SizeFollower:
             acts.display.row.tell(LATEST_TOLD, SIZED_TOLD)
 
     def request_again(self) -> None:
-        """Give the session again the size that it is to have: with a connection that act may be lost."""
+        """Repeat the last size request: with a connection that act may be lost."""
         size = self.zooming.awaited_size() or self.size.requested
         if size and not self.acts.link.is_read_only:
             self.acts.type_together(tty.size_act(size))
 
     def mend(self, is_late: bool = False) -> None:
-        """Give the session the size back that it had before a zoom that a front end has left, and then the one that it has at this
-        terminal."""
+        """Restore the session's size from before a departed front end's zoom, and then fit it to this terminal."""
         if self.left_zoom.mend(is_late):
             self.fit()
 
     def others_told(self) -> None:
-        """Do at once what waited until it is known who else is attached."""
+        """Carry out the actions that waited for a report of the other terminals."""
         if "others" in self.loop.due:
             self.loop.drop("others")
             self.fit()
@@ -132,13 +133,13 @@ class SizeFollower:
         self.mend()
 
     def switch_row(self) -> None:
-        """Hide the last row, or show it again: the session has the row, as by another size of the terminal."""
+        """Toggle the last row: the session gets or loses the row, like at another size of the terminal."""
         self.resized()
         self.acts.display.switch_row()
         self.fit()
 
     def repaint(self) -> None:
-        """Fit the session to this terminal, and have all painted anew."""
+        """Fit the session to this terminal, and repaint everything."""
         self.zooming.overrule_own()
         self.size.ask()
         self.acts.display.resettle()

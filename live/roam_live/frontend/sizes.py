@@ -1,7 +1,7 @@
-"""Decisions about size, as functions of values: when a session takes a terminal's size, which part of it a terminal shows, and what a zoom
-asks for.
+"""Decisions about size, as functions of values.
 
-Nothing here knows a terminal, a socket or a clock, so each decision is tested as a table. A size is rows and columns.
+They are when a session takes a terminal's size, which part of it a terminal shows, and which size a zoom requests. Nothing here knows a
+terminal, a socket or a clock, so each decision is tested as a table. A size is rows and columns.
 """
 from __future__ import annotations
 
@@ -15,21 +15,21 @@ Place = tuple[int, int]
 # An unknown size.
 NO_SIZE = (0, 0)
 
-# ---- whose size the session has
+# ---- the size of the session
 
-# What fitting the session to a terminal comes to: the zoom takes the new size, the session takes it, nothing changes, the front end waits
-# until the host has reported who else is attached, or `follows` decides.
+# The results of fitting the session to a terminal. The zoom takes the new size, the session takes it, or nothing changes. The front end
+# waits until the host has reported the other terminals, or `follows` decides.
 ZOOMS, TAKES, KEEPS, WAITS, FOLLOWS = "zooms", "takes", "keeps", "waits", "follows"
 
-# What a front end does once it first knows something of the session: nothing is cut in a new one, the panes may be reported soon, or it
-# fits the session.
+# The first steps of a front end that learns about the session. It is new, so nothing is cut. The panes may be reported soon. Or the front
+# end fits it.
 IS_NEW, LATER, FITS = "new", "later", "fits"
 
 
 def fit_step(size: tty.Size, own: tty.Size, is_read_only: bool, is_zoomed: bool, is_fresh: bool, awaits_others: bool) -> str:
-    """Return what fitting a session of a size comes to, `own` being the largest one that the terminal shows whole.
+    """Return the result of fitting a session of a size, `own` being the largest one that the terminal shows whole.
 
-    The terminal may only watch, have a zoom, belong to a session launched just now, and hear soon who else is attached.
+    Flags mark a read-only terminal, a zoom, a session launched just now, and a pending report of the other terminals.
     """
     if is_zoomed:
         return ZOOMS
@@ -41,7 +41,7 @@ def fit_step(size: tty.Size, own: tty.Size, is_read_only: bool, is_zoomed: bool,
 
 
 def first_step(is_new: bool, is_awaited: bool) -> str:
-    """Return what a front end does once it first knows something of the session."""
+    """Return the first step of a front end that learns about the session."""
     return IS_NEW if is_new else LATER if is_awaited else FITS
 
 
@@ -62,18 +62,18 @@ def follows(size: tty.Size, own: tty.Size, showed_all: bool, has_others: bool | 
 
 
 def takes_latest(size: tty.Size, room: tty.Size) -> bool:
-    """Return True if a session of a size takes that of the terminal at which somebody types, by `window-size latest`."""
+    """Return True if a session of this size takes that of the terminal with the latest input, by `window-size latest`."""
     return size not in (NO_SIZE, tty.largest(room)) and tty.is_large_enough(room)
 
 
-# ---- which part a terminal shows
+# ---- the part that a terminal shows
 
 
 def part_for(terminal: tty.Size, has_row: bool, size: tty.Size, zoomed: Rect | None, may_be_whole: bool) -> tty.Size | None:
-    """Return the size of the part of a session that a terminal is to show, None for the whole session.
+    """Return the size of the part of a session that a terminal has to show, None for the whole session.
 
     `has_row` is True if the terminal's last row is the front end's own, and `zoomed` the rectangle of a zoomed pane. The session may be
-    shown with its own status row. Another machine may report any size: what is asked for is always possible.
+    shown with its own status row. Another machine may report any size, but a requested one is always possible.
     """
     rows, cols = terminal
     if zoomed:
@@ -86,23 +86,24 @@ def part_for(terminal: tty.Size, has_row: bool, size: tty.Size, zoomed: Rect | N
 
 
 def has_all(size: tty.Size, part: tty.Size | None) -> bool:
-    """Return True if a part has all rows and columns of the panes: only the session's status row is left out."""
+    """Return True if a part has all rows and columns of the panes, and omits only the session's status row."""
     return size != NO_SIZE and part == (size[0] - 1, size[1])
 
 
 def is_beyond(size: tty.Size, part: tty.Size, place: Place) -> bool:
-    """Return True if a part that begins at a place, from 0, reaches beyond the panes of a session of a known size."""
+    """Return True if a part at a position, from 0, extends beyond the panes of a session of a known size."""
     return size != NO_SIZE and (place[0] + part[0] > size[0] - 1 or place[1] + part[1] > size[1])
 
 
 def kept_place(size: tty.Size, part: tty.Size, place: Place) -> Place:
-    """Return where a part begins that stays where it is, as far as the session's size allows."""
+    """Return the first row and column of a part that stays in place, as far as the session's size allows."""
     return max(0, min(place[0], size[0] - 1 - part[0])), max(0, min(place[1], size[1] - part[1]))
 
 
 def visible(rect: Rect, place: Place, extent: tty.Size) -> Rect | None:
     """Return the rectangle of the terminal that shows a rectangle of the session, None if none does. The terminal shows `extent` rows and
-    columns of the session, from a place on."""
+    columns of the session, from a position on.
+    """
     row, col = max(1, rect.row - place[0]), max(1, rect.col - place[1])
     end = min(extent[0], rect.row - place[0] + rect.rows - 1)
     right = min(extent[1], rect.col - place[1] + rect.cols - 1)
@@ -110,8 +111,7 @@ def visible(rect: Rect, place: Place, extent: tty.Size) -> Rect | None:
 
 
 def place_at(at: Place, place: Place, extent: tty.Size, is_near: bool = False) -> Place | None:
-    """Return the cell position of the session that the terminal shows at a row and a column, from 1; None if it shows none there, unless
-    the nearest is asked for."""
+    """Return the session's cell at a row and a column of the terminal, from 1; None if there is none, unless `is_near`."""
     rows, cols = extent
     row, col = (min(max(at[0], 1), rows), min(max(at[1], 1), cols)) if is_near else at
     return (place[0] + row, place[1] + col) if 1 <= row <= rows and 1 <= col <= cols else None
@@ -119,22 +119,22 @@ def place_at(at: Place, place: Place, extent: tty.Size, is_near: bool = False) -
 
 # ---- a zoom
 
-# Why a pane is not zoomed.
+# The reason that a pane is not zoomed.
 UNTOLD = "cannot zoom: the server does not report its panes"
 ONE = "pane {} is the only one, and fills the session"
 LARGER = "cannot zoom: pane {} has {} by {}, more than this terminal"
 
-# What becomes of a zoom once the panes were reported: it ends and the session gets its size back, it is lost since somebody gave the
-# session another size, the front end asks for another size or shows the pane, or nothing changes.
+# The effects of a report of the panes on a zoom. It ends and the session gets its size back. It is lost because somebody changed the
+# session's size. The front end requests another size or shows the pane. Or nothing changes.
 ENDS, LOST, ASKS, STAYS = "ends", "lost", "asks", "stays"
 
-# What becomes of a zoom that a front end left behind: nothing is known, the session doesn't have its size, the session gets its own back,
-# or the front end waits whether another zoom is reported.
+# The fates of a zoom that a front end left behind. Nothing is known, or the session has another size. The session gets its old size back.
+# Or the front end waits for a report of another zoom.
 NOTHING, UNSEEN, GIVES, AWAITS = "nothing", "unseen", "gives", "awaits"
 
 
 def places_at(places: Places, size: tty.Size) -> Places:
-    """Return where the panes are once their session has a size."""
+    """Return the positions of the panes at a size of their session."""
     from roam_live.frontend.borders import area_of, laid, splits_of
 
     parts = splits_of(places.rects)
@@ -145,7 +145,7 @@ def places_at(places: Places, size: tty.Size) -> Places:
 
 
 def zoom_refusal(places: Places | None, area: tty.Size) -> str:
-    """Return why the pane in focus is not zoomed to fill an area, "" if it is. The places are those without any zoom."""
+    """Return the reason that the focused pane is not zoomed to fill an area, "" if it is. The positions are those without any zoom."""
     if not places:
         return UNTOLD
     rect = places.rects[places.focus]
@@ -155,12 +155,12 @@ def zoom_refusal(places: Places | None, area: tty.Size) -> str:
 
 
 def unzoomed_size(size: tty.Size, note: ZoomNote | None) -> tty.Size:
-    """Return the session's size without anybody's zoom, which the end of the noted one gives back."""
+    """Return the session's size without anybody's zoom, which the end of the noted one restores."""
     return note.size if note and size in note.asked else size
 
 
 def zoom_size(places: Places, pane: int, area: tty.Size, note: ZoomNote) -> tty.Size | None:
-    """Return the size to ask the session for, so that a pane fills an area; None if the pane is shown as it is."""
+    """Return the session's size at which a pane fills an area; None if the pane is shown with its current size."""
     from roam_live.frontend.borders import above, size_for, splits_of
 
     parts = splits_of(places.rects)
@@ -169,10 +169,10 @@ def zoom_size(places: Places, pane: int, area: tty.Size, note: ZoomNote) -> tty.
 
 
 def zoom_step(pane: int, before: Places | None, note: ZoomNote, awaited: Places | None, rects: dict[int, Rect], places: Places) -> str:
-    """Return what becomes of a zoomed pane once the panes are reported at these places.
+    """Return the effect of a report of the panes on a zoomed pane.
 
-    `before` is where the panes are without the zoom, `note` what the host was told of it, `awaited` the places for which a size was asked
-    last, and `rects` the rectangles with which the pane was shown.
+    `before` are the positions without the zoom, and `note` is the zoom as the host knows it. `awaited` are the positions at the last size
+    request, and `rects` the rectangles with which the pane was shown.
     """
     asked = [note.size, *note.asked]
     earlier = [awaited.size(), *asked[:-1]] if awaited else []
@@ -186,10 +186,10 @@ def zoom_step(pane: int, before: Places | None, note: ZoomNote, awaited: Places 
 
 
 def left_zoom(note: ZoomNote | None, size: tty.Size, was_unseen: bool, has_others: bool | None, is_late: bool) -> str:
-    """Return what becomes of a zoom that a front end left behind.
+    """Return the fate of a zoom that a front end left behind.
 
-    What that front end typed last may not have been taken, so a session without a size of the zoom may still get one. If somebody else
-    types, or the session had another size meanwhile, its size may be that of his zoom, which the host reports a moment later.
+    The last input of that front end may be pending, so a session without a size of the zoom may still get one. If somebody else types, or
+    the session had another size meanwhile, its size may be that of another zoom, which the host reports a moment later.
     """
     if not note or size == NO_SIZE:
         return NOTHING

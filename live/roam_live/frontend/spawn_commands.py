@@ -1,5 +1,7 @@
-"""Commands that a person has run in a new pane or window: how a front end hands them to the pty host, and asks for the pane then. Few who
-attach need it, so it is imported as it is first used."""
+"""Commands that a user runs in a new pane or window: the upload of start options to the pty host, and the request for the pane.
+
+Few attached users need it, so it is imported on first use.
+"""
 from __future__ import annotations
 
 from roam_live.common.text import printable
@@ -21,23 +23,24 @@ NO_PANE = "not run: no pane was created"
 READ_ONLY = "a read-only terminal runs no commands"
 NO_FOCUS = "the active pane is not known yet"
 
-# Where a person has just come it may not be known yet where the focus is, or no connection be there: it is looked again so soon.
+# Right after the user's arrival the focus may be unknown, or the connection missing. The next try follows after so many seconds.
 AGAIN = 0.02
 
-# So many seconds a line stands that tells why nothing is run.
+# Seconds for which the reason of a failure is shown.
 SAID = 4.0
 
 
 class Handing:
-    """What is handed over at one window, while it isn't known what becomes of it: by its name, what is done once it waits there."""
+    """The uploads at one window whose fate is unknown: by name, the step that follows once the upload waits there."""
 
     def __init__(self, acts: WindowActs, zooming: Zooming, windows: Callable[[], OtherWindows]) -> None:
         self.acts, self.zooming, self.windows = acts, zooming, windows
         self.waits: dict[str, Callable[[str], object]] = {}
 
     def begin(self, wish: str, begins: Begins, goes_on: Callable[[], object], until: float = 0.0) -> None:
-        """Has the pane in focus split for a command, or a window opened, as soon as that can be; then goes on. BadCommand tells why it
-        can't."""
+        """Split the focused pane for a command, or open a window, as soon as possible; then continue. BadCommand gives the reason of a
+        failure.
+        """
         loop, host = self.acts.loop, self.acts.host
         until = until or loop.clock() + WAITS
         is_awaited = self.acts.awaits_focus() or host.is_connecting()
@@ -49,14 +52,14 @@ class Handing:
             self.open(begins, goes_on)
 
     def begin_again(self, wish: str, begins: Begins, goes_on: Callable[[], object], until: float) -> None:
-        """Begins it where that may be so now; it is told why it can't be."""
+        """Begin it if possible now, or show the reason of a failure."""
         try:
             self.begin(wish, begins, goes_on, until)
         except BadCommand as fault:
             self.acts.display.row.tell(str(fault), SAID)
 
     def split(self, way: str, begins: Begins, goes_on: Callable[[], object]) -> None:
-        """Has the pane in focus split for a command; then goes on."""
+        """Split the focused pane for a command; then continue."""
         acts, places = self.acts, self.acts.places()
         if not places or not places.focus:
             raise BadCommand(NO_FOCUS)
@@ -73,7 +76,7 @@ class Handing:
         self.hand(begins, acts.panes.making(pane), split)
 
     def open(self, begins: Begins, goes_on: Callable[[], object]) -> None:
-        """Has a window opened for a command; then goes on."""
+        """Open a window for a command; then continue."""
         why = self.windows().why_one()
         if why:
             raise BadCommand(why)
@@ -84,7 +87,7 @@ class Handing:
         self.hand(begins, "window", open_named)
 
     def hand(self, begins: Begins, beside: str, goes_on: Callable[[str], object]) -> None:
-        """Hands a command over, for a pane beside that making of one, or for a window."""
+        """Upload start options for a pane beside that pane generation, or for a window."""
         host, name, data = self.acts.host, random_name(), begins.packed()
         if self.acts.link.is_read_only:
             raise BadCommand(READ_ONLY)
@@ -95,12 +98,12 @@ class Handing:
         self.acts.loop.later(f"{RAN} {name}", WAITS, lambda: self.give_up(name))
 
     def give_up(self, name: str) -> None:
-        """Waits no more for an answer, and tells that nothing is run."""
+        """Stop waiting for an answer, and report that nothing is run."""
         if self.waits.pop(name, None):
             self.acts.display.row.tell(SILENT, SAID)
 
     def take(self, told: str) -> None:
-        """Takes what is told of one."""
+        """Take a report about an upload."""
         name, _, rest = told.partition(" ")
         word, _, why = rest.partition(" ")
         goes_on = self.waits.pop(name, None)

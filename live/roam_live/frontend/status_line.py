@@ -1,31 +1,31 @@
-"""The text of the last row of a person's terminal, cut to its columns: the panes' labels, the windows, and what stands at its end."""
+"""The text of a terminal's last row, cut to its columns: the panes' labels, the windows, and the text at its end."""
 from __future__ import annotations
 
 from roam_live.common.cell_widths import width_of
 from roam_live.common.text import printable
 from roam_live.config.styled_text import Styled
 
-# What stands before or behind windows that have no room, and between two.
+# The marks before and after hidden windows, and the separator.
 BEFORE, BEHIND, BETWEEN = "< ", " >", " "
 
-# Where the pane in focus fills the terminal.
+# The mark of a focused pane that fills the terminal.
 ZOOMED = "Z"
 
-# Where keys go to all panes of the window.
+# The mark while keys go to all panes of the window.
 SYNCHRONIZED = "S"
 ALL_PANES = "keys go to all panes of this window"
 
-# No text has more characters to a column than this: what has none of its own stands on the one before.
+# A text has at most so many characters for each column, since zero-width characters share one.
 MOST_LETTERS = 4
 
 
 def columns(text: str) -> int:
-    """How many columns a printable text takes."""
+    """Return the columns of a printable text."""
     return len(text) if text.isascii() else sum(map(width_of, text))
 
 
 def cut(text: str, width: int) -> str:
-    """A text that is printable and has so many columns at most: a wide character that has no room in the last isn't shown."""
+    """Return a text made printable and cut to a width. A wide character that does not fit is dropped."""
     text = printable(text[: MOST_LETTERS * max(width, 0)])
     if text.isascii():
         return text[: max(width, 0)]
@@ -38,13 +38,13 @@ def cut(text: str, width: int) -> str:
 
 
 def fitted(text: str, width: int) -> str:
-    """A text as a row of so many columns: cut, and blank behind its end."""
+    """Return a text as a row of this width: cut, or padded with blanks."""
     shown = cut(text, width)
     return shown + " " * (width - columns(shown))
 
 
 def tail(text: str, width: int) -> str:
-    """The end of a text that has so many columns at most, printable."""
+    """Return the end of a text within a width, printable."""
     text = printable(text[-MOST_LETTERS * max(width, 1) :])
     while columns(text) > max(width, 0):
         text = text[1:]
@@ -52,7 +52,7 @@ def tail(text: str, width: int) -> str:
 
 
 def clipped(styled: list[Styled], width: int) -> list[Styled]:
-    """Texts in their styles in so many columns at most."""
+    """Return styled texts cut to a width."""
     found: list[Styled] = []
     for style, text in styled:
         shown = cut(text, width)
@@ -64,17 +64,17 @@ def clipped(styled: list[Styled], width: int) -> list[Styled]:
 
 
 def said(styled: list[Styled]) -> str:
-    """What texts in styles say."""
+    """Return the plain text of styled texts."""
     return "".join(text for _, text in styled)
 
 
 def window_label(number: int, name: str, flags: str) -> str:
-    """A window as the last row has it, as in `2:vim*`."""
+    """Return a window's label in the last row, such as `2:vim*`."""
     return f"{number}{':' if name else ''}{name}{flags}"
 
 
 def windows_shown(labels: list[str], current: int, width: int) -> str:
-    """The labels of windows in so many columns: all, or those round that at a place, with a mark where others have no room."""
+    """Return the labels of the windows at a width: all, or those around one index, with marks for the hidden ones."""
     text = BETWEEN.join(labels)
     if columns(text) <= width or not labels:
         return cut(text, width)
@@ -90,13 +90,14 @@ def windows_shown(labels: list[str], current: int, width: int) -> str:
 
 
 def marked(labels: list[str], first: int, end: int) -> str:
-    """Some of the labels, with a mark on each side where others are."""
+    """Return some of the labels, with a mark on each side that has others."""
     return (BEFORE if first else "") + BETWEEN.join(labels[first:end]) + (BEHIND if end < len(labels) else "")
 
 
 def label_at(text: str, labels: list[str], begin: int, col: int) -> int | None:
-    """The place of the label that has a column of a row, from 1, in which labels stand from a character on; None where none has that is
-    shown whole."""
+    """Return the index of the label at a column of a row, from 1; None if none is shown whole there. Labels begin at a character of the
+    row.
+    """
     for place, label in enumerate(labels):
         at = text.find(label, begin)
         while at > 0 and text[at - 1] != " " or at >= 0 and text[at + len(label) : at + len(label) + 1] not in ("", " "):
@@ -111,8 +112,10 @@ def label_at(text: str, labels: list[str], begin: int, col: int) -> int | None:
 
 
 def row_text(panes: str, labels: list[str], current: int, end: str, width: int) -> str:
-    """The row: the labels of the panes, those of the windows of which one is at a place, and what stands at the end. What stands at the end
-    goes first; of the rest the panes have room before the windows."""
+    """Return the row: the labels of the panes, those of the windows, and the text at the end.
+
+    The end has precedence, and the panes have precedence over the windows.
+    """
     end = end if columns(end) <= width else ""
     left = width - columns(end) - bool(end)
     if columns(panes) > left:

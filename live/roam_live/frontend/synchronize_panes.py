@@ -1,5 +1,7 @@
-"""Keys that a person types to all panes of a window at once: each pane gets the focus for them, in one line of acts, and the pane that
-had it gets it back."""
+"""Keys that a user types to all panes of a window at once.
+
+In one line of acts each pane gets the focus for them, and then the focused pane gets it back.
+"""
 from __future__ import annotations
 
 from roam_live.config.environment import text_of
@@ -10,33 +12,33 @@ TYPE_CHECKING = False
 if TYPE_CHECKING:
     from collections.abc import Callable
 
-    # What a key types in a pane.
+    # Returns the acts of a key in a pane.
     Typed = Callable[[int], list[str]]
 
 # The option, by tmux's name.
 OPTION = "synchronize-panes"
 
-# So many acts are typed in one line: a key has no more.
+# The most acts of a key in one line.
 MOST_OF_KEY = 16
 
-# So many acts stand in one line at most: each change of the focus takes a session long, so that keys go together where they can.
+# The most acts in one line: each change of the focus takes a session long, so keys share lines if possible.
 MOST_ACTS = 64
 
-# So many acts are on their way before keys wait to go together, and it is looked again so many seconds later.
+# Acts in flight above which keys wait to go together, and seconds until the next check.
 ON_THEIR_WAY = 32
 AGAIN = 0.01
 
-# For so many seconds keys wait until it is told which pane is in focus, behind a command that moves the focus.
+# Seconds for which keys wait for a report of the focus after a command that moves it.
 FOCUS_WAIT = 1.0
 
-# So many of them wait then before no more is read.
+# Above this many waiting keys no more input is read.
 MOST_KEYS = 1 << 16
 
-# No predictions are shown for so many seconds once the focus has moved, and not by this person. Until the client shows the pane that has it,
-# it would show them in the one before, where keys may be trusted, and the first of them may be one of a password.
+# Seconds without predictions after somebody else has moved the focus. Until the client shows the focused pane, it would draw predictions in
+# the previous one. Keys may be trusted there, and the first of them may belong to a password.
 HIDES = 1.0
 
-# So many seconds a line stands that tells what is so from now on.
+# Seconds for which the message about the new state is shown.
 TOLD = 2.0
 OFF = "keys go to the active pane"
 ALONE = "pasted into the active pane only: {}"
@@ -44,12 +46,12 @@ UNTOLD = "keys go to the active pane: the server does not report its panes"
 
 
 def part(acts: list[str], pane: int) -> list[str]:
-    """The same acts, in whatever pane."""
+    """Return the same acts for any pane."""
     return acts
 
 
 def packed(groups: list[list[str]], back: str) -> list[list[str]]:
-    """Lines of acts, each of which has some of these groups whole and an act behind them."""
+    """Return lines of acts, each with some of these groups whole and a final act."""
     lines: list[list[str]] = [[]]
     for group in groups:
         if lines[-1] and len(lines[-1]) + len(group) >= MOST_ACTS:
@@ -59,8 +61,10 @@ def packed(groups: list[list[str]], back: str) -> list[list[str]]:
 
 
 def lines_of(panes: list[int], keys: list[Typed]) -> list[list[str]]:
-    """The lines of acts that type keys in each of these panes, of which the first is in focus before and behind: as many keys stand in one
-    as have room there for all panes."""
+    """Return the lines of acts that type keys in each of these panes, the first of which has the focus before and after.
+
+    A line has as many keys as fit for all panes.
+    """
     lines: list[list[str]] = []
     begin = 0
     while begin < len(keys):
@@ -74,37 +78,38 @@ def lines_of(panes: list[int], keys: list[Typed]) -> list[list[str]]:
 
 
 class Synchronizing:
-    """Whether one person's keys go to all panes of a window, and those that are on their way there. Calls tell whether a pane is zoomed,
-    and show whether it is on."""
+    """The switch that sends one user's keys to all panes of a window, and the keys on their way there.
+
+    Calls return True if a pane is zoomed, and show the state.
+    """
 
     def __init__(self, acts: WindowActs, is_zoomed: Callable[[], bool], shows: Callable[[], object]) -> None:
         self.acts, self.is_zoomed, self.shows, self.loop = acts, is_zoomed, shows, acts.loop
-        # For which windows of this front end that was switched, by their numbers, and the number of this one; and which predictions are
-        # shown else.
+        # The switches of this front end's windows, by number, and this window's number; and the normal prediction setting.
         self.switched: dict[int, bool] = {}
         self.number = 0
         self.predictions: Callable[[], str] = lambda: "never"
-        # Whether none are shown for a moment.
+        # True while predictions are hidden for a moment.
         self.is_hiding = False
-        # What each key types that isn't typed yet.
+        # The untyped acts of each key.
         self.keys: list[Typed] = []
 
     def remember(self, switched: dict[int, bool], number: int, predictions: Callable[[], str]) -> None:
-        """Goes by what was switched in windows of this front end, of which this one has a number."""
+        """Use the switches of this front end's windows, by number."""
         self.switched, self.number, self.predictions = switched, number, predictions
         if self.is_on():
             self.choose_prediction()
 
     def is_on(self) -> bool:
-        """Whether it is so, also while a pane is zoomed."""
+        """Return True if it is on, even while a pane is zoomed."""
         return self.switched.get(self.number, text_of(OPTION) == "on") and not self.acts.link.is_read_only
 
     def is_working(self) -> bool:
-        """Whether keys that are typed now go to all panes: a pane that is zoomed has them alone."""
+        """Return True if keys now go to all panes. A zoomed pane gets them alone."""
         return self.is_on() and not self.is_zoomed()
 
     def switch(self) -> None:
-        """Switches it."""
+        """Toggle it."""
         self.settle(is_last=True)
         self.switched[self.number] = not self.is_on()
         self.choose_prediction()
@@ -113,28 +118,28 @@ class Synchronizing:
         self.acts.display.row.tell(OFF if not self.is_on() else ALL_PANES if places else UNTOLD, TOLD)
 
     def choose_prediction(self) -> None:
-        """Has no predictions be shown while it is on: what a key shows in one pane isn't known of the others."""
+        """Turn predictions off while it is on: a key's effect in one pane says nothing about the others."""
         self.acts.link.predict("never" if self.is_on() or self.is_hiding else self.predictions())
 
     def hide_predictions(self) -> None:
-        """Have no predictions be shown for a moment."""
+        """Hide predictions for a moment."""
         if self.predictions() != "never":
             self.is_hiding = True
             self.choose_prediction()
             self.loop.later(f"predictions {self.number}", HIDES, self.show_predictions)
 
     def show_predictions(self) -> None:
-        """Have predictions be shown again."""
+        """Show predictions again."""
         self.is_hiding = False
         self.choose_prediction()
 
     def panes(self) -> list[int]:
-        """The panes that have what is typed, of which the first is in focus; none where it isn't known which that is."""
+        """Return the panes that get input, the focused one first; none if the focus is unknown."""
         places = self.acts.places()
         return [places.focus, *(pane for pane in places.rects if pane != places.focus)] if places and places.focus else []
 
     def pasted_in(self) -> list[int]:
-        """The panes that have what is pasted: none where that is the one in focus alone, also since others aren't known, which is told."""
+        """Return the panes that get a paste; none for the focused one alone. If the others are unknown, show that."""
         if not self.is_working():
             return []
         panes = self.panes()
@@ -143,16 +148,16 @@ class Synchronizing:
         return panes if len(panes) > 1 else []
 
     def is_full(self) -> bool:
-        """Whether so many keys wait that nothing more is to come."""
+        """Return True if too many keys wait to accept more."""
         return len(self.keys) >= MOST_KEYS
 
     def add(self, acts: list[str]) -> None:
-        """Acts of a key are typed, or of many."""
+        """Add the acts of a key, or of many."""
         for begin in range(0, len(acts), MOST_OF_KEY):
             self.keys.append(lambda pane, some=acts[begin : begin + MOST_OF_KEY]: part(some, pane))
 
     def settle(self, is_last: bool = False) -> None:
-        """Types the keys that were typed; while it isn't told where the focus is they wait, but for the last time to wait."""
+        """Type the waiting keys. While the focus is unreported they wait, unless this is the last time."""
         if not self.keys:
             return
         panes = self.panes()

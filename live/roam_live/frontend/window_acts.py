@@ -1,4 +1,4 @@
-"""What one person types in a window, in the order in which it is typed, and which pane is in focus by that."""
+"""One user's acts in a window, in typed order, and the focused pane that results."""
 from __future__ import annotations
 
 from roam_live.common.event_loop import Loop
@@ -19,7 +19,7 @@ if TYPE_CHECKING:
 
     from roam_live.protocol.session_interface import AnySession
 
-# So many seconds a line stands that tells what became of a paste.
+# Seconds for which the fate of a paste is shown.
 PASTE_TOLD = 3.0
 
 
@@ -28,11 +28,11 @@ def nothing() -> None:
 
 
 class WindowActs:
-    """The connections of a front end to one window, and the acts that a person types there.
+    """The connections of a front end to one window, and the acts that a user types there.
 
-    It knows none of the parts that type by it. What they do before and behind acts are calls that their owner sets: `settles` types the
-    keys that wait for all panes, `ends_zoom` returns acts with those before them that end a zoom, `focus_moves` takes acts that move the
-    focus, and `borders_move` returns True while a border is on its way.
+    It knows none of the parts that type by it. Their owner sets calls for their steps before and after acts. `settles` types the keys that
+    wait for all panes. `ends_zoom` returns acts with those before them that end a zoom. `focus_moves` takes acts that move the focus, and
+    `borders_move` returns True while a border is on its way.
     """
 
     def __init__(self, session: AnySession, panes: PanesSubscriber, link: ClientLink, display: Display, loop: Loop, modes: ModeStack,
@@ -41,13 +41,12 @@ class WindowActs:
         self.modes, self.host = modes, host
         # True without a connection to the session.
         self.paused = False
-        # Where a command of this person moved the focus, since it was reported: to a pane, or to one that isn't known, 0; and what was
-        # reported then.
+        # The target of this user's last move of the focus since its report: a pane, or 0 for an unknown one; and the report at that time.
         self.moved_to: int | None = None
         self.moved_from: Places | None = None
-        # The making of the pane that was reported as in focus last.
+        # The generation of the pane last reported as focused.
         self.focused = ""
-        # The making of the pane to which this person's last key went, where that is known.
+        # The generation of the pane that got this user's last key, if known.
         self.typed_in = ""
         self.pastes = Pastes(link, host, loop, lambda line: display.row.tell(line, PASTE_TOLD), self.is_cut)
         self.intake = PasteIntake(self.pastes, panes, self.unpasted)
@@ -59,7 +58,7 @@ class WindowActs:
     # ---- acts
 
     def act(self, *acts: str) -> None:
-        """Type acts, unless this terminal only watches."""
+        """Type acts, unless this terminal is read-only."""
         if self.link.is_read_only:
             return
         if acts:
@@ -68,7 +67,7 @@ class WindowActs:
         self.note_moves(*acts)
 
     def act_together(self, *acts: str) -> None:
-        """Type acts in a line of their own, unless this terminal only watches: nothing comes between them."""
+        """Type acts in a line of their own, so that nothing comes between them, unless this terminal is read-only."""
         if not self.link.is_read_only:
             self.type_together(*self.ends_zoom(acts))
 
@@ -79,7 +78,7 @@ class WindowActs:
         self.note_moves(*acts)
 
     def unpasted(self) -> str:
-        """Return why nothing is pasted now, "" if something is."""
+        """Return the reason that nothing is pasted now, "" if pastes work."""
         if self.link.is_read_only:
             return "not pasted: this terminal is read-only"
         return "not pasted: the session is not shown" if self.paused or self.display.notice else ""
@@ -89,37 +88,37 @@ class WindowActs:
         return self.display.row.silent > 0 or self.host.peer is None
 
     def refuse_paste(self, why: str) -> None:
-        """Type nothing of a paste whose end hasn't come yet, and tell why once it has."""
+        """Drop a paste that is still arriving, and show the reason at its end."""
         self.modes.drop(PastingMode, CopyPasteMode)
         self.modes.push(PastingMode())
         self.intake.begin(why)
 
     def set_clip(self, text: str, making: str) -> None:
-        """Set the terminal's clipboard by what the program in focus sets, in base64, if this person's last key went to it."""
+        """Set the terminal's clipboard to a text in base64 from the focused program, if it got this user's last key."""
         if making and making == self.typed_in:
             self.display.outer.set_clip(text)
 
     # ---- the focus
 
     def places(self) -> Places | None:
-        """Return where the panes are, with the focus where this person put it: 0 if that isn't reported yet."""
+        """Return the positions of the panes, with the focus that this user set: 0 if that isn't reported yet."""
         places = self.panes.places
         if places is None or self.moved_to is None:
             return places
         return places._replace(focus=self.moved_to if self.moved_to in places.rects else 0)
 
     def focus(self) -> int:
-        """Return the pane in focus, 0 if it isn't known."""
+        """Return the focused pane, 0 if unknown."""
         places = self.places()
         return places.focus if places else 0
 
     def awaits_focus(self) -> bool:
-        """Return True if it isn't reported yet which pane is in focus, and may be soon."""
+        """Return True if the focus is unreported, and a report may come soon."""
         places = self.places()
         return not places.focus if places else self.panes.is_awaited()
 
     def note_moves(self, *acts: str) -> None:
-        """Take note of those of these acts that move the focus, and of where the last one goes, if it is a key."""
+        """Record moves of the focus in these acts, and the target of the last one if it is a key."""
         moves = [act for act in acts if act.startswith(MOVES)]
         for act in moves:
             word, _, pane = act.partition(" ")
@@ -130,27 +129,30 @@ class WindowActs:
             self.note_key()
 
     def note_key(self) -> None:
-        """Take note of where this person's last key goes."""
+        """Record the target of this user's last key."""
         places = self.places()
         self.typed_in = self.panes.making(places.focus) if places else ""
 
     def move(self, word: str, pane: int) -> None:
-        """Take note that this person moves the focus, to a pane or to one that isn't known: what was reported of it isn't so then. What
-        moves nothing is never reported."""
+        """Record that this user moves the focus, to a pane or to an unknown one. The reported focus is then outdated. An act without a move
+        is never reported.
+        """
         places = self.panes.places
         others = [other for other in places.rects if other != places.focus] if places else [pane]
         if self.moved_to is not None or word in ("split", "close") or (pane in others if word == "focus" else others):
             self.moved_to, self.moved_from = pane, places
 
     def is_moved(self, now: Places, before: Places) -> bool:
-        """Return True if the focus that this person moved is reported. If it goes to a pane that is known the size of one doesn't say so:
-        that may come of what was typed before."""
+        """Return True if the focus that this user moved is reported.
+
+        With a known target, a new size of a pane is no such report: it may come from earlier input.
+        """
         if now.focus == self.moved_to or now.focus != before.focus:
             return True
         return set(now.rects) != set(before.rects) if self.moved_to or self.borders_move() else now.rects != before.rects
 
     def panes_changed(self) -> bool:
-        """Go by what is reported of the panes. Return True if the focus has moved, and not by this person."""
+        """Handle a report about the panes. Return True if somebody else has moved the focus."""
         now, before = self.panes.places, self.moved_from
         last, self.focused = self.focused, self.panes.making(now.focus) if now else ""
         is_others = self.moved_to is None and self.focused != last and "" not in (last, self.focused)
@@ -158,10 +160,10 @@ class WindowActs:
             self.moved_to = None
         return is_others
 
-    # ---- prompts, and the view that all share
+    # ---- prompts, and the shared view
 
     def ask(self, text: str, *yes: Effect) -> None:
-        """Ask a question, whose answer by y has these effects."""
+        """Ask a question, whose answer y has these effects."""
         self.modes.push(ConfirmMode(*yes))
         self.display.row.ask(text)
 
@@ -180,7 +182,7 @@ class WindowActs:
             self.display.row.end_told()
 
     def begin_scroll(self, is_page: bool) -> bool:
-        """Begin to scroll the view that all share, by a page at once on request; return True unless this terminal only watches."""
+        """Begin to scroll the shared view, by a page on request; return True unless this terminal is read-only."""
         if self.link.is_read_only:
             return False
         mode = self.modes.scroll_mode()

@@ -1,5 +1,4 @@
-"""The windows of a session at one front end: a view of the one that is shown, and of those that were left and go on until all is taken
-that was typed there."""
+"""The windows of a session at one front end: the view of the current one, and earlier views until their input is taken."""
 from __future__ import annotations
 
 import os
@@ -25,12 +24,12 @@ if TYPE_CHECKING:
 
     from roam_live.protocol.session_interface import AnySession
 
-# So many seconds a line stands that tells what a person has lost.
+# Seconds for which a message about lost input is shown.
 LOSS_TOLD = 3.0
 
 
 def opened_server(session: AnySession) -> int | None:
-    """The process whose end is a window's, as a file that tells of it; None where it isn't known. Fault tells why it can't be had."""
+    """Return a pidfd of the process whose end is a window's; None if it is unknown. Fault gives the reason of a failure."""
     process = session.process(session.served)
     return opened_process(process) if process else None
 
@@ -43,28 +42,28 @@ class WindowView:
         self.session, self.link, self.reconnector, self.panes = session, link, reconnector, panes
         self.host, self.commands = host, commands
         self.number = session.number
-        # What tells of the end of the server, where its process is known.
+        # The pidfd of the server, if its process is known.
         self.server: int | None = None
 
     # ---- the server
 
     def watch(self, loop: Loop, server: int | None, ends: Callable[[], object]) -> None:
-        """Sees the end of the window's server, as its process was opened."""
+        """Watch for the end of the window's server, by its pidfd."""
         self.server = server
         if server is not None:
             loop.add(server, ends)
 
     def watch_no_more(self, loop: Loop) -> None:
-        """Sees that end no more."""
+        """Stop watching for that end."""
         if self.server is not None:
             loop.remove(self.server)
             os.close(self.server)
             self.server = None
 
-    # ---- left, and taken up again
+    # ---- leaving, and returning
 
     def part(self, loop: Loop) -> None:
-        """Follows the window no more, but for what was typed in it."""
+        """Stop following the window, except for its pending input."""
         self.commands.part()
         self.watch_no_more(loop)
         self.panes.close()
@@ -73,22 +72,22 @@ class WindowView:
             loop.remove(self.link)
 
     def take_up(self, panes: PanesSubscriber) -> None:
-        """Follow the window again, by another subscription of its panes."""
+        """Follow the window again, with another subscription to its panes."""
         acts = self.commands.acts
         self.panes = acts.panes = acts.intake.panes = panes
         self.reconnector.is_full = panes.is_full
 
     def is_over(self) -> bool:
-        """Whether nothing that was typed there has to be taken still."""
+        """Return True if all input typed there is taken."""
         link, host = self.link, self.host
         is_taken = link.is_done() if link.peer else not link.waiting
         if is_taken:
-            # The session has its size back.
+            # The session has its old size again.
             self.commands.zooming.drop_note()
         return is_taken and not link.waiting and not self.commands.acts.pastes.hands_over() and not (host.peer and host.waiting)
 
     def close(self, loop: Loop) -> None:
-        """Lets all connections go."""
+        """Close all connections."""
         if self.link.peer:
             loop.remove(self.link)
         self.link.close()
@@ -96,19 +95,19 @@ class WindowView:
         loop.drop(self.again())
 
     def again(self) -> str:
-        """What the moment is called at which the connection to the client of a window that was left is had again."""
+        """Return the name of the timer that reconnects to the client of an earlier window."""
         return f"connect {self.number}"
 
 
 class DrainingViews:
-    """The views of a front end that were left and go on: what the client of each tells is of nobody's screen."""
+    """The earlier views of a front end that still drain. Nobody sees the paintings of their clients."""
 
     def __init__(self, loop: Loop) -> None:
         self.loop = loop
         self.views: dict[int, WindowView] = {}
 
     def add(self, view: WindowView) -> None:
-        """Goes on with a view that was left."""
+        """Let an earlier view drain."""
         view.part(self.loop)
         self.views[view.number] = view
         if view.link.peer:
@@ -117,7 +116,7 @@ class DrainingViews:
             self.connect(view)
 
     def taken(self, number: int) -> WindowView | None:
-        """The view of a window, which is taken up again; None where there is none."""
+        """Remove and return the view of a window that becomes current again; None if there is none."""
         view = self.views.pop(number, None)
         if view:
             self.loop.drop(view.again())
@@ -126,30 +125,30 @@ class DrainingViews:
         return view
 
     def join(self, view: WindowView) -> None:
-        """Has the loop read and write the connection of one."""
+        """Let the loop read and write a view's connection."""
         link = view.link
         self.loop.add(link, lambda: self.hear(view), lambda: self.send(view), has_more=lambda: link.waiting)
 
     def hear(self, view: WindowView) -> None:
-        """Takes what was taken of what was typed, and nothing that is painted."""
+        """Read the acknowledgements of input, and ignore paintings."""
         if view.link.read_events() is None:
             self.lost(view)
 
     def send(self, view: WindowView) -> None:
-        """Sends what the client takes."""
+        """Send as much as the client accepts."""
         if not view.link.send():
             view.link.hear_last()
             self.lost(view)
 
     def lost(self, view: WindowView) -> None:
-        """Goes on without the connection, which is had again where something was typed that hasn't gone."""
+        """Continue without the connection. If input is still unsent, reconnect."""
         self.loop.remove(view.link)
         view.reconnector.lost()
         if view.link.waiting:
             self.loop.later(view.again(), view.reconnector.pause(), lambda: self.connect(view))
 
     def connect(self, view: WindowView) -> None:
-        """Connects to the client of one; where that can't be done now it is tried again."""
+        """Connect to the client of a view, and retry later if that fails."""
         failed = view.reconnector.connect()
         if failed:
             self.loop.later(view.again(), failed[0], lambda: self.connect(view))
@@ -158,18 +157,18 @@ class DrainingViews:
             self.join(view)
 
     def settle(self) -> None:
-        """Lets those go in which all is taken."""
+        """Drop the views whose input is all taken."""
         for view in [view for view in self.views.values() if view.is_over()]:
             self.forget(view.number)
 
     def forget(self, number: int) -> None:
-        """Lets one go, as of a window that is gone."""
+        """Drop a view, for example of a window that is gone."""
         view = self.views.pop(number, None)
         if view:
             view.close(self.loop)
 
     def hands_over(self) -> bool:
-        """Whether a paste is still handed over in one of them."""
+        """Return True if one of them still stores a paste."""
         return any(view.commands.acts.pastes.hands_over() for view in self.views.values())
 
 
@@ -179,14 +178,14 @@ class ViewMaker:
     def __init__(self, keyboard: Interpreter, settings: FrontSettings, host_link: HostLink, leave: Callable[[str | None], None],
                  is_read_only: bool, is_whole: bool, has_clips: bool) -> None:
         self.keyboard, self.settings, self.host_link, self.leave = keyboard, settings, host_link, leave
-        # Whether the front end only watches, shows a session whole where it has room, and lets programs set the terminal's clipboard.
+        # Flags of the front end: read-only, sessions shown whole if they fit, and clipboard texts from programs.
         self.is_read_only, self.is_whole, self.has_clips = is_read_only, is_whole, has_clips
         self.display, self.loop, self.here = keyboard.display, keyboard.loop, keyboard.commands
-        # In which windows keys were switched to go to all panes, or not, by their numbers.
+        # By number, the windows whose switch for keys to all panes was used.
         self.synchronized: dict[int, bool] = {}
 
     def followed(self, session: AnySession) -> PanesSubscriber:
-        """Return what follows the panes of a window."""
+        """Return the subscription to a window's panes."""
         panes = PanesSubscriber(session.folder, self.loop, lambda: self.here().panes_changed(), self.untold)
         panes.rings = lambda pane: self.here().panes.ring(pane)
         if self.has_clips:
@@ -195,13 +194,13 @@ class ViewMaker:
         return panes
 
     def untold(self, line: str) -> None:
-        """Go on where the panes aren't reported, which a line says."""
+        """Continue without reports of the panes, and show a line about that."""
         self.display.row.tell(line, LOSS_TOLD)
         self.here().show_known()
 
     def begun(self, session: AnySession, is_new: Callable[[Places | None], bool] = lambda places: False,
               link: ClientLink | None = None) -> WindowView:
-        """Return a view of a window, by a connection to its client process that was begun before, or by another."""
+        """Return a view of a window, by an existing connection to its client process, or by a new one."""
         loop, display, panes = self.loop, self.display, self.followed(session)
         link = link or ClientLink(session.terminals, self.is_read_only, self.settings.prediction)
         host = HostClient(self.host_link, session.number, lambda: commands.follower.others_told())
@@ -213,56 +212,55 @@ class ViewMaker:
 
 
 class WindowViews:
-    """The view of the window where the person is, and those that were left.
+    """The view of the current window, and earlier ones.
 
-    Its owner sets two calls: `server_ends`, once the server of the window where the person is has ended, and `shows`, once the person has
-    come to another.
+    Its owner sets two calls: `server_ends`, for the end of the current window's server, and `shows`, for a move to another window.
     """
 
     def __init__(self, maker: ViewMaker, session: AnySession, is_new: Callable[[Places | None], bool],
                  link: ClientLink | None = None) -> None:
         self.maker, self.loop, self.display = maker, maker.loop, maker.display
         self.draining = DrainingViews(maker.loop)
-        # The sizes of the windows of which all was shown as they were left, by their numbers.
+        # By number, the sizes of windows that were shown whole when the user left.
         self.shown_whole: dict[int, tty.Size] = {}
         self.server_ends: Callable[[WindowView], object] = lambda view: None
         self.shows: Callable[[], object] = lambda: None
         server = opened_server(session)
         self.enter(maker.begun(session, is_new, link), server)
 
-    # ---- the window where the person is
+    # ---- the current window
 
     @property
     def number(self) -> int:
-        """The window's number, 0 where the session has no windows."""
+        """Return the window's number, 0 in a session without windows."""
         return self.view.number
 
     @property
     def link(self) -> ClientLink:
-        """The connection to the window's client process."""
+        """Return the connection to the window's client process."""
         return self.view.link
 
     @property
     def commands(self) -> Commands:
-        """What is done in the window."""
+        """Return the commands of the window."""
         return self.view.commands
 
     @property
     def acts(self) -> WindowActs:
-        """What the person types in the window."""
+        """Return the user's acts in the window."""
         return self.view.commands.acts
 
     def all_commands(self) -> list[Commands]:
-        """Return what is done in each window, in the one where the person is first."""
+        """Return the commands of each window, those of the current one first."""
         return [view.commands for view in (self.view, *self.draining.views.values())]
 
     def left_commands(self, number: int) -> Commands | None:
-        """Return the commands of a window that the person left, None if nothing of it goes on."""
+        """Return the commands of a window that the user left, None if nothing of it continues."""
         view = self.draining.views.get(number)
         return view.commands if view else None
 
     def enter(self, view: WindowView, server: int | None) -> None:
-        """Have the person be in a window, and see the end of its server, as its process was opened."""
+        """Make a window the user's current one, and watch for the end of its server by its pidfd."""
         self.view = view
         self.maker.host_link.go(view.host)
         view.watch(self.loop, server, lambda: self.server_ends(view))
@@ -270,7 +268,7 @@ class WindowViews:
     # ---- other windows
 
     def reached(self, number: int) -> AnySession | None:
-        """Return the window of a number, None unless it is there and isn't about to be ended."""
+        """Return the window of a number, None unless it exists and isn't about to end."""
         try:
             window = self.view.session.window(number)
         except Fault:
@@ -278,13 +276,13 @@ class WindowViews:
         return window if window.ending()[1] else None
 
     def forget(self, number: int) -> None:
-        """Wait for nothing more of a window that is gone."""
+        """Stop draining a window that is gone."""
         self.draining.forget(number)
         self.shown_whole.pop(number, None)
         self.maker.synchronized.pop(number, None)
 
     def go(self, number: int) -> None:
-        """Go to another window, which is shown in place of this one: what was typed here goes on its way. Fault says why that can't be."""
+        """Show another window in place of this one. Input typed here is still sent. Fault gives the reason of a failure."""
         session = self.view.session.window(number)
         server = opened_server(session)
         before, view = self.view, self.draining.taken(number)
@@ -300,5 +298,5 @@ class WindowViews:
         self.shows()
 
     def hands_over(self) -> bool:
-        """Return True if a paste is still handed over in a window."""
+        """Return True if a window still stores a paste."""
         return self.acts.pastes.hands_over() or self.draining.hands_over()

@@ -1,5 +1,4 @@
-"""What is told of the windows of a session at a front end's connection to the pty host: which there are, their names, what runs
-there, and where something happened."""
+"""The windows of a session, as the pty host reports them to a front end: names, programs, and events."""
 from __future__ import annotations
 
 from roam_live.common.text import decimal_in, printable
@@ -7,36 +6,36 @@ from roam_live.frontend.status_line import cut, window_label
 from roam_live.protocol.panes import is_pane
 from roam_live.protocol.window_lines import ACTIVITY, BELL, GONE, LONGEST_NAME, MOST_WINDOWS, NO_NAME, RUNS, WINDOW, WINDOWS, name_in
 
-# The longest name of a window, in hexadecimal digits, and of a program, in characters, that is taken: it may be told from another machine.
+# Limits of reports, which may come from another machine: a name in hexadecimal digits, and a program's name in characters.
 LONGEST_WORD, LONGEST_PROGRAM = 512, 255
 
-# So many columns of a name stand in the last row, and so many of what runs in a window.
+# Columns of a window's name in the last row, and of its program's name.
 MOST_COLUMNS = 24
 
 
 class WindowsState:
-    """What was told of the windows of a session so far."""
+    """The reported windows of a session."""
 
     def __init__(self) -> None:
         self.names: dict[int, str] = {}
         self.runs: dict[int, str] = {}
-        # Those where a bell rang, or something was written, since the person was there.
+        # The windows with a bell, and those with output, since the user was there.
         self.rung: set[int] = set()
         self.wrote: set[int] = set()
-        # Whether these are all; and those that were told since a connection began.
+        # True if these are all; and the windows reported on this connection.
         self.is_whole = False
         self.anew: set[int] = set()
 
     def begin(self) -> None:
-        """All are told anew from here on."""
+        """Begin a new report of all windows."""
         self.anew.clear()
 
     def numbers(self) -> list[int]:
-        """The numbers of the windows, in order."""
+        """Return the numbers of the windows, in order."""
         return sorted(self.names)
 
     def take(self, line: str) -> list[int] | None:
-        """Takes a line, and tells which windows are gone by it; None where it can be none of these."""
+        """Take a line, and return the windows that are gone by it; None if it is invalid here."""
         word, _, rest = line.partition(" ")
         first, _, more = rest.partition(" ")
         if word == WINDOWS:
@@ -56,7 +55,7 @@ class WindowsState:
         return None
 
     def take_count(self, count: str) -> list[int] | None:
-        """Take how many windows there are, behind all of them."""
+        """Take the number of windows, after all of them."""
         if not (count.isascii() and count.isdigit() and len(count) <= len(str(MOST_WINDOWS))):
             return None
         self.is_whole = True
@@ -72,14 +71,14 @@ class WindowsState:
         return []
 
     def take_program(self, number: int, program: str) -> list[int] | None:
-        """Take what runs in a window."""
+        """Take the program of a window."""
         if not 0 < len(program) <= LONGEST_PROGRAM or "\n" in program:
             return None
         self.runs[number] = printable(program)[:LONGEST_NAME]
         return []
 
     def forget(self, numbers: set[int]) -> list[int]:
-        """Knows nothing more of windows that are gone; tells those that were known."""
+        """Forget windows that are gone, and return those that were known."""
         gone = sorted(numbers & self.names.keys())
         for number in numbers:
             self.names.pop(number, None)
@@ -89,12 +88,12 @@ class WindowsState:
         return gone
 
     def seen(self, number: int) -> None:
-        """Takes note that the person is in a window."""
+        """Record that the user is in a window."""
         self.rung.discard(number)
         self.wrote.discard(number)
 
     def label(self, number: int, here: int, last: int) -> str:
-        """A window as the last row has it: its name, or what runs there, and its flags."""
+        """Return a window's label in the last row: its name or program, and its flags."""
         flags = "#" * (number in self.wrote) + "!" * (number in self.rung) + ("*" if number == here else "-" * (number == last))
         name = self.names.get(number, "") or self.runs.get(number, "")
         return window_label(number, cut(name, MOST_COLUMNS), flags)

@@ -1,5 +1,4 @@
-"""A pane that fills a person's terminal: the session is asked to be larger, the pane's part alone is shown, and the session gets the size
-back that it had."""
+"""A pane that fills a user's terminal: the session grows, only the pane's part is shown, and later the session gets its old size back."""
 from __future__ import annotations
 
 from roam_live.common import tty
@@ -14,59 +13,59 @@ TYPE_CHECKING = False
 if TYPE_CHECKING:
     from collections.abc import Callable
 
-# So many seconds after a larger size was taken, of which nothing is told, it was refused.
+# Seconds after which an accepted larger size without a report counts as refused.
 REFUSES = 2.5
 
-# For so many seconds it may be told where the focus is that a command of this person moves, or what another has zoomed.
+# Seconds for a report of the focus that this user moves, or of another user's zoom.
 FOCUS_WAIT = 1.0
 
-# So many seconds a line stands that tells why nothing is zoomed.
+# Seconds for which the reason of a failed zoom is shown.
 TOLD = 3.0
 REFUSED = "cannot zoom: the session did not take the new size"
 OTHERS = "the zoom ended: the session has another size now"
 
-# Acts after which nothing is zoomed, beside those that put another pane in focus.
+# Acts that end a zoom, besides those that focus another pane.
 ENDS = ("split", "close", "next", "grow", "size")
 
 
 class Zooming:
-    """The zoom of one person, if there is one."""
+    """The zoom of one user, if there is one."""
 
     def __init__(self, acts: WindowActs, size: SessionSize) -> None:
         self.acts, self.size, self.loop = acts, size, acts.loop
-        # The pane that is zoomed, 0 for none; where the panes are without that, and what the session is to have again and was asked for.
+        # The zoomed pane, 0 for none; the positions without the zoom, and the session's old and requested size.
         self.pane = 0
         self.before: Places | None = None
         self.note = ZoomNote((0, 0), ())
-        # What was told of the panes when the last size was asked for, while it may come; and where they were when the pane was shown.
+        # The positions at the last size request, while its effect may come; and those at which the pane was shown.
         self.awaited: Places | None = None
         self.rects: dict[int, Rect] = {}
-        # Whether this terminal showed all of the session.
+        # True if this terminal showed the whole session.
         self.showed_all = False
-        # Whether the pane in focus is to be zoomed once it is told which that is, by what was typed, and whether another has a zoom.
+        # True if the focused pane will be zoomed after the reports of the focus and of another user's zoom.
         self.waits = False
 
     def is_on(self) -> bool:
-        """Whether a pane is zoomed, or will be soon."""
+        """Return True if a pane is zoomed, or will be soon."""
         return self.pane > 0
 
     def awaited_size(self) -> tty.Size | None:
-        """The size that the session was asked for, while it may come."""
+        """Return the requested size of the session, while it may come."""
         return self.note.asked[-1] if self.awaited else None
 
     def area(self) -> tty.Size:
-        """The rows and columns that a pane has to fill."""
+        """Return the rows and columns that a pane has to fill."""
         rows, cols = tty.largest(self.acts.display.part.room())
         return rows - 1, cols
 
     def unzoomed(self, places: Places | None) -> Places | None:
-        """Where the panes are once nothing is zoomed."""
+        """Return the positions of the panes without the zoom."""
         return places._replace(rects=self.before.rects) if places and self.before else places
 
     # ---- begin and end
 
     def switch(self) -> None:
-        """Zooms the pane in focus, or ends that."""
+        """Toggle the zoom of the focused pane."""
         if self.pane:
             self.end()
             return
@@ -89,11 +88,11 @@ class Zooming:
         self.ask(places)
 
     def is_told(self, places: Places | None) -> bool:
-        """Whether it is told which pane is in focus, and by the host whether another has a zoom, where one is about to."""
+        """Return True if the focus is reported, and, if a host is about to report another user's zoom, that too."""
         return bool(places and places.focus) and not self.acts.host.is_awaited()
 
     def ask(self, places: Places) -> None:
-        """Asks for the size at which the pane fills the terminal, and shows the pane once the session has it."""
+        """Request the size at which the pane fills the terminal, and show the pane once the session has it."""
         size = sizes.zoom_size(places, self.pane, self.area(), self.note)
         if not size:
             self.show(places)
@@ -106,13 +105,13 @@ class Zooming:
         self.acts.type_together(tty.size_act(size))
 
     def show(self, places: Places) -> None:
-        """Shows the pane alone."""
+        """Show the pane alone."""
         self.awaited, self.rects = None, places.rects
         self.loop.drop("zoom")
         self.acts.display.zoom(places.rects[self.pane])
 
     def stop(self) -> list[str]:
-        """Ends it, and tells the acts that give the session its size back."""
+        """End it, and return the acts that restore the session's size."""
         note, self.pane = self.note, 0
         self.forget()
         if not note.asked:
@@ -124,18 +123,18 @@ class Zooming:
         return [tty.size_act(note.size)]
 
     def end(self) -> None:
-        """Ends it."""
+        """End the zoom."""
         acts = self.stop()
         if acts:
             self.acts.type_together(*acts)
 
     def forget(self) -> None:
-        """Knows no more of it, but for what the host was told."""
+        """Forget it, except for the report to the host."""
         self.pane, self.before, self.awaited, self.rects = 0, None, None, {}
         self.loop.drop("zoom")
 
     def give_up(self) -> None:
-        """Ends it where the session hasn't got the size, and has taken all that was typed."""
+        """End it if the session has taken all input without getting the size."""
         if not self.acts.link.is_done():
             self.loop.later("zoom", REFUSES, self.give_up)
             return
@@ -143,16 +142,15 @@ class Zooming:
         self.end()
 
     def ended_by(self, acts: tuple[str, ...]) -> tuple[str, ...]:
-        """Acts with those before them that give the session its size back, where they end it."""
+        """Return acts, with those before them that restore the session's size if they end the zoom."""
         if self.pane and any(act.split(" ")[0] in ENDS or act.startswith("focus ") and act != f"focus {self.pane}" for act in acts):
             return *self.stop(), *acts
         return acts
 
-    # ---- what is told
+    # ---- reports
 
     def panes_changed(self) -> None:
-        """Goes by what is told of the panes: it is over where another is in focus, or they are others, or the session's size is another
-        than it was asked for."""
+        """Handle a report about the panes. The zoom is over if the focus, the panes, or the session's size are others than expected."""
         places = self.acts.places()
         if self.waits and self.is_told(places):
             self.switch()
@@ -169,14 +167,14 @@ class Zooming:
             self.ask(places)
 
     def lose(self) -> None:
-        """Ends it where somebody gave the session another size, which stays."""
+        """End it after somebody gave the session another size, which stays."""
         self.forget()
         self.acts.display.zoom(None)
         self.acts.display.row.tell(OTHERS, TOLD)
         self.tell_over()
 
     def resized(self) -> None:
-        """Goes by another size of the terminal, and by the one that the session would have there if nothing were zoomed."""
+        """Handle another size of the terminal, and the size that the session would have there without a zoom."""
         places, own = self.acts.panes.places, tty.largest(self.acts.display.part.room())
         if not places or not self.before or not places.is_covered() or not tty.is_large_enough(own):
             return
@@ -191,56 +189,60 @@ class Zooming:
         self.ask(places)
 
     def overrule_own(self) -> None:
-        """Ends it where this person gives the session another size, which stays."""
+        """End it after this user gave the session another size, which stays."""
         if self.pane:
             self.forget()
             self.drop_note()
             self.acts.display.zoom(None)
 
-    # ---- what the host knows
+    # ---- the host's record
 
     def tell_host(self) -> None:
-        """Tells the host of this zoom, before the session is asked for a size."""
+        """Report this zoom to the host, before the session's size is requested."""
         self.acts.host.note_zoom(self.note)
 
     def tell_over(self) -> None:
-        """Tells the host that a zoom is over, once the session hasn't a size of it any more."""
+        """Report the end of a zoom to the host, once the session no longer has one of its sizes."""
         host, places = self.acts.host, self.acts.panes.places
         if host.zoom and not self.pane and places and places.is_covered() and places.size() not in host.zoom.asked:
             host.note_zoom(None)
 
     def drop_note(self) -> None:
-        """Tells the host that a zoom is over, whatever size the session has."""
+        """Report the end of a zoom to the host, whatever size the session has."""
         if self.acts.host.zoom and not self.pane:
             self.acts.host.note_zoom(None)
 
     def leave(self) -> None:
-        """Ends it where the person leaves, and is told of no more."""
+        """End it when the user detaches, and withdraw the report."""
         if self.pane:
             self.end()
 
 
 class LeftZoom:
-    """The zoom of another, as the host reports it. Calls return True while this person has a zoom, and mend a zoom once nothing else can
-    have asked for its size."""
+    """Another user's zoom, as the host reports it.
+
+    Calls return True while this user has a zoom, and restore the size once nothing else can have requested it.
+    """
 
     def __init__(self, acts: WindowActs, size: SessionSize, is_zoomed: Callable[[], bool], mends_late: Callable[[], object]) -> None:
         self.acts, self.size, self.is_zoomed, self.mends_late, self.loop = acts, size, is_zoomed, mends_late, acts.loop
-        # The one that was looked after, and one without whose sizes the session was seen since.
+        # The handled one, and one without whose sizes the session was seen since.
         self.mended: ZoomNote | None = None
         self.unseen: ZoomNote | None = None
 
     def left_by(self) -> ZoomNote | None:
-        """The zoom that a front end has left, as one that was killed, and that isn't looked after yet; None where there is none."""
+        """Return the zoom of a departed front end, such as a killed one, that is still unhandled; None if there is none."""
         maker, note = self.acts.host.zoomed
         if maker or not note:
             self.mended = self.unseen = None
         return None if maker or self.is_zoomed() or self.acts.link.is_read_only or note == self.mended else note
 
     def mend(self, is_late: bool = False) -> bool:
-        """Gives the session its size back where a front end made it larger that has left, and tells whether it does: what that typed last
-        may not be taken yet. Where somebody else types, or the session had another size meanwhile, it may have that of his zoom: of that
-        the host tells, maybe a moment after the panes are told, which is late enough."""
+        """Restore the session's size after a departed front end's zoom, and return True if so. Its last input may be pending.
+
+        If somebody else types, or the session had another size meanwhile, the size may belong to that user's zoom. The host's report of it
+        may follow that of the panes by a moment, which is early enough.
+        """
         note, size = self.left_by(), self.size.coming()
         step = sizes.left_zoom(note, size, note == self.unseen, self.size.has_others() if note else None, is_late)
         if step == sizes.UNSEEN:
@@ -255,13 +257,13 @@ class LeftZoom:
         return step == sizes.GIVES
 
     def overrule_late(self) -> None:
-        """Tells the host that such a zoom is over, where nothing has come of it."""
+        """Report the end of such a zoom to the host, if nothing has come of it."""
         note, size = self.left_by(), self.size.coming()
         if note and size != NO_SIZE and size not in note.asked:
             self.overrule()
 
     def overrule(self) -> None:
-        """Tells the host that a zoom which a front end has left is over: the session's size is one that it was given otherwise."""
+        """Report the end of a departed front end's zoom to the host: the session's size has another reason."""
         note = self.left_by()
         if note:
             self.mended = note

@@ -1,4 +1,4 @@
-"""What a pty host has once for all windows: its loop, the scrollback rows, the socket, and processes that were hung up."""
+"""The parts that all windows of a pty host share: its loop, the scrollback, the socket, and processes after a hangup."""
 from __future__ import annotations
 
 from roam_live.common.errors import reason, say
@@ -20,29 +20,31 @@ if TYPE_CHECKING:
 
     from roam_live.host.window import WindowHost
 
-# So many seconds later what the system refused is tried again.
+# Seconds until a retry after the system refused something.
 AGAIN = 0.25
 
-# What ends the host. Its shells hang up then.
+# The signals that end the host. Its shells then get a hangup.
 LEAVING = (signal.SIGTERM, signal.SIGHUP)
 
-# So many seconds who writes rows down has for the last of them, where the session ends.
+# Seconds for log readers to take the last rows at the session's end.
 LOGS_END = 1.0
 
 
 class Common:
-    """What a host has once for all windows: its loop, the scrollback rows, the socket `host`, the processes that
-    were hung up, and descriptors that are kept for need."""
+    """The parts that all windows of a host share.
+
+    Those are its loop, the scrollback, the socket `host`, the processes after a hangup, and reserved descriptors.
+    """
 
     def __init__(self, wakeup: int, loop: Loop | None = None) -> None:
         self.wakeup, self.loop = wakeup, loop or Loop()
         self.faults = FaultLog(self.loop.clock)
         self.hung: list[int] = []
         self.is_over = False
-        # What was refused, as it was told.
+        # The refusals of the system that were already reported.
         self.refused: set[str] = set()
         self.loop.add(wakeup, self.reap)
-        # One for what a pane is begun with, and one by which a pane that can't be begun says so.
+        # One descriptor to start a pane, and one by which a failed pane reports the reason.
         self.spare, self.voice = Spare(), Spare()
         with suppress(OSError):
             self.voice.keep()
@@ -54,7 +56,7 @@ class Common:
         self.socket.offer_rows(self.rows)
         self.loop.faults = self.take_fault
         self.rows.hears_changed = self.see_to_panes
-        # Called once a minute to look after folders.
+        # Called once a minute to protect folders.
         self.lasting: list[Callable[[], object]] = []
         self.loop.later("folders", LOOKS, self.look_at_folders)
 
@@ -69,13 +71,13 @@ class Common:
         self.faults.take(fault)
 
     def see_to_panes(self) -> None:
-        """Check all panes whether they are read now."""
+        """Check for all panes if they are read now."""
         for window in self.windows():
             for pane in window.panes.values():
                 pane.see_to_ends()
 
     def see_to(self, lasts: Callable[[], object]) -> None:
-        """Call something before the next wait, and then once a minute, to look after a folder."""
+        """Call something before the next wait, and then once a minute, to protect a folder."""
         self.lasting.append(lasts)
         self.loop.soon(lasts)
 
@@ -85,25 +87,25 @@ class Common:
             self.lasting.remove(lasts)
 
     def look_at_folders(self) -> None:
-        """Look after all folders."""
+        """Protect all folders."""
         for lasts in list(self.lasting):
             self.loop.is_done(lasts)
         self.loop.later("folders", LOOKS, self.look_at_folders)
 
     def tell(self, text: str) -> None:
-        """Log what a person has to know, and send it to the terminals at all windows."""
+        """Log a message for the user, and send it to the terminals at all windows."""
         say(text)
         for window in self.windows():
             window.channel.notify(text)
 
     def shows_other(self, key: int) -> bool:
-        """Whether a pane's program is known to show the other screen."""
+        """Return True if a pane's program is known to show the alternate screen."""
         number, pane = pane_of_key(key)
         channel = self.socket.channels.get(number)
         return channel is not None and channel.host is not None and channel.host.panes_state.has_set(pane, OTHER)
 
     def keep_spares(self) -> None:
-        """Has the spare descriptors, as soon as they are to be had: first that by which a pane says what it hasn't."""
+        """Reserve the spare descriptors as soon as possible, first the one for a failed pane's message."""
         try:
             for spare in (self.voice, self.spare):
                 spare.keep()
@@ -111,14 +113,14 @@ class Common:
             self.refuse("a spare descriptor", fault)
 
     def refuse(self, what: str, fault: OSError) -> None:
-        """Takes note of what the system refused, which is tried again; the log is told once until all is had."""
+        """Record a refusal of the system, log it once until all works again, and schedule a retry."""
         if what not in self.refused:
             self.refused.add(what)
             self.tell(f"{what}: {reason(fault)}; tried again")
         self.loop.later("again", AGAIN, self.try_again)
 
     def try_again(self) -> None:
-        """Tries again what was refused."""
+        """Retry the refused steps."""
         for window in self.windows():
             window.begin_again()
         self.keep_spares()
@@ -126,7 +128,7 @@ class Common:
             self.refused.clear()
 
     def reap(self) -> None:
-        """Takes note of commands that ended, and of a signal to end."""
+        """Handle ended commands, and a signal to end."""
         if any(number in LEAVING for number in read(self.wakeup) or b""):
             self.is_over = True
         self.hung = [process for process in self.hung if not has_ended(process)]
@@ -134,11 +136,11 @@ class Common:
             self.loop.is_done(window.reap)
 
     def turn(self) -> None:
-        """Waits until something can be done, and does it."""
+        """Wait until something is ready, and handle it."""
         self.loop.turn()
 
     def run(self) -> int:
-        """Keeps the shells of a session of one window until it ends."""
+        """Run the shells of a session of one window until it ends."""
         try:
             while not self.is_over and not any(window.is_over for window in self.windows()):
                 self.turn()
@@ -147,14 +149,14 @@ class Common:
         return 0
 
     def end_logs(self) -> None:
-        """Tells who writes rows down what stood last in the panes, as far as that is soon taken."""
+        """Send log readers the last screens of the panes, as far as they soon take them."""
         end = self.loop.clock() + LOGS_END
         self.loop.at("end logs", end, lambda: None)
         while self.rows.leaving and self.loop.clock() < end:
             self.loop.turn()
 
     def close(self) -> None:
-        """Ends all that is left: the shells first, of which who writes rows down has the last."""
+        """End the remaining parts: the shells first, whose last rows log readers get."""
         windows = self.windows()
         for window in windows:
             window.hang_up()

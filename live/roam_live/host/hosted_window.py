@@ -1,5 +1,7 @@
-"""A window as its session's host has it, the size that is typed for a new one, and its processes: spawned, noted in its folder, found by
-its sockets, and ended."""
+"""A window at its session's host, the first size of a new one, and its processes.
+
+They are spawned, recorded in its folder, found by its sockets, and ended.
+"""
 from __future__ import annotations
 
 import os
@@ -32,15 +34,15 @@ if TYPE_CHECKING:
     from roam_live.protocol.spawn_request import Begins
     from roam_live.session.processes import State
 
-# What a window is: about to be there, there, or about to be gone.
+# The stages of a window: opening, open, and closing.
 OPENING, THERE, ENDING = "opening", "there", "ending"
 
-# Seconds until a window that is opened has to be there.
+# Seconds for an opened window to be there.
 OPENS = 10.0
 
 
 class HostedWindow:
-    """A window: its processes, its panes once they are followed, and who is told once it is there."""
+    """A window: its processes, its panes once they are followed, and a call for its opening."""
 
     def __init__(self, processes: WindowProcesses, told: Callable[[int, str], object]) -> None:
         self.number, self.state, self.processes, self.told = processes.number, processes.state, processes, told
@@ -49,29 +51,29 @@ class HostedWindow:
         self.host: WindowHost | None = None
         self.size: Size | None = None
         self.sizes: SizeAct | None = None
-        # Where its first pane's command begins, whether another host had it before, and whether it has a client here from the beginning:
-        # of a session's first window who launches it sees to that, or a terminal of another machine has one there.
+        # The folder of its first pane's command; True if an earlier host had it; and True if it has a local client from the start. The
+        # launcher spawns the client of a session's first window, and a remote terminal has its own.
         self.begins_in, self.is_again, self.has_client = "", False, True
-        # What somebody asked for it to begin with.
+        # The requested start options, if any.
         self.begins: Begins | None = None
-        # Whether its server is spawned by somebody else, and isn't known yet.
+        # True if another process spawns its server, and it is still unknown.
         self.is_given = False
-        # Until when it has to be there, or gone.
+        # The deadline for its opening, or its end.
         self.until = 0.0
-        # When it may be told again that something was written there.
+        # The earliest moment of the next activity report.
         self.active_at = 0.0
 
     def has_terminals(self) -> bool:
-        """Whether somebody is there."""
+        """Return True if a terminal is at the window."""
         return self.host is not None and self.host.channel.has_terminals()
 
 
 class SizeAct:
-    """A connection to a client, over which a size is typed: it is closed once the client has taken that."""
+    """A connection to a client that types a size. It closes once the client has taken the act."""
 
     def __init__(self, loop: Loop, peer: socket.socket, size: Size) -> None:
         self.loop, self.peer = loop, peer
-        # A client that is stopped takes nothing: it is closed then too.
+        # A stopped client takes nothing: the connection is closed then too.
         self.name = f"size {peer.fileno()} is taken"
         loop.add(peer, self.hear, fails=lambda fault: self.close())
         loop.later(self.name, OPENS, self.close)
@@ -82,24 +84,24 @@ class SizeAct:
             self.close()
 
     def hear(self) -> None:
-        """Passes over what is painted, until the client has closed it."""
+        """Discard the painted output until the client has closed the connection."""
         if read(self.peer.fileno()) == b"":
             self.close()
 
     def close(self) -> None:
-        """Closes it."""
+        """Close it."""
         if self.peer.fileno() >= 0:
             self.loop.remove(self.peer)
             self.loop.drop(self.name)
             self.peer.close()
 
 
-# No name's note has so many characters.
+# A file with a name has fewer characters.
 MOST_NAME = 512
 
 
 def remove_folder(folder: str) -> None:
-    """Removes a folder with what lies in it; OSError where it can't be."""
+    """Remove a folder with its contents; OSError if that fails."""
     for name in os.listdir(folder):
         with suppress(OSError):
             os.unlink(os.path.join(folder, name))
@@ -115,19 +117,19 @@ class WindowProcesses:
         self.state, self.noted = state, state.processes
 
     def path(self, name: str) -> str:
-        """The path of what lies in the window's folder."""
+        """Return the path of a file in the window's folder."""
         return os.path.join(self.folder, name)
 
     def make_folder(self) -> None:
-        """Makes the window's folder, where nobody else may enter it."""
+        """Create the window's folder, closed to other users."""
         for folder in (windows_folder(self.common), self.folder):
             with suppress(FileExistsError):
                 os.mkdir(folder, 0o700)
 
-    # ---- what is known
+    # ---- the known state
 
     def find(self) -> None:
-        """Reads what is noted; where that is lost it is known who listens at the sockets."""
+        """Read the note. If it is lost, find the processes that listen at the sockets."""
         self.read()
         for role in (SERVER, CLIENT):
             if not self.is_known(role):
@@ -136,32 +138,32 @@ class WindowProcesses:
                     self.noted[role] = process, begun(process)
 
     def read(self) -> None:
-        """Reads what is noted."""
+        """Read the note."""
         with suppress(OSError):
             state = noted_in(self.path("state.json")) or {}
             for role in [role for role in (SERVER, CLIENT) if role in state]:
                 self.noted[role] = state[role][0], state[role][1]
 
     def is_known(self, role: str) -> bool:
-        """Whether a process of a role is known to run."""
+        """Return True if a process of a role is known to run."""
         return role in self.noted and is_running(*self.noted[role])
 
     def runs(self, role: str) -> bool:
-        """Whether a process of a role runs; a client may have been spawned anew by a front end, which notes that."""
+        """Return True if a process of a role runs. A front end may have restarted a client and recorded that."""
         if not self.is_known(role) and role == CLIENT:
             self.read()
         return self.is_known(role)
 
     def server(self) -> int:
-        """The process that serves; 0 where none is known."""
+        """Return the serving process; 0 if unknown."""
         return self.noted[SERVER][0] if SERVER in self.noted else 0
 
     def ending(self) -> str:
-        """How the end of its server is noted."""
+        """Return the words that record the end of its server."""
         return end_words(*self.noted[SERVER])
 
     def mark_spare(self, is_spare: bool) -> None:
-        """Marks what only stands ready, or has it be a window from now on."""
+        """Mark the processes as a spare, or as a window from now on."""
         if is_spare:
             with open(self.path(SPARE), "w", encoding="ascii"):
                 return
@@ -169,23 +171,25 @@ class WindowProcesses:
         self.note()
 
     def is_spare(self) -> bool:
-        """Whether it only stands ready."""
+        """Return True if they are only a spare."""
         return os.path.exists(self.path(SPARE))
 
     def read_name(self) -> None:
-        """Reads what the window is called, as was noted."""
+        """Read the window's name from its file."""
         with suppress(OSError, ValueError), open(self.path("name"), encoding="utf-8") as file:
             self.state.name = name_in(file.read(MOST_NAME).strip() or NO_NAME) or ""
 
     def note_name(self) -> None:
-        """Notes what the window is called."""
+        """Write the window's name to its file."""
         replace_text(self.path("name"), f"{name_word(self.state.name)}\n")
 
-    # ---- what is spawned
+    # ---- spawning
 
     def spawn(self, role: str, words: list[str]) -> int:
-        """Spawns a process with a session of its own, which notes itself before it runs the words, so that it is found however this one
-        ends; and tells its number."""
+        """Spawn a process with a session of its own, and return its pid.
+
+        It records itself before it executes the words, so that it is found even if the host dies.
+        """
         process = forked_apart()
         if process == 0:
             self.become(role, words)
@@ -193,17 +197,17 @@ class WindowProcesses:
         return process
 
     def spawn_server(self) -> int:
-        """Spawns the window's server."""
+        """Spawn the window's server."""
         return self.spawn(SERVER, server_words(self.folder))
 
     def spawn_client(self) -> int:
-        """Spawns the client process of this machine's terminals."""
+        """Spawn the client process of this machine's terminals."""
         with suppress(FileNotFoundError):
             os.unlink(self.path(ROLES[CLIENT].socket))
         return self.spawn(CLIENT, client_words(self.folder))
 
     def become(self, role: str, words: list[str]) -> NoReturn:
-        """Becomes the process of a role; what it says goes where this process says something."""
+        """Execute the process of a role in place of this one. It keeps this process's output."""
         try:
             os.setsid()
             self.noted[role] = os.getpid(), begun(os.getpid())
@@ -211,7 +215,7 @@ class WindowProcesses:
             nothing = os.open(os.devnull, os.O_RDONLY)
             os.dup2(nothing, 0)
             os.dup2(2, 1)
-            # By the variable programs are known that run in a pane, also of another session, in which this one was begun.
+            # This variable marks programs in a pane, even of another session in which this one was started.
             environment = {name: value for name, value in os.environ.items() if name not in (PANE, SPARE_VARIABLE)}
             os.execve(words[0], words, {**environment, **({SPARE_VARIABLE: "1"} if self.is_spare() else {})})
         except OSError as fault:
@@ -220,7 +224,7 @@ class WindowProcesses:
             os._exit(127)
 
     def note(self) -> None:
-        """Notes the processes that are known."""
+        """Record the known processes."""
         state: State = {"version": WINDOWS_VERSION, **({} if self.is_spare() else {JOINED: True})}
         for role, one in self.noted.items():
             state[role] = list(one)
@@ -231,14 +235,14 @@ class WindowProcesses:
     # ---- their end
 
     def end(self, number: int, *roles: str) -> None:
-        """Signals the processes that run, of these roles, or of both."""
+        """Send a signal to the running processes of these roles, by default of both."""
         for role in roles or (SERVER, CLIENT):
             if self.runs(role):
                 with suppress(OSError):
                     os.kill(self.noted[role][0], number)
 
     def clean(self) -> None:
-        """Removes what they left, and the notes of far relays."""
+        """Remove their files, and the notes of far relays."""
         for folder in (self.path("relays"), self.folder):
             with suppress(OSError):
                 remove_folder(folder)

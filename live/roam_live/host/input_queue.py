@@ -1,4 +1,4 @@
-"""What is typed into a pane and waits for its programs: bytes, and texts at the places of their placeholders."""
+"""The queue of input for a pane's programs: bytes, and texts at the positions of their placeholders."""
 from __future__ import annotations
 
 from collections import deque
@@ -13,7 +13,7 @@ TYPE_CHECKING = False
 if TYPE_CHECKING:
     from collections.abc import Callable
 
-# A placeholder: APC, a name and ST, in their forms of U+009F and U+009C, in UTF-8; and the beginning of one at the end of what came.
+# A placeholder: APC, a name and ST, as U+009F and U+009C in UTF-8; and the start of one at the end of the input.
 PLACEHOLDER = LazyPattern(rb"\xc2\x9f([0-9a-f]{16})\xc2\x9c")
 BEGUN = LazyPattern(rb"\xc2(?:\x9f(?:[0-9a-f]{0,16}|[0-9a-f]{16}\xc2))?\Z")
 LONGEST_BEGUN = 19
@@ -22,14 +22,16 @@ INTERRUPT = b"\x03"
 
 
 class Placeholders:
-    """Finds placeholders in what is typed, however that is cut."""
+    """Finds placeholders in the input, however it is cut into chunks."""
 
     def __init__(self) -> None:
         self.rest = b""
 
     def fed(self, typed: bytes) -> list[bytes]:
-        """The bytes before, between and behind placeholders, as they were typed, and the names of these between them: so every second one
-        is a name. What may begin a placeholder at the end waits for more."""
+        """Return the bytes before, between and after placeholders, with their names in between: every second part is a name.
+
+        A possible start of a placeholder at the end waits for more.
+        """
         if not self.rest and b"\xc2" not in typed:
             return [typed]
         text, self.rest = self.rest + typed, b""
@@ -41,13 +43,13 @@ class Placeholders:
 
 
 class TypedQueue:
-    """What waits for a pane's programs, in the order in which it was typed: one text after the other, each whole."""
+    """The input queue of a pane's programs, in typed order, with each text whole."""
 
     def __init__(self, texts: PendingPastes, wants_brackets: Callable[[], object]) -> None:
         self.texts, self.wants_brackets = texts, wants_brackets
         self.placeholders = Placeholders()
         self.parts: deque[bytearray | PendingPaste] = deque()
-        # How many bytes wait that were typed as such.
+        # The number of waiting bytes that were typed as such.
         self.typed = 0
         # True if part of a pasted text was written since the last interrupt, and if it was bracketed; the number of typed bytes that were
         # written behind it. `drops_unread` flushes the terminal if more bytes than these are unread, and returns True if it did.
@@ -62,8 +64,10 @@ class TypedQueue:
         return self.typed + sum(len(part.data) for part in self.parts if isinstance(part, PendingPaste))
 
     def take(self, typed: bytes) -> bool:
-        """Has what was typed wait, a text in the place of its placeholder, and tells whether all of it was kept. A placeholder of a text
-        that isn't known is nothing."""
+        """Queue input, with texts at the positions of their placeholders, and return True if all of it fits.
+
+        The placeholder of an unknown text is dropped.
+        """
         is_kept = True
         for place, part in enumerate(self.placeholders.fed(typed)):
             if place % 2:
@@ -73,13 +77,13 @@ class TypedQueue:
         return is_kept
 
     def place(self, name: str) -> None:
-        """Puts the text of a name here."""
+        """Insert the text of a name here."""
         text = self.texts.placed(name)
         if text:
             self.parts.append(text)
 
     def add(self, typed: bytes) -> bool:
-        """Queue bytes, as far as there is room, and return True if all were kept. An interrupt drops what is unread of texts before it."""
+        """Queue bytes up to the limit, and return True if all fit. An interrupt drops the unread part of earlier texts."""
         if INTERRUPT in typed:
             typed = self.interrupted(typed)
         if not self.parts or not isinstance(self.parts[-1], bytearray):
@@ -127,7 +131,7 @@ class TypedQueue:
                 self.typed -= len(part)
 
     def write(self, end: int) -> None:
-        """Writes what the programs take now; what is gone takes no more."""
+        """Write as much as the programs accept now. If the terminal is gone, drop the rest."""
         part = self.parts[0] if self.parts else bytearray()
         if isinstance(part, PendingPaste) and not (part.has_begun or part.is_over):
             part.begin(bool(self.wants_brackets()))
@@ -153,19 +157,19 @@ class TypedQueue:
             self.is_bracketed = self.is_bracketed or part.is_bracketed
 
     def renew(self) -> None:
-        """Has texts wait longer, since the programs read."""
+        """Extend the wait of texts, since the programs read."""
         for part in self.parts:
             if isinstance(part, PendingPaste):
                 self.texts.renew(part)
 
     def end_first(self) -> None:
-        """Goes on behind what is written whole."""
+        """Continue after the part that is wholly written."""
         part = self.parts.popleft()
         if isinstance(part, PendingPaste):
             self.texts.drop(part)
 
     def clear(self) -> None:
-        """Drops all, since nobody is there any more."""
+        """Drop everything, since the pane is gone."""
         while self.parts:
             self.end_first()
         self.typed, self.placeholders = 0, Placeholders()

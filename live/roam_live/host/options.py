@@ -1,4 +1,4 @@
-"""What a pty host is asked for, and what its commands begin with."""
+"""The options of a pty host, and the environment of its commands."""
 from __future__ import annotations
 
 import os
@@ -8,19 +8,21 @@ from roam_live.common.errors import ASKS_WHY
 from roam_live.session.environment import AGENT, NAMES, PaneEnvironment, agent_in
 from roam_live.session.foreground import PANE
 
-# What tells of another terminal.
+# Variables that describe another terminal.
 FOREIGN = ("COLUMNS", "LINES", "TERMCAP", "TMUX", "TMUX_PANE", "STY", "WINDOWID", "VTE_VERSION", "XTERM_VERSION", "KONSOLE_VERSION",
            "TERM_PROGRAM", "TERM_PROGRAM_VERSION")
 
-# What a pane has whose shell can't be run.
+# The fallback for a pane whose shell fails to run.
 LAST_SHELL = "/bin/sh"
 
 
 class Options:
-    """What a host is asked for, of the panes in a folder: their command, the user's shell where none is named; the server's process,
-    where it is known; whether a command's end closes its pane, and whether another host was there before. Where they are those of a
-    window of a session, its number, and the session's own folder; or whether the folder is that of a session with windows,
-    of which the first one's server is being spawned by who launches it."""
+    """The options of a host for the panes in a folder.
+
+    They are the command, by default the user's shell; the server's process, if known; whether a pane closes with its command; and whether
+    an earlier host had the panes. For a window of a session there is its number, and the session's own folder. Another option marks the
+    folder of a session with windows, whose launcher spawns the first server.
+    """
 
     def __init__(self, *, folder: str, command: list[str] | None = None, server: int | None = None, close: bool = False,
                  again: bool = False, window: int = 0, common: str = "", has_windows: bool = False,
@@ -32,24 +34,24 @@ class Options:
         self.instead = None if command else LAST_SHELL
 
     def of_window(self, window: int, folder: str, server: int, again: bool) -> Options:
-        """The same, of the panes of a window."""
+        """Return the same options for the panes of a window."""
         found = Options(folder=folder, server=server, close=True, again=again, window=window, common=self.common)
         found.command, found.instead = self.command, self.instead
         return found
 
     def named(self, pane: int) -> str:
-        """A pane in words."""
+        """Return a pane's name in words."""
         return f"pane {pane} of window {self.window}" if self.window else f"pane {pane}"
 
 
 def surroundings(asked: Options, pane: int, pane_environment: PaneEnvironment) -> dict[str, str]:
-    """The environment of a pane's command, with what was brought to the session."""
+    """Return the environment of a pane's command, with the values that attaching front ends sent."""
     kept = {name: value for name, value in os.environ.items() if name not in (*FOREIGN, *NAMES, ASKS_WHY)}
     return {**kept, **spawn.names(), **pane_environment.set_values(), AGENT: agent_in(asked.common), PANE: f"{asked.dir}:{pane}"}
 
 
 def entered(folder: str) -> dict[str, str]:
-    """What tells a pane's command of the folder that this process enters for it; nothing where that can't be entered."""
+    """Enter a folder, and return the variables that describe it; nothing if that fails."""
     try:
         os.chdir(folder)
     except OSError:
@@ -58,25 +60,25 @@ def entered(folder: str) -> dict[str, str]:
 
 
 class Spare:
-    """A descriptor that is kept for what has to be had where no other is left."""
+    """A descriptor in reserve, for steps that have to succeed even without a free one."""
 
     def __init__(self) -> None:
         self.end: int | None = None
 
     def free(self) -> None:
-        """Gives it free."""
+        """Release it."""
         if self.end is not None:
             os.close(self.end)
             self.end = None
 
     def keep(self) -> None:
-        """Has it again; OSError where none is to be had."""
+        """Reserve the descriptor again; OSError if that fails."""
         if self.end is None:
             self.end = os.open(os.devnull, os.O_RDONLY)
 
 
 def has_ended(process: int) -> bool:
-    """Whether a process of this tool has ended."""
+    """Return True if a child process of this tool has ended."""
     try:
         return os.waitpid(process, os.WNOHANG)[0] != 0
     except ChildProcessError:

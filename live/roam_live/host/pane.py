@@ -1,4 +1,4 @@
-"""A pane of a session at the pty host: the command on its pseudo-terminal, the pane's socket, and what waits for either."""
+"""A pane of a session at the pty host: the command on its pseudo-terminal, the pane's socket, and the queues for both."""
 from __future__ import annotations
 
 import fcntl
@@ -26,22 +26,22 @@ if TYPE_CHECKING:
     import socket
     from collections.abc import Callable
 
-# How many bytes may wait for a pane; no more of the command's are read then. What waits here and in the socket is what is still shown
-# of a command that has been interrupted, so it is little.
+# Bytes that may wait for a pane; above that the command's output stays unread. The user still sees these bytes and those in the socket
+# after an interrupt, so the limit is low.
 LIMIT = 16384
 SOCKET_LIMIT = 8192
 
-# What was typed before a shell is there again has come once nothing more comes for so many seconds: a client says again what wasn't taken.
+# Input typed before a shell is back has all arrived once nothing comes for so many seconds. A client repeats unaccepted input.
 SETTLES = 0.5
 
 # TIOCGPTPEER (Linux): opens the slave of a pseudo-terminal by its master. Python has no name for it before 3.13.
 OPENS_THEIRS = 0x5441
 
-# So many seconds a server has until it reads what a pane's programs write.
+# Seconds for a server to read the output of a pane's programs.
 READ_WAIT = 3.0
 
-# After a command has ended, its terminal is read until end of file. If another process still holds the terminal, reading stops once it was
-# empty twice, LAST_WAIT seconds apart, or once MOST_LAST bytes were read: a terminal buffers less. If the pane takes nothing now, the
+# After a command has ended, its terminal is read until end of file. If another process still has the terminal open, reading stops once it
+# was empty twice, LAST_WAIT seconds apart, or once MOST_LAST bytes were read: a terminal buffers less. If the pane takes nothing now, the
 # host looks again after LAST_LATER seconds.
 LAST_WAIT = 0.02
 MOST_LAST = 1 << 16
@@ -52,13 +52,13 @@ NOT_RUN = "[not run: {}; a key tries again]\r\n"
 
 
 def say_in(path: str, text: str) -> None:
-    """Says a line in a pane that has no shell: where another is connected there, or nothing can be had for it, it isn't said."""
+    """Print a line in a pane without a shell. Give up if another process is connected there, or no descriptor is free."""
     with suppress(OSError), connected_now(path) as peer:
         peer.send(text.encode("utf-8", "replace"))
 
 
 class PaneCommand:
-    """A pane: its command on a pseudo-terminal, the pane's socket, and what waits for either.
+    """A pane: its command on a pseudo-terminal, the pane's socket, and the queues for both.
 
     It has no socket before it is connected, and no terminal before its command is run.
     """
@@ -72,51 +72,51 @@ class PaneCommand:
         self.is_connected = self.is_told = False
         self.to_pane, self.to_terminal = bytearray(), typed
         typed.drops_unread = self.drops_unread
-        # Whether something that was typed was dropped since its programs had read all.
+        # True if input was dropped since its programs last read all.
         self.is_dropping = False
-        # Bytes read since the command has ended, when the terminal was first found empty, and a last line to show.
+        # The bytes read since the command has ended, the moment when the terminal was first empty, and a last line to show.
         self.last_read, self.empty_at, self.last_words = 0, math.inf, b""
-        # How much was written there, and whether what was typed before another kept the shell may still come.
+        # The number of bytes written there; True while input for an earlier host may still arrive.
         self.written = 0
         self.is_settling = False
-        # When its close is asked for anew.
+        # The moment of the next request to close it.
         self.asked_until = 0.0
-        # True if something was typed or written, or written, since the last look. `touches` is called then, and at the end of a command.
+        # Flags for input or output, and for output, since the last check. `touches` is called then, and at the end of a command.
         self.is_touched = self.has_news = False
         self.touches: Callable[[], object] = lambda: None
-        # What new panes have of those who attached.
+        # The environment that attaching front ends sent, for new panes.
         self.pane_environment = PaneEnvironment()
-        # What has it known what the server told of the panes before it handed out what was typed.
+        # Applies the server's reports on the panes that preceded the input.
         self.follows: Callable[[], object] = lambda: None
-        # What takes all that is written to the pane, for the scrollback rows, and whether it takes more now.
+        # Takes all output of the pane, for the scrollback, and returns True if it accepts more now.
         self.keeps: Callable[[bytes], object] = lambda data: None
         self.hears: Callable[[], bool] = always
-        # Exceptions in callbacks of this pane, and what is called after too many.
+        # Exceptions in callbacks of this pane, and a call after too many.
         self.faults = SoonFaults(loop.clock)
         self.gives_up: Callable[[], object] = lambda: None
 
     def connect(self, look: Callable[[], object]) -> None:
-        """Connects to the pane; a call is for when it can be looked whether the server reads what is written."""
+        """Connect to the pane. A call checks later whether the server reads the output."""
         self.peer = connected_now(self.path)
         self.peer.setsockopt(SOL_SOCKET, SO_SNDBUF, SOCKET_LIMIT)
         self.is_connected = True
-        # What is typed is read whatever waits: a command that doesn't read would stop the server else.
+        # Input is read however much waits. Otherwise a command that does not read would stop the server.
         self.loop.add(self.peer, self.hear, self.write_pane, has_more=lambda: self.to_pane, fails=self.fail, is_told=True)
         self.loop.later(f"look at {self.named}", READ_WAIT, look)
 
     def settle(self) -> None:
-        """Waits until what was typed before has come, and drops it."""
+        """Wait until earlier input has arrived, and drop it."""
         self.is_settling = True
         self.loop.later(f"settle {self.named}", SETTLES, self.settled)
 
     def settled(self) -> None:
-        """Runs the command, since what was typed before has come."""
+        """Run the command, now that earlier input has arrived."""
         self.is_settling = False
         self.show(DROPPED)
         self.run()
 
     def show(self, text: bytes) -> None:
-        """Send output to the pane, at once as far as it takes it, and to the scrollback rows."""
+        """Send output to the pane, at once as far as it accepts it, and to the scrollback."""
         is_first = not self.to_pane
         self.to_pane += text
         self.keeps(text)
@@ -126,13 +126,13 @@ class PaneCommand:
             self.see_to_ends()
 
     def see_to_ends(self) -> None:
-        """Have the loop ask both ends which events they wait for."""
+        """Let the loop ask both ends for the events that they wait for."""
         for end in (self.peer, self.terminal):
             if end is not None:
                 self.loop.changed(end)
 
     def run(self) -> None:
-        """Runs the command; where it can't be spawned a line in the pane says why."""
+        """Run the command. If that fails, print the reason in the pane."""
         try:
             self.state.process, self.terminal = spawn.forked(self.state.size)
         except OSError as fault:
@@ -154,14 +154,14 @@ class PaneCommand:
         return len(self.to_pane) < LIMIT and self.hears()
 
     def resize(self, size: tty.Size) -> None:
-        """Tells the programs a new size."""
+        """Set the programs' terminal to a new size."""
         if size != self.state.size and self.terminal is not None:
             with suppress(OSError):
                 tty.set_size(self.terminal, *size)
         self.state.size = size
 
     def close_terminal(self) -> None:
-        """Closes the terminal, which hangs up the programs that are left there."""
+        """Close the terminal, which hangs up the remaining programs."""
         if self.terminal is not None:
             self.loop.remove(self.terminal)
             os.close(self.terminal)
@@ -169,7 +169,7 @@ class PaneCommand:
         self.to_terminal.clear()
 
     def close_peer(self) -> None:
-        """Closes the connection to the pane, which takes no more."""
+        """Close the connection to the pane, which accepts no more."""
         if self.peer:
             self.loop.remove(self.peer)
             self.peer.close()
@@ -189,44 +189,44 @@ class PaneCommand:
                     self.loop.pause(end)
 
     def give_up(self) -> None:
-        """End the programs after too many failures. The next key starts the command anew."""
+        """End the programs after too many failures. The next key restarts the command."""
         self.end_programs()
         self.to_pane.clear()
         self.state.process, self.state.has_ended = None, False
         self.show(GIVEN_UP)
 
     def hang_up(self) -> None:
-        """Ends the pane's programs, and the connection to the pane."""
+        """End the pane's programs, and the connection to the pane."""
         for what in ("look at", "settle", "close", "last of"):
             self.loop.drop(f"{what} {self.named}")
         self.close_peer()
         self.end_programs()
 
     def end_programs(self) -> None:
-        """Ends the pane's programs."""
+        """End the pane's programs."""
         self.close_terminal()
         if self.state.process is not None and self.runs():
             for number in (signal.SIGHUP, signal.SIGCONT):
-                # A process that has become another user's is hung up by its terminal alone.
+                # A process that now belongs to another user gets only the terminal's hangup.
                 with suppress(OSError):
                     os.kill(self.state.process, number)
 
     def runs(self) -> bool:
-        """Whether its command was spawned, and hasn't ended."""
+        """Return True if its command was spawned and has not ended."""
         return self.state.process is not None and not self.state.has_ended
 
     def running(self) -> list[int]:
-        """Return the process of its command, if that runs."""
+        """Return the process of its command, if it runs."""
         return [self.state.process] if self.state.process is not None and not self.state.has_ended else []
 
     def is_typed_into(self) -> bool:
-        """Return True if a program may read what is typed."""
+        """Return True if a program may read the input."""
         return self.terminal is not None and not self.state.has_ended
 
     def ends(self, words: bytes = b"") -> None:
-        """Note that the command has ended: type nothing more, and read its last output as the pane takes it. `words` are shown behind it.
+        """Record that the command has ended: type nothing more, and read its last output as the pane takes it. `words` are shown after it.
 
-        Processes that it left behind are hung up once that output is read.
+        Remaining processes get a hangup once that output is read.
         """
         self.state.has_ended, self.last_words = True, words
         self.to_terminal.clear()
@@ -236,14 +236,14 @@ class PaneCommand:
             self.read_last()
 
     def read_last(self) -> None:
-        """Read on after the end of the command, if the pane takes more."""
+        """Continue to read after the end of the command, if the pane accepts more."""
         if self.terminal is not None and self.has_room():
             self.hear_terminal()
         elif self.terminal is not None:
             self.loop.later(f"last of {self.named}", LAST_LATER, self.read_last)
 
     def note_last(self, count: int, is_empty: bool) -> None:
-        """Count what was read since the command ended, and close the terminal if that is all."""
+        """Count the bytes read since the command ended, and close the terminal if those are all."""
         now = self.loop.clock()
         self.last_read += count
         self.empty_at = min(self.empty_at, now) if is_empty else self.empty_at
@@ -253,17 +253,17 @@ class PaneCommand:
             self.loop.at(f"last of {self.named}", self.empty_at + LAST_WAIT, self.read_last)
 
     def finish(self) -> None:
-        """Show the last line, behind all output of an ended command."""
+        """Show the last line, after all output of an ended command."""
         self.loop.drop(f"last of {self.named}")
         self.show(self.last_words)
         self.last_words = b""
         self.touches()
 
     def hear(self) -> None:
-        """Takes what was typed. Where no command could be spawned a key tries again."""
+        """Take input. If no command could be spawned, a key tries again."""
         self.follows()
         if not self.peer:
-            # By what was told the pane is gone.
+            # According to the reports, the pane is gone.
             return
         typed = read(self.peer.fileno())
         if typed:
@@ -278,12 +278,12 @@ class PaneCommand:
             self.run()
 
     def touch(self) -> None:
-        """Note that something was typed or written."""
+        """Record input or output."""
         self.is_touched = True
         self.touches()
 
     def hear_terminal(self) -> None:
-        """Takes what the programs wrote, as far as there is room: a program that writes line by line hands out little at once."""
+        """Take the programs' output up to the limit. A program that writes line by line produces little at once."""
         chunks: list[bytes] = []
         room, written = LIMIT - len(self.to_pane), None
         while self.terminal is not None and room > 0:
@@ -300,7 +300,7 @@ class PaneCommand:
             self.note_last(sum(map(len, chunks)), room > 0)
 
     def write_terminal(self) -> None:
-        """Writes what the programs take; what is gone takes no more."""
+        """Write as much as the programs accept. If the terminal is gone, drop the rest."""
         if self.terminal is not None:
             self.to_terminal.write(self.terminal)
             self.is_dropping = self.is_dropping and bool(self.to_terminal)
@@ -308,7 +308,7 @@ class PaneCommand:
                 self.loop.changed(self.terminal)
 
     def write_pane(self) -> None:
-        """Writes what the pane takes now of what waits for it."""
+        """Write as much of the queue as the pane accepts now."""
         waiting = len(self.to_pane)
         if self.peer and waiting and not write(self.peer.fileno(), self.to_pane):
             self.close_peer()
@@ -319,7 +319,7 @@ class PaneCommand:
             self.touches()
 
     def is_unread(self) -> bool:
-        """Whether something was written to the pane, no more than the socket holds, and is there still."""
+        """Return True if output in the pane's socket, no more than it buffers, is still unread."""
         if not self.peer or not 0 < self.written <= 2 * SOCKET_LIMIT:
             return False
         with suppress(OSError):
@@ -328,8 +328,7 @@ class PaneCommand:
         return False
 
     def wait_typed(self, typed: bytes) -> None:
-        """Has what was typed wait for the programs. What they leave unread above a limit is dropped, which is told once until they have
-        read all."""
+        """Queue input for the programs. Beyond the limit it is dropped, which is reported once until they have read all."""
         if not self.to_terminal.take(typed) and not self.is_dropping:
             self.is_dropping = True
             say(f"{self.named}: its program does not read input; above {UNREAD_LIMIT} bytes it is dropped")
@@ -339,13 +338,13 @@ class PaneCommand:
     def drops_unread(self, behind: int) -> bool:
         """Flush the terminal's input if more than `behind` bytes of it are unread, and return True if so.
 
-        The slave is opened for this alone: flushing the master would drop the programs' output.
+        The slave is opened for this alone: a flush of the master would drop the programs' output.
         """
         with suppress(OSError, termios.error):
             assert self.terminal is not None
             theirs = fcntl.ioctl(self.terminal, OPENS_THEIRS, os.O_RDWR | os.O_NOCTTY | os.O_CLOEXEC)
             try:
-                # Polling moves bytes that the kernel still holds back into the input queue.
+                # Polling moves bytes that the kernel still buffers into the input queue.
                 comes(theirs, 0)
                 if struct.unpack("i", fcntl.ioctl(theirs, termios.FIONREAD, bytes(4)))[0] > behind:
                     termios.tcflush(theirs, termios.TCIFLUSH)
@@ -361,11 +360,11 @@ class PaneCommand:
             self.write_terminal()
 
     def in_front(self) -> list[int | None]:
-        """The processes by whose working folder a new pane's is chosen: the first of those in front here, and this pane's command."""
+        """Return the processes whose working folder is the default of a new pane: the first foreground one, and this pane's command."""
         return [group_in_front(self.terminal), self.state.process] if self.terminal is not None else []
 
     def take(self, written: bytes | None) -> None:
-        """Takes what the programs wrote; where none has the terminal any more it is closed."""
+        """Take the programs' output. Once no program has the terminal open, close it."""
         if written == b"":
             self.close_terminal()
             if self.state.has_ended:

@@ -1,4 +1,4 @@
-"""Restores what a cleaner of old files removed of a session with windows: the socket of the pty host, and the notes of its processes.
+"""Restores files that a cleaner of old files removed from a session with windows: the pty host's socket, and the notes of its processes.
 
 Without them the session would run on, but nobody could find it or end it.
 """
@@ -45,13 +45,13 @@ def renew_log(folder: str) -> None:
 
 
 class Mending:
-    """Checks for a pty host with windows whether others can find it."""
+    """Checks that others can find a pty host with windows."""
 
     def __init__(self, windows: Windows) -> None:
         self.windows = windows
         # The build of this process, before roam is upgraded.
         self.build = identity()
-        # The last message about a failure: it isn't repeated.
+        # The last message about a failure, which isn't repeated.
         self.said = ""
 
     def there(self) -> list[HostedWindow]:
@@ -59,7 +59,7 @@ class Mending:
         return [window for window in self.windows.windows.values() if window.host]
 
     def look(self) -> None:
-        """Restore what is missing, unless somebody holds the session's lock, as one who launches something there."""
+        """Restore missing files, unless another process has the session's lock, for example to start one there."""
         if self.windows.common.socket.is_found():
             return
         try:
@@ -70,7 +70,7 @@ class Mending:
                 self.mend(session)
                 self.said = ""
         except BlockingIOError:
-            # The next look tries again.
+            # The next check tries again.
             pass
         except ImportError as fault:
             # The files of roam were removed or replaced.
@@ -85,7 +85,7 @@ class Mending:
             self.windows.common.tell(words)
 
     def mend(self, session: LocalSession) -> None:
-        """Restore everything, under a new name if another session has this one. The caller holds the session's lock."""
+        """Restore everything, under a new name if another session has this one. The caller has the session's lock."""
         common, told = self.windows.asked.common, MENDED
         if self.is_taken(session):
             common = self.move()
@@ -130,7 +130,7 @@ class Mending:
         return common
 
     def note(self, common: str) -> None:
-        """Write the note of this process, and which window was shown last."""
+        """Write the note of this process, and the window used last."""
         asked = self.windows.asked
         command = [] if asked.instead else asked.command
         state = {"version": WINDOWS_VERSION, "command": command, BUILD: self.build, "host": [os.getpid(), begun(os.getpid())]}

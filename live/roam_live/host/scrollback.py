@@ -1,5 +1,7 @@
-"""Keeps the rows that leave the screens of a session's panes, by the scrollback process: what it is handed of each pane, and what is lost
-where it doesn't keep up or ends."""
+"""Stores the rows that scroll off the screens of a session's panes.
+
+It sends each pane's output to the scrollback process, and accounts for rows lost if that process is slow or ends.
+"""
 from __future__ import annotations
 
 from collections import deque
@@ -20,31 +22,31 @@ if TYPE_CHECKING:
 
     from roam_live.common.tty import Size
 
-    # What is called with a snapshot; None where none can be had.
+    # Called with a snapshot; None if there is none.
     Told = Callable[["Snapshot | None"], object]
 
-# So many bytes wait for the scrollback process before no pane is read, until half of them do; and so many seconds a pane isn't read for
-# that.
+# Bytes in the queue of the scrollback process above which no pane is read, until half of them are left; and the most seconds of such a
+# pause.
 QUEUE = 1 << 18
 WAITS = 1.0
 
-# So many seconds the scrollback process has for telling what stands on a screen, and so many questions of that wait for one pane.
+# Seconds for the scrollback process to report a screen, and the number of such requests that may wait for one pane.
 SCREEN_WAIT = 2.0
 MOST_AWAITED = 64
 
-# Bytes held in reserve, freed first if memory is short.
+# Bytes in reserve, freed first if memory is short.
 RESERVED = 1 << 18
 
-# The pauses before the scrollback process is spawned again; one that ran for so many seconds was sound. The same isn't told again for so
-# many.
+# The pauses before the scrollback process is restarted; the run time after which it counts as healthy; and the seconds before the same
+# message is repeated.
 PAUSES = (0.1, 1, 5, 15, 60)
 SOUND = 10.0
 TOLD_FOR = 60.0
 
-# So many seconds the rows of a pane that is gone are kept at most for who writes them down.
+# The rows of an ended pane stay for at most so many seconds, for log readers.
 LAST_WAIT = 10.0
 
-# What shows the other screen (xterm, 1049).
+# The sequence that shows the alternate screen (xterm, 1049).
 SHOWS_OTHER = b"\x1b[?1049h"
 
 BEHIND = "scrollback rows were lost: the scrollback process is too slow"
@@ -53,22 +55,22 @@ SHORT = "scrollback rows were dropped: memory is low"
 NOT_RUN = "no scrollback is stored: {}; tried again"
 
 
-# A session has nine panes a window at most, so that this many numbers are each one's.
+# A window has nine panes at most, so multiples of this keep the numbers of windows apart.
 APART = 10
 
 
 def pane_key(window: int, pane: int) -> int:
-    """The number of a window's pane among the panes of all: itself where a session has one window that has no number."""
+    """Return the number of a window's pane among all panes; the pane itself in a session of one unnumbered window."""
     return window * APART + pane
 
 
 def pane_of_key(key: int) -> tuple[int, int]:
-    """The window, and the pane there, of such a number."""
+    """Return the window, and the pane there, of such a number."""
     return divmod(key, APART)
 
 
 def chosen_rows() -> tuple[int, str]:
-    """How many rows are kept of a pane, by ROAM_HISTORY; and what is wrong with that, where something is: then as many as by default."""
+    """Return the limit of scrollback rows from ROAM_HISTORY, and an error; an invalid value means the default."""
     try:
         return chosen_history(), ""
     except Fault as fault:
@@ -76,24 +78,23 @@ def chosen_rows() -> tuple[int, str]:
 
 
 class PaneScrollback:
-    """A making of a pane: its rows, its size, and the terminal of the scrollback process that stands for it, or -1."""
+    """A generation of a pane: its rows, its size, and its terminal in the scrollback process, or -1."""
 
     def __init__(self, rows: PaneRows, size: Size) -> None:
         self.rows, self.size = rows, size
         self.terminal = -1
-        # Whether something that was written wasn't handed to the scrollback process; and whether rows are lost, and the rows don't say so
-        # yet.
+        # True if some output was not sent to the scrollback process; and True if rows are lost that no row reports yet.
         self.lacks = self.is_cut = False
-        # Who wants to know what stands on its screen; None for one who was told that it can't be had.
+        # The callers that wait for its screen; None for one that was already refused.
         self.awaited: deque[Told | None] = deque()
-        # How many write down the rows that come, who are told its last screen too.
+        # The number of log readers, which get its last screen too.
         self.logs = 0
-        # Whether it is gone, so that the screen that came last is all; and whether its rows are kept no longer.
+        # True once it has ended, so that the last screen completes it; and True once its rows are dropped.
         self.has_last = self.is_gone = False
 
 
 class Scrollback:
-    """All panes' rows, and the scrollback process. A call tells what a person has to know."""
+    """The rows of all panes, and the scrollback process. A call takes messages for the user."""
 
     def __init__(self, loop: Loop, tells: Callable[[str], object], most_rows: int | None = None) -> None:
         self.loop, self.tells = loop, tells
@@ -102,39 +103,38 @@ class Scrollback:
             tells(wrong)
         self.room = RowsRoom(chosen if most_rows is None else most_rows)
         self.panes: dict[int, PaneScrollback] = {}
-        # Panes that are gone, and whose last screen is awaited.
+        # Ended panes whose last screen is awaited.
         self.leaving: list[PaneScrollback] = []
         self.process: ScrollbackProcess | None = None
-        # Whose rows the scrollback process's terminals print, and those that are to be ended once it takes more.
+        # The panes of the scrollback process's terminals, and the terminals to end once it accepts more.
         self.terminals: dict[int, PaneScrollback] = {}
         self.last = -1
         self.ending: list[int] = []
-        # Whether the scrollback process is behind, so that no pane is read; and whether it was for too long, so that what is written is
-        # lost.
+        # True while the scrollback process is behind, so that no pane is read; and True if that took too long, so that output is lost.
         self.is_behind = self.is_losing = False
         self.retry = Retry(PAUSES, SOUND)
         self.is_off = self.room.most_rows == 0
         self.told, self.told_until = "", 0.0
         self.reserve = bytes(RESERVED)
-        # How many write rows down; what is called where rows of a pane came that are, and whether one of those is waited for.
+        # The number of log readers; a call for new rows of a pane with such readers; and a check for a reader to wait for.
         self.logs = 0
         self.logs_came: Callable[[PaneRows], object] = lambda rows: None
         self.waits_for_logs: Callable[[], bool] = lambda: False
         # Called when rows came or a pane is gone, which a peer may want to know; and when panes are read from now on, or no longer.
         self.came: Callable[[], object] = lambda: None
         self.hears_changed: Callable[[], object] = lambda: None
-        # Whether a pane's program is known to show the other screen: no row leaves that, also of a terminal that is new.
+        # Returns True if a pane's program is known to show the alternate screen. No row scrolls off that, even in a new terminal.
         self.is_other: Callable[[int], bool] = lambda number: False
         self.spawn()
 
     # ---- the scrollback process
 
     def words(self) -> list[str]:
-        """The command of the scrollback process."""
+        """Return the command of the scrollback process."""
         return [program(), "rows", "--normalize"]
 
     def spawn(self) -> None:
-        """Has a scrollback process; where none can be had that is tried again."""
+        """Spawn a scrollback process, and retry later if that fails."""
         if self.is_off:
             return
         try:
@@ -146,11 +146,11 @@ class Scrollback:
         self.retry.begins(self.loop.clock())
 
     def spawn_later(self) -> None:
-        """Has another scrollback process after a pause, which grows."""
+        """Spawn another scrollback process after a growing pause."""
         self.loop.later("rows again", self.retry.fails(), self.spawn)
 
     def ended(self, why: str, status: int | None) -> None:
-        """Goes on where the scrollback process ended: what its terminals showed is lost."""
+        """Continue after the end of the scrollback process. The contents of its terminals are lost."""
         self.process = None
         self.loop.drop("rows are behind")
         self.terminals.clear()
@@ -165,13 +165,13 @@ class Scrollback:
             self.spawn_later()
 
     def tell(self, words: str) -> None:
-        """Tells a person something, and the same not again for a while."""
+        """Send the user a message, but not the same again for a while."""
         if words != self.told or self.loop.clock() >= self.told_until:
             self.told, self.told_until = words, self.loop.clock() + TOLD_FOR
             self.tells(words)
 
     def shed(self) -> None:
-        """Drop the older half of all rows if memory is short: they matter least of what the host keeps."""
+        """Drop the older half of all rows if memory is short: they matter least of the host's data."""
         self.reserve = b""
         with suppress(MemoryError):
             self.room.shed()
@@ -179,31 +179,31 @@ class Scrollback:
             self.reserve = bytes(RESERVED)
 
     def hears(self) -> bool:
-        """Whether panes are read now."""
+        """Return True if panes are read now."""
         return not self.is_behind
 
     def reads(self) -> bool:
-        """Whether what the scrollback process prints is read now."""
+        """Return True if the output of the scrollback process is read now."""
         return not (self.logs and self.waits_for_logs())
 
     def has_room(self) -> bool:
-        """Whether the scrollback process takes records beside what is written."""
+        """Return True if the scrollback process accepts records other than output."""
         return self.process is not None and self.process.is_there and not self.is_losing and self.process.size() < 2 * QUEUE
 
     def set_behind(self, is_behind: bool) -> None:
-        """Read panes, or stop, depending on whether the scrollback process keeps up."""
+        """Read panes, or stop, by the state of the scrollback process."""
         if is_behind != self.is_behind:
             self.is_behind = is_behind
             self.hears_changed()
 
     def demand_room(self) -> None:
-        """Has no pane read for a while where too much waits for the scrollback process."""
+        """Pause all panes for a while if too much waits for the scrollback process."""
         if self.process and not self.is_behind and not self.is_losing and self.process.size() >= QUEUE:
             self.set_behind(True)
             self.loop.later("rows are behind", WAITS, self.lose)
 
     def wrote(self) -> None:
-        """Goes on once the scrollback process took enough."""
+        """Continue once the scrollback process has taken enough."""
         size = self.process.size() if self.process else 0
         if self.is_behind and size <= QUEUE // 2:
             self.set_behind(False)
@@ -214,7 +214,7 @@ class Scrollback:
             self.end_terminals()
 
     def lose(self) -> None:
-        """Reads panes again, and hands nothing to the scrollback process until it has taken what waits."""
+        """Read panes again, and send the scrollback process nothing until its queue is empty."""
         self.is_losing = True
         self.set_behind(False)
         self.tell(BEHIND)
@@ -222,12 +222,12 @@ class Scrollback:
     # ---- panes
 
     def begin(self, number: int, generation: int, size: Size) -> None:
-        """Keeps the rows of a new making of a pane."""
+        """Store the rows of a new pane generation."""
         self.drop(number)
         self.panes[number] = PaneScrollback(self.room.pane(number, generation), size)
 
     def resize(self, number: int, size: Size) -> None:
-        """Goes by a new size of a pane."""
+        """Handle a new size of a pane."""
         pane = self.panes.get(number)
         if pane and pane.size != size:
             pane.size = size
@@ -237,7 +237,7 @@ class Scrollback:
                 self.cut(pane)
 
     def feed(self, number: int, data: bytes) -> None:
-        """Takes what was written to a pane."""
+        """Take the output of a pane."""
         pane = self.panes.get(number)
         if self.is_off or not pane or not data:
             return
@@ -253,7 +253,7 @@ class Scrollback:
         self.demand_room()
 
     def demand_terminal(self, pane: PaneScrollback) -> None:
-        """Has the scrollback process have a terminal for a pane; where something of it is lost it is another than before."""
+        """Give a pane a terminal in the scrollback process; a new one if output for the old one was lost."""
         if not self.process or pane.terminal >= 0 and not pane.lacks:
             return
         self.cut(pane)
@@ -265,28 +265,28 @@ class Scrollback:
             self.process.add_bytes(self.last, SHOWS_OTHER)
 
     def cut(self, pane: PaneScrollback) -> None:
-        """Has a pane's terminal count no more, where it has one: of what was written there something isn't known."""
+        """Detach a pane from its terminal, if any, because some of its output is missing there."""
         pane.is_cut = pane.is_cut or pane.lacks or pane.terminal >= 0
         pane.lacks = False
         self.end_terminal(pane)
         self.answer_all(pane)
 
     def end_terminal(self, pane: PaneScrollback) -> None:
-        """Ends the terminal of a pane; what it printed may still come."""
+        """End the terminal of a pane. Earlier output of it may still come."""
         if pane.terminal >= 0 and self.process:
             self.ending.append(pane.terminal)
             self.end_terminals()
         pane.terminal = -1
 
     def end_terminals(self) -> None:
-        """Tells the scrollback process which terminals end, where that isn't more than it takes."""
+        """Send the scrollback process the terminals to end, if it accepts that much."""
         if self.process and self.has_room():
             for terminal in self.ending:
                 self.process.add(f"gone {terminal}")
             self.ending.clear()
 
     def drop(self, number: int) -> None:
-        """Keeps the rows of a pane no longer; who writes them down has its last screen before that."""
+        """Drop the rows of a pane, after log readers have got its last screen."""
         if number not in self.panes:
             return
         pane = self.panes.pop(number)
@@ -297,7 +297,7 @@ class Scrollback:
             self.forget(pane)
 
     def take_last(self, pane: PaneScrollback, snapshot: Snapshot | None) -> None:
-        """Takes the last screen of a pane that is gone, without the blank rows at its end."""
+        """Store the last screen of an ended pane, without the blank rows at its end."""
         if snapshot:
             rows = snapshot.screen.data.rstrip(b" \n").split(b"\n") if snapshot.screen.data.strip() else []
             self.room.release(snapshot)
@@ -308,12 +308,12 @@ class Scrollback:
         self.unlogged(pane)
 
     def unlogged(self, pane: PaneScrollback) -> None:
-        """Keeps nothing more of a pane that is gone, once nobody writes its rows down any more."""
+        """Drop an ended pane once it has no log readers."""
         if pane.has_last and not pane.logs:
             self.forget(pane)
 
     def forget(self, pane: PaneScrollback) -> None:
-        """Keeps nothing more of a pane that is gone."""
+        """Drop an ended pane."""
         if pane.is_gone:
             return
         pane.is_gone = True
@@ -325,10 +325,10 @@ class Scrollback:
         self.room.drop(pane.rows)
         self.came()
 
-    # ---- what the scrollback process prints
+    # ---- output of the scrollback process
 
     def take(self, record: ScrollbackRecord) -> None:
-        """Takes what it printed of a terminal."""
+        """Take a record about a terminal."""
         pane = self.terminals.get(record.terminal)
         if not pane or pane.is_gone:
             return
@@ -352,17 +352,17 @@ class Scrollback:
             self.logs_came(pane.rows)
 
     def add_rows(self, rows: PaneRows, record: ScrollbackRecord) -> None:
-        """Keep rows. If memory is short, older ones are dropped and these are lost."""
+        """Store rows. If memory is short, older ones are dropped and these are lost."""
         try:
             rows.add(record.count, record.data)
         except MemoryError:
             self.shed()
             rows.lose(record.count)
 
-    # ---- what is asked
+    # ---- requests
 
     def pane(self, number: int, generation: int) -> PaneScrollback | None:
-        """A making of a pane, where its rows are kept."""
+        """Return a generation of a pane, if its rows are still stored."""
         found = [self.panes[number]] if number in self.panes else []
         found += [pane for pane in self.leaving if pane.rows.pane == number]
         pane = next((pane for pane in found if pane.rows.generation == generation and not self.is_off), None)
@@ -371,8 +371,7 @@ class Scrollback:
         return pane
 
     def ask_snapshot(self, number: int, generation: int, told: Told) -> None:
-        """Asks for a snapshot, which is told once the scrollback process has told what stands on the screen; None where it can't be had
-        soon."""
+        """Request a snapshot. It comes once the scrollback process has reported the screen; None if that fails."""
         pane = self.pane(number, generation)
         if pane and self.has_room() and len(pane.awaited) < MOST_AWAITED:
             self.ask_screen(pane, told)
@@ -380,7 +379,7 @@ class Scrollback:
             told(None)
 
     def ask_screen(self, pane: PaneScrollback, told: Told) -> None:
-        """Asks the scrollback process, which has room, what stands on a screen."""
+        """Request a screen from the scrollback process, which has room."""
         self.demand_terminal(pane)
         pane.awaited.append(told)
         if self.process:
@@ -390,8 +389,7 @@ class Scrollback:
             self.loop.later(name, SCREEN_WAIT, lambda: self.tell_none(pane))
 
     def tell_none(self, pane: PaneScrollback) -> None:
-        """Tells all who wait for what stands on a screen that it can't be had. What the scrollback process tells of it later answers
-        nobody."""
+        """Answer None to all callers that wait for a screen. A later report of that screen answers nobody."""
         waited = list(pane.awaited)
         pane.awaited = deque([None] * len(waited))
         for told in waited:
@@ -399,19 +397,19 @@ class Scrollback:
                 told(None)
 
     def answer_all(self, pane: PaneScrollback) -> None:
-        """The same, where the scrollback process tells nothing of it later."""
+        """Do the same if the scrollback process will not report that screen later."""
         self.loop.drop(f"screen of {id(pane)}")
         self.tell_none(pane)
         pane.awaited.clear()
 
     def close(self) -> None:
-        """Ends the scrollback process, by the end of its input."""
+        """End the scrollback process by closing its input."""
         self.is_off = True
         if self.process:
             self.process.end("the session ends")
 
 
 def allowed(size: Size) -> Size:
-    """The size of the scrollback process's terminal for a pane of a size."""
+    """Return the size of the scrollback process's terminal for a pane's size."""
     rows, cols = (min(max(one, least), most) for one, least, most in zip(size, LEAST_SIZE, MOST_SIZE))
     return rows, cols

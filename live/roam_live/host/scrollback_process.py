@@ -1,4 +1,4 @@
-"""The scrollback process, a process of the program: it is handed what programs write, and prints each row that leaves a screen."""
+"""The scrollback process, a process of the program: it reads the output of programs, and prints each scrolled-off row."""
 from __future__ import annotations
 
 import fcntl
@@ -16,42 +16,42 @@ TYPE_CHECKING = False
 if TYPE_CHECKING:
     from collections.abc import Callable
 
-# No terminal of the scrollback process has another size than one from the first to the second of these.
+# The smallest and largest sizes of its terminals.
 LEAST_SIZE, MOST_SIZE = (2, 4), (200, 500)
 
-# Terminals have the numbers below this.
+# Terminal numbers are below this.
 MOST_TERMINALS = 1024
 
-# What it prints: rows, that some are lost, that what is kept counts no more, and the rows of a screen. No other record is one, none has
-# more bytes, and no line that begins one has so many.
+# The words of its records: rows, lost rows, cleared rows, and the rows of a screen. There are no other records. Then the most bytes of a
+# record, and of the line that begins one.
 ROWS, LOST, CLEARED, SCREEN = "rows", "lost", "cleared", "screen"
 WORDS = {ROWS: 4, LOST: 3, CLEARED: 2, SCREEN: 4}
 MOST_RECORD = 1 << 24
 LONGEST_LINE = 64
 
-# So much of what it says of its own end is told.
+# This much of its last message is reported.
 MOST_SAID = 200
 
-# What was written goes to it once there is so much of it, or it waited for so many seconds, or something is asked: each record costs.
+# Output goes to it in batches of this size, after so many seconds, or before a request, since each record has a cost.
 BATCH = 1 << 14
 GATHERS = 0.01
 
-# A pipe to it and from it holds so many bytes, and one for its words so many, where the system allows that; and the call of Linux that
-# says so, F_SETPIPE_SZ, which Python names from 3.10 on.
+# The sizes of its pipes, and of the one for its messages, as far as the system allows; and F_SETPIPE_SZ of Linux, which Python names from
+# 3.10 on.
 PIPE_SIZE, SAID_SIZE = 1 << 20, 1 << 12
 SETS_SIZE = 1031
 
-# It prints no more: so many seconds it has for ending then, and so often it is looked whether it did.
+# Seconds for it to end after its output has ended, and seconds between checks.
 ENDS = 1.0
 REAPS = 0.05
 
 
 class BadRecord(Exception):
-    """What the scrollback process printed is no record."""
+    """An invalid record of the scrollback process."""
 
 
 class ScrollbackRecord(NamedFields):
-    """What the scrollback process prints of a terminal: how many rows, and their bytes."""
+    """A record about a terminal: the number of rows, and their bytes."""
 
     word: str
     terminal: int
@@ -60,7 +60,7 @@ class ScrollbackRecord(NamedFields):
 
 
 def head_of(line: bytes) -> tuple[str, int, int, int]:
-    """What the line that begins a record says: its word, the terminal, how many rows, and how many bytes follow."""
+    """Return the word, the terminal, and the counts of rows and bytes in a record's first line."""
     word, *rest = line.decode("ascii", "replace").split(" ")
     if len(rest) + 1 != WORDS.get(word) or not all(one.isascii() and one.isdigit() and len(one) <= 15 for one in rest):
         raise BadRecord("it printed an invalid record")
@@ -71,10 +71,10 @@ def head_of(line: bytes) -> tuple[str, int, int, int]:
 
 
 class ScrollbackRecords:
-    """Takes apart what the scrollback process prints."""
+    """Splits the output of the scrollback process into records."""
 
     def __init__(self) -> None:
-        # The beginning of a line; or a record's head, what came of its bytes, and how many are missing.
+        # The start of a line; or a record's head, the bytes so far, and the number of missing ones.
         self.rest = b""
         self.head = "", 0, 0
         self.parts: list[bytes] = []
@@ -121,7 +121,7 @@ class ScrollbackRecords:
         return found
 
     def made(self, data: bytes) -> ScrollbackRecord:
-        """A record with its bytes, which have as many rows as it says."""
+        """Return a record with its bytes, which have as many rows as it claims."""
         record = ScrollbackRecord(*self.head, data)
         if record.word in (ROWS, SCREEN) and (data.count(b"\n") != record.count or data[-1:] not in (b"", b"\n")):
             raise BadRecord("it printed a wrong number of rows")
@@ -129,14 +129,14 @@ class ScrollbackRecords:
 
 
 def spawned(words: list[str]) -> tuple[int, list[int]]:
-    """A process with these words, and the ends of its standard input, output and error; OSError where it can't be."""
+    """Spawn a process, and return its pid and the pipes of its standard input, output and error; OSError if that fails."""
     ends: list[int] = []
     try:
         for _ in range(3):
             ends += os.pipe2(os.O_CLOEXEC)
         (its_input, to_it), (from_it, its_output), (said, its_error) = ends[:2], ends[2:4], ends[4:]
         actions = [(os.POSIX_SPAWN_DUP2, end, number) for number, end in enumerate((its_input, its_output, its_error))]
-        # By the variable programs are known that run in a pane, also of another session, in which this one was begun.
+        # This variable marks programs in a pane, even of another session in which this one was started.
         known = {name: value for name, value in os.environ.items() if name != PANE}
         process = os.posix_spawn(words[0], words, known, file_actions=actions, setsigdef=[signal.SIGPIPE])
     except OSError:
@@ -153,9 +153,11 @@ def spawned(words: list[str]) -> tuple[int, list[int]]:
 
 
 class ScrollbackProcess:
-    """One process of the scrollback process: records to it, which wait here, and from it. A call takes each record, one is for what waits
-    having become less, and one for its end, with why and its status, None where that isn't known. What it prints is read while a call says
-    so; one has memory be free where that is short."""
+    """A running scrollback process, with a queue of records to it and a reader of those from it.
+
+    Calls take each record, report a shorter queue, and report its end, with the reason and its status, None if unknown. Another call pauses
+    reading, and one frees memory if it is short.
+    """
 
     def __init__(self, loop: Loop, words: list[str], takes: Callable[[ScrollbackRecord], object], wrote: Callable[[], object],
                  ended: Callable[[str, int | None], object], reads: Callable[[], bool] = always,
@@ -164,42 +166,42 @@ class ScrollbackProcess:
         self.process, (self.input, self.output, self.error) = spawned(words)
         self.records = ScrollbackRecords()
         self.waiting = bytearray()
-        # What was written for one terminal since the last record of another: it goes as one record.
+        # The output for one terminal since the last record of another. It becomes one record.
         self.terminal = -1
         self.chunks: list[bytes] = []
         self.chunks_size = 0
-        # Whether what waits goes now.
+        # True if the queue is to be sent now.
         self.is_due = False
-        # Whether it takes records, and prints them; why it was ended.
+        # True while it accepts and prints records; the reason for its end.
         self.is_there = True
         self.why = ""
         loop.add(self.input, None, self.write, has_more=self.has_batch, fails=self.fail, is_told=True)
         loop.add(self.output, self.hear, hears=reads, fails=self.fail)
 
     def size(self) -> int:
-        """How many bytes wait for it."""
+        """Return the number of bytes that wait for it."""
         return len(self.waiting) + self.chunks_size
 
     def has_batch(self) -> bool:
-        """Whether something goes to it now."""
+        """Return True if there is something to send now."""
         return self.is_due or self.size() >= BATCH
 
     def hand(self) -> None:
-        """Has what waits go now."""
+        """Send the queue now."""
         self.is_due = self.is_there and self.size() > 0
         self.loop.changed(self.input)
 
     # ---- records to it
 
     def add(self, line: str) -> None:
-        """Has a record wait for it, which goes now."""
+        """Queue a record, and send it now."""
         self.join()
         self.is_due = True
         self.waiting += f"{line}\n".encode()
         self.loop.changed(self.input)
 
     def add_bytes(self, terminal: int, data: bytes) -> None:
-        """Has what was written for a terminal wait for it."""
+        """Queue the output for a terminal."""
         if terminal != self.terminal:
             self.join()
             self.terminal = terminal
@@ -211,7 +213,7 @@ class ScrollbackProcess:
             self.loop.changed(self.input)
 
     def join(self) -> None:
-        """Makes one record of what was written for one terminal."""
+        """Turn the output for one terminal into one record."""
         if self.chunks:
             try:
                 self.join_chunks()
@@ -227,7 +229,7 @@ class ScrollbackProcess:
         self.chunks, self.chunks_size = [], 0
 
     def write(self) -> None:
-        """Writes what it takes; where it takes nothing more its end is soon told."""
+        """Write as much as it accepts. If it accepts nothing more, its end follows soon."""
         self.join()
         if not write(self.input, self.waiting):
             self.end("it stopped reading")
@@ -237,7 +239,7 @@ class ScrollbackProcess:
     # ---- records from it
 
     def hear(self) -> None:
-        """Takes what it printed."""
+        """Read its output."""
         chunk = read(self.output)
         if chunk is None:
             return
@@ -263,7 +265,7 @@ class ScrollbackProcess:
     # ---- its end
 
     def end(self, why: str) -> None:
-        """Takes and hands out nothing more; it is ended where it doesn't end by itself."""
+        """Stop both directions, and end it if it does not end by itself."""
         if not self.is_there:
             return
         self.is_there, self.why = False, why
@@ -281,19 +283,19 @@ class ScrollbackProcess:
         self.kill("memory is low" if isinstance(fault, MemoryError) else "an internal error")
 
     def kill(self, why: str) -> None:
-        """Ends it, since it can't be gone on with."""
+        """Kill it, since it is unusable."""
         if self.is_there:
             self.end(why)
             self.signal_kill()
 
     def signal_kill(self) -> None:
-        """Has the system end it, while it is there."""
+        """Kill it if it still runs."""
         if self.process:
             with suppress(OSError):
                 os.kill(self.process, signal.SIGKILL)
 
     def reap(self) -> None:
-        """Takes note of its end as soon as the system does, which a call is told, with what it said of that."""
+        """Record its end as soon as the system reports it, and report it by a call, with its last message."""
         try:
             process, status = os.waitpid(self.process, os.WNOHANG)
         except ChildProcessError:

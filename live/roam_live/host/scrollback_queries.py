@@ -1,4 +1,4 @@
-"""What is answered at the host's socket `host` of the scrollback rows of panes."""
+"""The requests about the scrollback rows of panes at the socket `host`."""
 from __future__ import annotations
 
 from roam_live.common.text import decimal_in
@@ -12,52 +12,54 @@ TYPE_CHECKING = False
 if TYPE_CHECKING:
     from collections.abc import Callable
 
-# So many seconds are spent at once on what is looked for, and so many pass between two lines that tell how many rows came.
+# Seconds of one step of a search, and seconds between two reports of new rows.
 SEARCHES = 0.01
 TELLS_MORE = 0.5
 
-# Which way a text is looked for.
+# The directions of a search.
 WAYS = {BACK: True, ON: False}
 
 
 def numbers_in(words: list[str]) -> list[int] | None:
-    """The numbers that words are, of which the first is that of a pane; None where they aren't."""
+    """Return these words as numbers, the first one that of a pane; None if they are invalid."""
     numbers = [number for number in (decimal_in(word, MOST_NUMBER) for word in words) if number is not None]
     return numbers if numbers and len(numbers) == len(words) and 1 <= numbers[0] <= MOST_PANES else None
 
 
 class RowAsker:
-    """One who asks for rows: its snapshot, what is looked for, and which rows it writes down. A call answers it, one tells it a line that
-    it didn't ask for, and one is for an answer that came later than the question, behind which its next question is taken."""
+    """A peer that requests rows: its snapshot, its search, and the pane that it logs.
+
+    One call answers it, and one sends it an unrequested line. Another is for a delayed answer, after which its next request is read.
+    """
 
     def __init__(self, scrollback: Scrollback, answer: Callable[[bytes], object], tells: Callable[[str], object],
                  goes_on: Callable[[], object]) -> None:
         self.scrollback, self.answer, self.tells, self.goes_on = scrollback, answer, tells, goes_on
-        # The window whose panes are meant by the last question, and the number by which it was named there.
+        # The window of the last request, and the number by which the request named it.
         self.window = self.said = 0
         self.snapshot: Snapshot | None = None
-        # How many rows are known to have come since, and when that may be told again.
+        # The reported number of new rows, and the earliest moment of the next such report.
         self.more, self.more_due = 0, 0.0
-        # Whether a snapshot is awaited, of which question; what is looked for, and what its answer begins with.
+        # The number of the request that waits for a snapshot; the current search, and the start of its answer.
         self.awaited = 0
         self.is_asking = False
         self.search: Search | None = None
         self.found_begin = ""
-        # The pane whose rows it writes down as they come, and the next of them.
+        # The pane whose rows it logs, and its next row.
         self.logged: PaneScrollback | None = None
         self.next_row = 0
-        # Whether it was waited for, and is waited for no more until it has all.
+        # True if its wait is over, and no other begins until it has read everything.
         self.is_late = False
         self.is_closed = False
 
     def waits(self) -> bool:
-        """Whether a question isn't answered yet: the next one is taken behind that."""
+        """Return True if a request is unanswered: the next one is read after it."""
         return bool(self.awaited) or self.search is not None
 
-    # ---- questions
+    # ---- requests
 
     def take(self, line: str, window: int = 0, said: int = 0) -> bool:
-        """Take a line about the panes of a window, and return True if it is one of these."""
+        """Take a line about the panes of a window, and return True if it is valid here."""
         self.window, self.said = window, said
         word, *words = line.split(" ")
         if word == FIND:
@@ -72,7 +74,7 @@ class RowAsker:
         return True
 
     def say(self, line: str, data: bytes = b"", said: int | None = None) -> None:
-        """Answer with a line, about the window of the last question or another, and bytes behind it."""
+        """Answer with a line and data after it, about the window of the last request or another."""
         self.answer(f"{led(self.said if said is None else said, line)}\n".encode() + data)
 
     def said_of(self, key: int) -> int:
@@ -80,11 +82,11 @@ class RowAsker:
         return pane_of_key(key)[0] if self.said else 0
 
     def key(self, pane: int) -> int:
-        """The number of a pane among those of all windows."""
+        """Return the number of a pane among those of all windows."""
         return pane_key(self.window, pane)
 
     def range(self, pane: int, generation: int) -> ScrollbackRange | None:
-        """The rows that are meant: those of the snapshot that is held, else those that are kept now."""
+        """Return the rows of a request: those of the peer's snapshot, else the stored ones."""
         held = self.snapshot
         if held and (held.pane, held.generation) == (self.key(pane), generation):
             return None if held.is_lost else held
@@ -92,12 +94,12 @@ class RowAsker:
         return pane_scrollback.rows.range() if pane_scrollback else None
 
     def count(self, pane: int, generation: int) -> None:
-        """Tells the numbers of the rows."""
+        """Send the numbers of the rows."""
         among = self.range(pane, generation)
         self.say(f"{COUNT} {pane} {generation} {among.first} {among.end}" if among else f"{COUNT} {pane} {generation} {NONE}")
 
     def rows(self, pane: int, generation: int, first: int, count: int) -> None:
-        """Tells rows."""
+        """Send rows."""
         among = self.range(pane, generation)
         if among:
             self.say_rows(pane, generation, *among.rows(first, count))
@@ -105,12 +107,12 @@ class RowAsker:
             self.say(f"{ROWS} {pane} {generation} {NONE}")
 
     def say_rows(self, pane: int, generation: int, first: int, found: list[bytes], said: int | None = None) -> None:
-        """Answers with rows."""
+        """Answer with rows."""
         data = b"".join([row + b"\n" for row in found])
         self.say(f"{ROWS} {pane} {generation} {first} {len(found)} {len(data)}", data, said)
 
     def find(self, words: list[str]) -> bool:
-        """Looks for a text, which is told later; whether these are such words."""
+        """Start a search, whose result follows later; return False if the words are invalid."""
         numbers = numbers_in(words[:3]) if len(words) == 5 and words[3] in WAYS and words[4] else None
         if not numbers:
             return False
@@ -124,14 +126,14 @@ class RowAsker:
         return True
 
     def ask_snapshot(self, pane: int, generation: int) -> None:
-        """Asks for a snapshot, which is told once it is there; it takes the place of another."""
+        """Request a snapshot, which follows later and replaces the earlier one."""
         self.let_go()
         self.awaited, self.is_asking = self.awaited + 1, True
         self.scrollback.ask_snapshot(self.key(pane), generation, lambda snapshot: self.take_snapshot(pane, generation, snapshot))
         self.is_asking = False
 
     def take_snapshot(self, pane: int, generation: int, snapshot: Snapshot | None) -> None:
-        """Answers with a snapshot."""
+        """Answer with a snapshot."""
         if self.is_closed:
             if snapshot:
                 self.scrollback.room.release(snapshot)
@@ -148,18 +150,18 @@ class RowAsker:
             self.goes_on()
 
     def release(self, pane: int, generation: int) -> None:
-        """Lets a snapshot go."""
+        """Release a snapshot."""
         if self.snapshot and (self.snapshot.pane, self.snapshot.generation) == (self.key(pane), generation):
             self.let_go()
 
     def let_go(self) -> None:
-        """Lets go of the snapshot that is held."""
+        """Release the snapshot."""
         if self.snapshot:
             self.scrollback.room.release(self.snapshot)
             self.snapshot = None
 
     def log(self, pane: int, generation: int, first: int) -> None:
-        """Tells each row from a number on as it comes, until the pane is gone; the last screen too then."""
+        """Send each row from a number on as it comes, until the pane ends, and then the last screen."""
         self.unlog()
         self.logged = self.scrollback.pane(self.key(pane), generation)
         if self.logged:
@@ -170,22 +172,22 @@ class RowAsker:
             self.say(f"{LOG} {pane} {generation} {NONE}")
 
     def unlog(self) -> None:
-        """Tells no more rows as they come."""
+        """Stop sending rows as they come."""
         if self.logged:
             logged, self.logged = self.logged, None
             logged.logs -= 1
             self.scrollback.logs -= 1
             self.scrollback.unlogged(logged)
 
-    # ---- what is told later
+    # ---- delayed answers
 
     def turn(self, now: float, has_room: bool) -> float | None:
-        """Goes on with what isn't told yet; has the moment by which it has to be called again, or None."""
+        """Continue with delayed answers, and return the moment of the next call, or None."""
         dues = [self.go_on_search(now), self.tell_more(now), now if has_room and self.tell_logged() else None]
         return min((due for due in dues if due is not None), default=None)
 
     def go_on_search(self, now: float) -> float | None:
-        """Looks through what is to be looked through, for a while."""
+        """Continue the search for a while."""
         search, clock = self.search, self.scrollback.loop.clock
         if not search:
             return None
@@ -199,7 +201,7 @@ class RowAsker:
         return None
 
     def tell_more(self, now: float) -> float | None:
-        """Tells how many rows came since the snapshot, where that is another number than was told."""
+        """Report the number of rows since the snapshot if it has changed."""
         held = self.snapshot
         pane_scrollback = self.scrollback.pane(held.pane, held.generation) if held else None
         if not held or not pane_scrollback or pane_scrollback.rows.end - held.scrollback_end == self.more:
@@ -211,7 +213,7 @@ class RowAsker:
         return None
 
     def tell_logged(self) -> bool:
-        """Tells rows that are written down, as far as they came, and tells whether there were any."""
+        """Send the rows that a log reader lacks, and return True if there were any."""
         logged = self.logged
         if not logged:
             return False
@@ -228,7 +230,7 @@ class RowAsker:
         return False
 
     def close(self) -> None:
-        """Asks no more."""
+        """End all requests."""
         self.is_closed = True
         self.search = None
         self.unlog()

@@ -1,7 +1,7 @@
-"""Rows scrolled off the screens of panes, as the scrollback process printed them: chunks, which are split into rows only where those are
-asked for, the newest of each pane, and no more than a limit in all.
+"""Rows scrolled off the screens of panes: the newest of each pane, up to a common limit.
 
-Chunks are append-only: their bytes only become more, and no row is changed. As bytes each has a header that tells whose rows follow.
+They are stored in the chunks that the scrollback process printed, and split into rows only on request. Chunks are append-only: their bytes
+only become more, and no row is changed. As bytes each has a header with the pane of its rows.
 """
 from __future__ import annotations
 
@@ -15,22 +15,22 @@ TYPE_CHECKING = False
 if TYPE_CHECKING:
     from collections.abc import Iterable, Iterator
 
-# So many bytes all chunks of a session have, with what is counted for each beside its bytes, those of snapshots too, and these alone. The
-# process grows by 64 MB for them at most: what is free between them is more than what is counted beside each.
+# Limits of all chunks of a session, with an overhead for each, including snapshots; and of snapshots alone. The process grows by at most 64
+# MB for them, because memory fragmentation exceeds the counted overhead.
 MOST_KEPT = 56 << 20
 MOST_HELD = 24 << 20
 BESIDE = 256
 
-# What comes is joined to the last chunk while that is shorter.
+# New rows join the last chunk while it is shorter than this.
 JOINED = 8192
 
-# What stands in the place of rows that are lost.
+# The text in place of lost rows.
 LOST_ROWS = " [{} rows were lost here]\n"
 LOST_SOME = " [rows were lost here]\n"
 
 
-# The header of a chunk as bytes: magic and version; the pane and its generation; the number of the first row; how many rows and bytes
-# follow; and the CRC-32 of all that and of these bytes.
+# The header of a chunk as bytes: magic and version; the pane and its generation; the number of the first row; and the counts of rows and
+# bytes. A CRC-32 of all that and of these bytes follows.
 HEADER = struct.Struct(">4sHQQIII")
 MAGIC = b"RSC1"
 
@@ -42,7 +42,7 @@ def packed(pane: int, generation: int, chunk: Chunk) -> bytes:
 
 
 def unpacked(data: bytes, at: int) -> tuple[int, int, Chunk] | None:
-    """Return the pane, the generation and the rows of the chunk at a place of some bytes; None if none is there, or one that was torn."""
+    """Return the pane, the generation and the rows of the chunk at a position in these bytes; None if there is none, or a torn one."""
     if len(data) < at + HEADER.size:
         return None
     magic, pane, generation, first, count, length, check = HEADER.unpack_from(data, at)
@@ -52,8 +52,10 @@ def unpacked(data: bytes, at: int) -> tuple[int, int, Chunk] | None:
 
 
 class Chunk:
-    """Rows that were printed at once: the number of the first, how many there are, their bytes, and its place among all chunks of a
-    session; by how many snapshots it is held, and whether it is kept without them."""
+    """Rows that were printed at once: the first number, the count, their bytes, and a position among all chunks of a session.
+
+    It also has the number of snapshots that use it, and a flag for use outside them.
+    """
 
     __slots__ = ("first", "count", "data", "place", "holders", "is_kept")
 
@@ -62,23 +64,22 @@ class Chunk:
         self.holders, self.is_kept = 0, True
 
     def end(self) -> int:
-        """The number behind that of its last row."""
+        """Return the number after that of its last row."""
         return self.first + self.count
 
     def charge(self) -> int:
-        """What is counted for it."""
+        """Return its size for the limits."""
         return len(self.data) + BESIDE
 
 
 class ScrollbackRange:
-    """Rows that can be asked for: the numbers of the first and of that behind the last, and the chunks that hold them, in order."""
+    """A range of rows: the first number and the end, exclusive, and their chunks in order."""
 
     def __init__(self, first: int, end: int, chunks: Iterable[Chunk]) -> None:
         self.first, self.end, self.chunks = first, end, list(chunks)
 
     def rows(self, first: int, count: int, most_rows: int = MOST_ROWS, most_bytes: int = MOST_ROW_BYTES) -> tuple[int, list[bytes]]:
-        """The rows from a number on, as far as they are there, each without its LF: no more than may be handed out at once; and the number
-        of the first of them."""
+        """Return the number of the first available row from `first` on, and rows from there, each without its LF, up to the limits."""
         first = min(max(first, self.first), self.end)
         end, size = min(first + min(count, most_rows), self.end), 0
         found: list[bytes] = []
@@ -96,27 +97,27 @@ class ScrollbackRange:
 
 
 class Snapshot(ScrollbackRange):
-    """A pane's rows at one moment: those that were kept, and those of its screen behind them."""
+    """A pane's rows at one moment: the scrollback rows, and those of its screen after them."""
 
     def __init__(self, pane_rows: PaneRows, screen: Chunk) -> None:
         super().__init__(pane_rows.first, pane_rows.end + screen.count, [*pane_rows.chunks, screen])
         self.pane, self.generation, self.scrollback_end, self.screen = pane_rows.pane, pane_rows.generation, pane_rows.end, screen
-        # Whether it was dropped, since snapshots held too much.
+        # True if it was dropped because snapshots were too large.
         self.is_lost = False
 
 
 class PaneRows:
-    """The scrollback rows of one making of a pane."""
+    """The scrollback rows of one pane generation."""
 
     def __init__(self, pane: int, generation: int, room: RowsRoom) -> None:
         self.pane, self.generation, self.room = pane, generation, room
         self.first = self.end = 0
         self.chunks: deque[Chunk] = deque()
-        # How many rows are lost behind the last one, which no row tells yet; None if that is unknown.
+        # The number of lost rows after the last one that no row reports yet; None if unknown.
         self.lost: int | None = 0
 
     def add(self, count: int, data: bytes) -> None:
-        """Keeps rows that came."""
+        """Store new rows."""
         self.settle()
         self.put(count, data)
 
@@ -134,11 +135,11 @@ class PaneRows:
         self.keep_last()
 
     def lose(self, count: int | None) -> None:
-        """Note that rows are lost here, so many if that is known."""
+        """Record that rows are lost here, with their number if known."""
         self.lost = None if count is None or self.lost is None else self.lost + count
 
     def settle(self) -> None:
-        """Append the row that tells how many rows are lost, if any are: one for all until others follow, or somebody looks."""
+        """Append a row that reports the lost rows, if any: one for all of them, before others follow or somebody reads."""
         lost, self.lost = self.lost, 0
         if lost != 0:
             self.put(1, (LOST_SOME if lost is None else LOST_ROWS.format(lost)).encode())
@@ -150,31 +151,31 @@ class PaneRows:
             yield packed(self.pane, self.generation, chunk)
 
     def keep_last(self) -> None:
-        """Keeps no more rows than may be, the last ones, and no more bytes in all."""
+        """Drop the oldest rows above the limits of rows and of bytes in all."""
         self.first = max(self.first, self.end - self.room.most_rows)
         while self.chunks and self.chunks[0].end() <= self.first:
             self.drop_chunk()
         self.room.keep_most()
 
     def drop_chunk(self) -> None:
-        """Keeps the oldest chunk no longer."""
+        """Drop the oldest chunk."""
         chunk = self.chunks.popleft()
         self.first = max(self.first, chunk.end())
         self.room.let_go(chunk)
 
     def clear(self) -> None:
-        """Keeps none of the rows that came so far."""
+        """Drop all rows so far."""
         while self.chunks:
             self.drop_chunk()
         self.first, self.lost = self.end, 0
 
     def range(self) -> ScrollbackRange:
-        """What is kept now."""
+        """Return the range of stored rows."""
         self.settle()
         return ScrollbackRange(self.first, self.end, self.chunks)
 
     def newest(self, first: int) -> ScrollbackRange:
-        """Return the scrollback rows from a number on, without a look at all older chunks."""
+        """Return the scrollback rows from a number on, without a pass over all older chunks."""
         self.settle()
         found: deque[Chunk] = deque()
         for chunk in reversed(self.chunks):
@@ -185,27 +186,26 @@ class PaneRows:
 
 
 class RowsRoom:
-    """What the scrollback rows of all panes of a session take together, and the snapshots of them. The oldest chunks go first, of whichever
-    pane."""
+    """The total size of the scrollback rows of a session, and of their snapshots. The oldest chunks of any pane are dropped first."""
 
     def __init__(self, most_rows: int, most_bytes: int = MOST_KEPT, most_held: int = MOST_HELD) -> None:
         self.most_rows, self.most_bytes, self.most_held = most_rows, most_bytes, most_held
         self.panes: list[PaneRows] = []
         self.snapshots: list[Snapshot] = []
-        # What is counted for the chunks that are kept, and for those that snapshots alone hold, with their screens.
+        # The size of stored chunks, and of those that only snapshots use, with their screens.
         self.kept = self.held = 0
         self.place = 0
 
     def pane(self, pane: int, generation: int) -> PaneRows:
-        """The rows of a new making of a pane."""
+        """Return the rows of a new pane generation."""
         rows = PaneRows(pane, generation, self)
         self.panes.append(rows)
         return rows
 
     def read(self, data: bytes) -> int:
-        """Keep rows that were written, and return where the last whole chunk ends: behind that one may have been torn while it was written.
+        """Store rows from a file, and return the end of its last complete chunk. The part after it may be torn.
 
-        Rows of a pane that others stand for already are passed over. A gap ends those before it.
+        Rows that a pane already has are skipped. A gap drops the rows before it.
         """
         at = 0
         while found := unpacked(data, at):
@@ -221,21 +221,21 @@ class RowsRoom:
         return at
 
     def drop(self, rows: PaneRows) -> None:
-        """Keeps nothing more of a pane that is gone."""
+        """Drop all rows of an ended pane."""
         rows.clear()
         self.panes.remove(rows)
 
     def next_place(self) -> int:
-        """The place of a new chunk among all."""
+        """Return the position of a new chunk among all."""
         self.place += 1
         return self.place
 
     def charge(self, count: int) -> None:
-        """Counts so many bytes more for what is kept."""
+        """Add so many bytes to the size of stored chunks."""
         self.kept += count
 
     def keep_most(self) -> None:
-        """Drops the oldest chunks while there are too many bytes in all."""
+        """Drop the oldest chunks while there are too many bytes in all."""
         self.drop_oldest(self.most_bytes)
 
     def shed(self) -> None:
@@ -254,7 +254,7 @@ class RowsRoom:
             oldest.drop_chunk()
 
     def let_go(self, chunk: Chunk) -> None:
-        """Counts a chunk no more for what is kept; a snapshot may hold it still."""
+        """Remove a chunk from the stored ones. Snapshots may still use it."""
         chunk.is_kept = False
         self.kept -= chunk.charge()
         if chunk.holders:
@@ -264,7 +264,7 @@ class RowsRoom:
     # ---- snapshots
 
     def snapshot(self, rows: PaneRows, count: int, screen: bytes) -> Snapshot:
-        """A snapshot of a pane with the rows of its screen; too much that snapshots hold takes the oldest of them."""
+        """Return a snapshot of a pane with the rows of its screen. If snapshots become too large, the oldest are dropped."""
         rows.settle()
         made = Snapshot(rows, Chunk(rows.end, count, screen))
         made.screen.is_kept = False
@@ -277,13 +277,13 @@ class RowsRoom:
         return made
 
     def hold_most(self) -> None:
-        """Drops the oldest snapshots while they hold too much."""
+        """Drop the oldest snapshots while they are too large."""
         while self.held > self.most_held and self.snapshots:
             self.snapshots[0].is_lost = True
             self.release(self.snapshots[0])
 
     def release(self, snapshot: Snapshot) -> None:
-        """Lets a snapshot go."""
+        """Release a snapshot."""
         if snapshot not in self.snapshots:
             return
         self.snapshots.remove(snapshot)
@@ -294,10 +294,10 @@ class RowsRoom:
         snapshot.chunks.clear()
 
 
-# ---- what is looked for
+# ---- searches
 
 def characters(data: bytes) -> str:
-    """The characters of rows, without the styles between them."""
+    """Return the characters of rows, without the styles between them."""
     if b"\x1b" in data:
         first, *parts = data.split(b"\x1b[")
         data = first + b"".join(part[part.find(b"m") + 1 :] for part in parts)
@@ -305,8 +305,10 @@ def characters(data: bytes) -> str:
 
 
 class Search:
-    """Looks for the next row behind a number, or before it, in which a text begins, a chunk at a time. Rows that went on are one text; case
-    counts where the text has a capital."""
+    """Searches, chunk by chunk, for the next row after a number, or before it, in which a match begins.
+
+    Soft-wrapped rows form one text. Case counts if the text has a capital.
+    """
 
     def __init__(self, among: ScrollbackRange, start: int, is_back: bool, text: str) -> None:
         self.is_folded = text == text.lower()
@@ -317,12 +319,12 @@ class Search:
         self.places = self.order()
 
     def order(self) -> Iterator[int]:
-        """The places of the chunks that may hold it, in the order in which they are looked through."""
+        """Yield the positions of the chunks to search, in order."""
         places = [place for place, chunk in enumerate(self.chunks) if chunk.end() > self.first and chunk.first < self.end]
         return reversed(places) if self.is_back else iter(places)
 
     def step(self) -> bool:
-        """Looks through one chunk more, and tells whether that was the last that is needed."""
+        """Search one more chunk, and return True if it was the last one needed."""
         place = next(self.places, None)
         if place is None:
             return True
@@ -330,17 +332,17 @@ class Search:
         return self.found is not None
 
     def lines(self, place: int) -> list[str]:
-        """The characters of a chunk's rows, each behind what leads it."""
+        """Return the characters of a chunk's rows, each after its prefix."""
         text = characters(self.chunks[place].data)
         return (text.lower() if self.is_folded else text).split("\n")[:-1]
 
     def following(self, place: int) -> Iterator[str]:
-        """The rows behind a chunk, as far as its last row may go on in them."""
+        """Yield the rows after a chunk, as far as its last row may be soft-wrapped into them."""
         for behind in range(place + 1, len(self.chunks)):
             yield from self.lines(behind)
 
     def found_in(self, place: int) -> int | None:
-        """The number of the row of a chunk in which it begins; None where there is none in the part that is looked through."""
+        """Return the number of a chunk's row in which a match begins; None if the searched part has none."""
         chunk = self.chunks[place]
         lines = self.lines(place)
         begins, texts, length = [], [], 0
@@ -358,12 +360,14 @@ class Search:
 
 
 def row_of(joined: str, text: str, begins: list[int], number: int, first: int, end: int, is_back: bool) -> int | None:
-    """The number of the first row, or of the last, from `first` to `end`, in which a text begins, of rows that begin at these places of one
-    text, which have the numbers from `number` on."""
+    """Return the first or last row from `first` to `end` in which a match begins; None if there is none.
+
+    `begins` are the positions of the rows in `joined`, and `number` is that of the first.
+    """
     from bisect import bisect_right
 
     low = begins[min(max(0, first - number), len(begins) - 1)]
     high = begins[min(max(0, end - number), len(begins) - 1)] + len(text) - 1
     place = joined.rfind(text, low, high) if is_back else joined.find(text, low, high)
-    # An empty row begins where the row behind it does, so it is the last of those that begin there.
+    # An empty row has the same position as the next row, so the match is in the last one of that position.
     return None if place < 0 else number + bisect_right(begins, place) - 1

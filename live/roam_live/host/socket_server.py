@@ -1,4 +1,4 @@
-"""The socket `host` of a session's folder: who is connected, what each line asks, and what the session has once for all its windows.
+"""The socket `host` of a session's folder: its connections, their requests, and the state that all windows share.
 
 Each line begins with the number of the window that it is about, both ways; 0 is the session. In a session that has one window and no
 numbers, 0 is that window.
@@ -31,30 +31,30 @@ if TYPE_CHECKING:
     from roam_live.host.window_channel import WindowChannel
     from roam_live.host.window_commands import WindowLines
 
-# So many are connected at most, front ends of this machine and of others.
+# The most connections, of front ends on this machine and on others.
 MOST_PEERS = 256
 
-# Of answers with bytes behind them so many wait for all together; who takes none of one for so many seconds is let go.
+# The limit on unread answers of all peers together; a peer that reads no answer for so many seconds is disconnected.
 MOST_ANSWERS = 1 << 25
 UNREAD = 60.0
 
-# So many seconds rows aren't read of the filter for who writes them down and doesn't take them.
+# Seconds for which the output of the scrollback process stays unread for a slow log reader.
 LOG_WAIT = 1.0
 
-# A host that replaces another waits so many seconds for the terminals to reconnect before it reports who else is at the session.
+# A host that replaces another waits so many seconds for the terminals to reconnect before it reports the other terminals of the session.
 RECONNECTS = 4.0
 
-# The timer for questions about rows.
+# The timer for requests about rows.
 ROWS_DUE = "rows are asked for"
 
-# How one asks which terminals are there, and has one of them told to leave.
+# The request to detach one of the terminals.
 LEAVES = LazyPattern(r"(?a)leave (\d{1,9})")
 
 
 class HostSocket:
-    """The socket: connections and their lines, the environment and colours of new panes, and scrollback rows. Texts are of its uploads.
+    """The socket: connections and their lines, the environment and colours of new panes, and scrollback rows. Texts belong to its uploads.
 
-    What is of one window is in its channel. If windows can be opened, `lines` answers what is asked of them.
+    A channel has the state of one window. If windows can be opened, `lines` answers requests about them.
     """
 
     def __init__(self, loop: Loop, rows: Scrollback | None = None, state: SessionState | None = None) -> None:
@@ -66,25 +66,25 @@ class HostSocket:
         self.peers: list[HostPeer] = []
         self.channels: dict[int, WindowChannel] = {}
         self.last = 0
-        # By it those who come again know whether this is the host that was there before.
+        # Reconnecting terminals compare it with the name of their earlier host.
         self.name = random_name()
         self.pane_environment = PaneEnvironment(self.state.environment)
         self.uploads = Uploads(self)
         self.colours = Colours(self.state.colours)
         self.attended = Attended()
-        # The moment from which it is known who is at the session.
+        # The moment from which the terminals of the session are known.
         self.knows_at = 0.0
         self.lines: WindowLines | None = None
 
     def offer_rows(self, rows: Scrollback) -> None:
-        """Answer questions about these scrollback rows."""
+        """Answer requests about these scrollback rows."""
         self.rows, rows.came = rows, self.see_to_rows
         rows.logs_came, rows.waits_for_logs = self.tell_logged, self.has_full_log
 
     # ---- the socket
 
     def listen(self, folder: str | os.PathLike[str]) -> None:
-        """Listen in a session's folder, if that isn't done yet. If another listens there, nobody is known to be at the session."""
+        """Listen in a session's folder, unless that is done. If another process listens there, no terminals are known."""
         if self.listener:
             return
         try:
@@ -93,20 +93,20 @@ class HostSocket:
             say(f"this pty host cannot accept connections: {reason(fault)}")
 
     def is_found(self) -> bool:
-        """Return True if the socket is where it was bound."""
+        """Return True if the socket is still at its path."""
         return self.listener is None or self.listener.is_found()
 
     def listen_again(self, folder: str | os.PathLike[str]) -> None:
-        """Bind the socket anew in a folder if it was removed; Fault or OSError if that fails."""
+        """Bind the removed socket again in a folder; Fault or OSError if that fails."""
         if self.listener and not self.is_found():
             self.listener.move(os.path.join(folder, "host"))
 
     def has_room(self) -> bool:
-        """Whether another may connect."""
+        """Return True if another connection fits."""
         return len(self.peers) < MOST_PEERS
 
     def take(self, end: socket.socket) -> None:
-        """Takes one who came."""
+        """Accept a connection."""
         self.last += 1
         peer = HostPeer(end, self.last)
         self.peers.append(peer)
@@ -119,21 +119,20 @@ class HostSocket:
     # ---- windows
 
     def channel(self, number: int) -> WindowChannel | None:
-        """Return the channel of a window. Of the session, return that of its only window, else of the one where somebody was last, else the
-        first."""
+        """Return the channel of a window. For the session, return that of its only window, else of the one used last, else the first."""
         last = self.state.last_window if number == SESSION else number
         found = self.channels.get(number) or self.channels.get(last)
         return found or (self.channels[min(self.channels)] if self.channels and number == SESSION else None)
 
     def add(self, channel: WindowChannel) -> None:
-        """Take up a window, with those who said before that they are there."""
+        """Add a window, with the terminals that already announced themselves there."""
         self.channels[channel.window] = channel
         for peer in self.peers:
             if peer.channel is None and peer.at is not None and self.channel(peer.at) is channel:
                 channel.take_up(peer)
 
     def enter(self, peer: HostPeer, number: int) -> None:
-        """Have a connection be at a window, and at no other."""
+        """Move a connection to a window, away from any other."""
         if peer.at == number:
             return
         if peer.channel:
@@ -143,10 +142,10 @@ class HostSocket:
         if channel:
             channel.take_up(peer)
 
-    # ---- what comes
+    # ---- input
 
     def hear(self, peer: HostPeer) -> None:
-        """Takes what came of one; who has left, or says what is no line, is let go."""
+        """Take the input of a peer, and disconnect it at end of file or after an invalid line."""
         chunk = read(peer.end.fileno())
         if chunk == b"":
             self.drop(peer)
@@ -155,7 +154,7 @@ class HostSocket:
         self.take_lines(peer)
 
     def take_lines(self, peer: HostPeer) -> None:
-        """Takes the lines that came of one, as far as those before are answered."""
+        """Take a peer's lines, as far as earlier ones are answered."""
         if peer in self.peers:
             self.loop.changed(peer.end)
         while peer in self.peers and not peer.is_busy():
@@ -180,14 +179,14 @@ class HostSocket:
             self.take_line(peer, number, line)
 
     def take_line(self, peer: HostPeer, number: int, line: str) -> None:
-        """Takes a line of one who is there, about a window or the session."""
+        """Take a line of a connected peer, about a window or the session."""
         if not (self.take_presence(peer, number, line) or self.uploads.take_line(peer, line) or self.take_client_line(peer, line)
                 or self.take_row_line(peer, number, line)
                 or self.lines is not None and self.lines.take(peer, number, line) or self.take_own(peer, number, line)):
             self.send(peer, [BAD_LINE], number)
 
     def take_presence(self, peer: HostPeer, number: int, line: str) -> bool:
-        """Take a line about who is at a window, and return True if it is one."""
+        """Take a line about the terminals at a window, and return True if it is one."""
         presence = presence_said(line)
         if not presence and line not in (WHO, COMMANDS):
             return False
@@ -204,7 +203,7 @@ class HostSocket:
         return True
 
     def comes(self, peer: HostPeer, presence: Presence) -> None:
-        """Take note of a terminal that is here, or has another size."""
+        """Record a terminal that is here, or its new size."""
         if not peer.presence:
             peer.since = self.attended.comes(presence.name, self.loop.clock())
         is_new, peer.presence = not peer.presence, presence
@@ -212,7 +211,7 @@ class HostSocket:
             peer.channel.welcome(peer)
 
     def take_row_line(self, peer: HostPeer, number: int, line: str) -> bool:
-        """Take a question about rows of a window, and return True if it is one."""
+        """Take a request about rows of a window, and return True if it is one."""
         channel = self.channel(number)
         if not peer.asker or not channel or not peer.asker.take(line, channel.window, number):
             return False
@@ -220,21 +219,21 @@ class HostSocket:
         return True
 
     def take_own(self, peer: HostPeer, number: int, line: str) -> bool:
-        """Take what a terminal that types says of itself: its zoom, its environment, its colours; return True if it is such a line."""
+        """Take a read-write terminal's line about itself: its zoom, its environment, its colours; return True if it is one."""
         channel = self.channel(number)
         return not peer.is_read_only() and (channel is not None and channel.take_zoom(peer, line)
                                             or self.pane_environment.take(line) or self.colours.take(line))
 
-    # ---- who is there
+    # ---- attached terminals
 
     def clients(self) -> list[str]:
-        """The lines that tell which terminals are there, at any window."""
+        """Return the lines that describe the terminals at all windows."""
         found = [(peer, peer.channel.window if peer.channel else 0) for peer in self.peers if peer.presence]
         lines = [client_line(peer, window or 1) for peer, window in found]
         return [*lines, f"{CLIENTS} {len(lines)}"]
 
     def take_client_line(self, peer: HostPeer, line: str) -> bool:
-        """Takes a line about the terminals of all windows, and tells whether it is one: who only watches has nobody leave."""
+        """Take a line about the terminals of all windows, and return True if it is one. A read-only peer may not detach others."""
         leaves = LEAVES.fullmatch(line)
         if line == CLIENTS:
             self.answer_lines(peer, self.clients())
@@ -247,41 +246,41 @@ class HostSocket:
         return True
 
     def leave_others(self, asker: HostPeer) -> int:
-        """Tell all terminals but the one that asks for that to leave, and return how many they are."""
+        """Ask all terminals but the requesting one to detach, and return their number."""
         found = [peer for peer in self.peers if peer.presence and peer is not asker]
         for peer in found:
             self.send(peer, [LEAVE], SESSION)
         return len(found)
 
     def leave(self, number: int) -> bool:
-        """Has a terminal told to leave; whether there is one of that number."""
+        """Ask a terminal to detach, and return True if its number exists."""
         found = [peer for peer in self.peers if peer.number == number and peer.presence]
         for peer in found:
             self.send(peer, [LEAVE], SESSION)
         return bool(found)
 
     def await_terminals(self) -> None:
-        """Report who is at the session only once the terminals of the host before had time to reconnect."""
+        """Delay reports of the session's terminals until those of the earlier host had time to reconnect."""
         self.knows_at = self.loop.clock() + RECONNECTS
 
     def has_asked_windows(self) -> bool:
-        """Whether somebody is there who asked for windows."""
+        """Return True if some peer subscribed to windows."""
         return self.lines is not None and self.lines.has_asked()
 
     # ---- rows
 
     def tell_logged(self, rows: PaneRows) -> None:
-        """Tells those who write down the rows of a pane that some came."""
+        """Send the log readers of a pane its new rows."""
         for peer in self.peers:
             if peer.asker and peer.asker.logged and peer.asker.logged.rows is rows and not peer.is_full():
                 peer.asker.tell_logged()
 
     def see_to_rows(self) -> None:
-        """Go on with questions about rows before the next wait."""
+        """Continue with requests about rows before the next wait."""
         self.loop.soon(self.tell_rows)
 
     def tell_rows(self) -> None:
-        """Go on with questions about rows, and set a timer for those that are due later."""
+        """Continue with requests about rows, and set a timer for later ones."""
         now, dues = self.loop.clock(), []
         for peer in list(self.peers):
             due = peer.asker.turn(now, not peer.is_full()) if peer.asker else None
@@ -292,7 +291,10 @@ class HostSocket:
             self.loop.drop(ROWS_DUE)
 
     def has_full_log(self) -> bool:
-        """Whether somebody who writes rows down doesn't take them and is waited for: for a second, and not again until he has all."""
+        """Return True while the host has to wait for a slow log reader.
+
+        Each reader gets LOG_WAIT seconds, and no second wait until it has read everything.
+        """
         now, found = self.loop.clock(), False
         for peer in self.peers:
             if not peer.logs() or not peer.is_full():
@@ -305,22 +307,22 @@ class HostSocket:
                 found = found or not peer.asker.is_late
         return found
 
-    # ---- what goes
+    # ---- output
 
     def send(self, peer: HostPeer, lines: list[str], number: int | None = None) -> None:
-        """Send lines about a window, or about what the last line of a connection was about. Drop a peer for whom too much waits."""
+        """Send lines about a window, by default about the subject of the peer's last line. Disconnect a peer with too many unread ones."""
         lead = peer.said if number is None else number
         self.send_led(peer, [led(lead, line) for line in lines])
 
     def send_led(self, peer: HostPeer, lines: list[str]) -> None:
-        """Send lines that have their number. Drop a peer for whom too much waits."""
+        """Send lines that include their number. Disconnect a peer with too many unread ones."""
         has_room = peer.put(lines)
         self.waits(peer)
         if not has_room:
             self.drop(peer)
 
     def waits(self, peer: HostPeer) -> None:
-        """Have the loop write to a peer."""
+        """Let the loop write to a peer."""
         if peer in self.peers:
             self.loop.changed(peer.end)
 
@@ -329,8 +331,10 @@ class HostSocket:
         self.answer(peer, "".join(f"{led(peer.said, line)}\n" for line in lines).encode("utf-8", "replace"))
 
     def answer(self, peer: HostPeer, data: bytes) -> None:
-        """Has an answer with bytes behind it go to one: he asks no more until he took most of it. Where too much waits for all he is let
-        go."""
+        """Queue an answer with data for a peer, whose next request waits until most of it is read.
+
+        If the answers of all peers become too large, disconnect this one.
+        """
         peer.put_answer(data)
         self.waits(peer)
         if sum(one.answers for one in self.peers) > MOST_ANSWERS:
@@ -339,12 +343,12 @@ class HostSocket:
             self.loop.later(f"unread by {peer.number}", UNREAD, lambda: self.drop_unread(peer))
 
     def drop_unread(self, peer: HostPeer) -> None:
-        """Lets one go who took nothing for too long; who writes rows down may take his time."""
+        """Disconnect a peer that has read nothing for too long, except for log readers."""
         if not peer.logs():
             self.drop(peer)
 
     def write(self, peer: HostPeer) -> None:
-        """Writes what one takes."""
+        """Write as much as a peer accepts."""
         waiting = len(peer.waiting)
         if not peer.write():
             self.drop(peer)
@@ -359,7 +363,7 @@ class HostSocket:
             self.take_lines(peer)
 
     def drop(self, peer: HostPeer) -> None:
-        """Lets one go."""
+        """Disconnect a peer."""
         if peer not in self.peers:
             return
         self.uploads.drop(peer)
@@ -379,7 +383,7 @@ class HostSocket:
             self.listener.room_changed()
 
     def close(self) -> None:
-        """Close the socket. What was sent last, as that a pane is gone, goes as far as it is taken."""
+        """Close the socket. The last lines, such as the end of a pane, are sent as far as peers accept them."""
         for peer in list(self.peers):
             peer.write()
             self.drop(peer)

@@ -1,4 +1,4 @@
-"""What connections give the pty host: texts that are pasted, buffers, and commands for new panes, each with its bytes behind a line."""
+"""Uploads to the pty host: pasted texts, buffers, and start options of new panes, each as a line and its bytes."""
 from __future__ import annotations
 
 from roam_live.common.event_loop import Loop
@@ -17,25 +17,25 @@ if TYPE_CHECKING:
 
     from roam_live.host.socket_server import HostSocket
 
-# How one gives a text, whose bytes follow, and asks for one that it gave.
+# The lines that upload a text, whose bytes follow, and that ask for one's fate.
 PASTE = LazyPattern(r"(?a)paste ([0-9a-f]{16}) ([1-9]\d{0,8})( plain)?")
 STATUS = LazyPattern(r"(?a)status ([0-9a-f]{16})")
 
-# How one gives a buffer, has one kept, whose bytes follow, and asks for one, or for all.
+# The lines that paste a buffer, that add one, whose bytes follow, and that ask for one, or for all.
 PASTE_BUFFER = LazyPattern(r"(?a)paste ([0-9a-f]{16}) buffer (\d{1,9})")
 BUFFER = LazyPattern(r"(?a)buffer (add|show) (\d{1,9})")
 BUFFER_LIST = "buffer list"
 
 
 class Uploads:
-    """Texts, buffers and commands that come over a socket, and what becomes of them."""
+    """Texts, buffers and start options that arrive over a socket, and their fate."""
 
     def __init__(self, socket: HostSocket) -> None:
         self.socket = socket
         self.texts, self.buffers = PendingPastes(socket.state, socket.loop, self.tell_text), socket.state.buffers
 
     def coming(self, is_buffer: bool) -> int:
-        """Return how many bytes come of texts to be pasted, or of buffers."""
+        """Return how many bytes of texts, or of buffers, are arriving."""
         found = [peer.upload for peer in self.socket.peers if peer.upload and peer.upload.is_kept and peer.upload.beside is None]
         return sum(upload.length for upload in found if upload.is_buffer == is_buffer)
 
@@ -54,14 +54,14 @@ class Uploads:
         return True
 
     def begin_upload(self, peer: HostPeer, name: str, length: int, is_plain: bool) -> None:
-        """Takes a text, whose bytes follow, where there is room; one that was given before is known."""
+        """Begin the upload of a text, whose bytes follow, if there is room. A text that came before is known."""
         is_known = self.texts.state(name) != LOST
         refusal = "" if is_known else self.texts.refusal(length, self.coming(False))
         peer.upload = Upload(name, length, is_plain, not is_known and not refusal, refusal)
         peer.wants(name)
 
     def take_buffer_line(self, peer: HostPeer, line: str) -> bool:
-        """Takes a line about buffers, and tells whether it is one."""
+        """Take a line about buffers, and return True if it is one."""
         gives, asks = PASTE_BUFFER.fullmatch(line), BUFFER.fullmatch(line)
         if line == BUFFER_LIST:
             head, *others = self.buffers.lines()
@@ -77,12 +77,12 @@ class Uploads:
         return bool(line == BUFFER_LIST or gives or asks)
 
     def begin_buffer(self, peer: HostPeer, length: int) -> None:
-        """Takes a text that is to be a buffer, whose bytes follow."""
+        """Begin the upload of a buffer, whose bytes follow."""
         refusal = BUFFER_READ_ONLY if peer.is_read_only() else self.buffers.refusal(length, self.coming(True))
         peer.upload = Upload("", length, False, not refusal, refusal, is_buffer=True)
 
     def take_run_line(self, peer: HostPeer, line: str) -> bool:
-        """Takes a command for a new pane, whose bytes follow, of who doesn't only watch; tells whether the line is one."""
+        """Begin the upload of start options, whose bytes follow, for a read-write peer; return True if the line is one."""
         runs, channel = RUN.fullmatch(line), self.socket.channel(peer.said)
         if not runs or peer.is_read_only() or not channel:
             return False
@@ -92,7 +92,7 @@ class Uploads:
         return True
 
     def take_run(self, peer: HostPeer, upload: Upload, beside: tuple[int, int]) -> None:
-        """Has a command wait for its pane whose bytes are all there."""
+        """Queue start options whose bytes are complete."""
         channel = self.socket.channel(peer.said)
         if upload.refusal or not channel:
             self.socket.send(peer, [f"{RAN} {upload.name} {REFUSED} {upload.refusal}"], SESSION)
@@ -100,7 +100,7 @@ class Uploads:
             channel.handed.take(peer, upload.name, beside, bytes(upload.data))
 
     def paste_buffer(self, peer: HostPeer, name: str, data: bytes | None) -> None:
-        """Takes a buffer for a text, as if its characters were given."""
+        """Use a buffer as a text, as if its characters were uploaded."""
         text = cleaned((data or b"").decode("utf-8", "replace")).encode()
         if not text and self.texts.state(name) == LOST:
             self.socket.send(peer, [f"refused {name} {BUFFER_UNKNOWN if data is None else BUFFER_NOTHING}"])
@@ -111,11 +111,11 @@ class Uploads:
             self.end(peer, peer.upload)
 
     def wait_for(self, peer: HostPeer) -> None:
-        """Waits for more of a text; one of which nothing more comes takes its room no longer than others."""
+        """Wait for more of a text. A stalled upload uses its room no longer than others."""
         self.socket.loop.later(f"upload by {peer.number}", KEPT, lambda: self.socket.drop(peer))
 
     def end(self, peer: HostPeer, upload: Upload) -> None:
-        """Has a text wait whose bytes are all there, and answers."""
+        """Queue a text whose bytes are complete, and answer."""
         self.drop(peer)
         if upload.beside is not None:
             self.take_run(peer, upload, upload.beside)
@@ -130,26 +130,26 @@ class Uploads:
         self.socket.send(peer, [f"refused {upload.name} {upload.refusal}" if upload.refusal else f"{state} {upload.name}"])
 
     def drop(self, peer: HostPeer) -> None:
-        """Waits for no more of a text."""
+        """Abandon an upload."""
         peer.upload = None
         self.socket.loop.drop(f"upload by {peer.number}")
 
     def tell_text(self, name: str, word: str) -> None:
-        """Tells what became of a text to who gave it, or asked for it."""
+        """Report the fate of a text to the peers that sent it or asked about it."""
         for peer in [peer for peer in self.socket.peers if name in peer.names]:
             del peer.names[name]
             self.socket.send(peer, [f"{word} {name}"], SESSION)
 
 
-# A text waits KEPT seconds since something was done with it.
+# A text waits KEPT seconds since it was last used.
 KEPT = 60.0
 
-# The timer at which a text has waited for too long.
+# The timer for texts that have waited too long.
 WAITED = "pending pastes"
 
 
 class PendingPastes:
-    """All that wait, and what was spent: a call for each that is put or lost."""
+    """All pending texts, and the fate of finished ones. A call reports each text that is inserted or lost."""
 
     def __init__(self, state: SessionState, loop: Loop, tells: Callable[[str, str], object]) -> None:
         self.texts, self.spent = state.pastes, state.spent_pastes
@@ -158,30 +158,30 @@ class PendingPastes:
             self.renew(text)
 
     def refusal(self, length: int, coming: int) -> str:
-        """Return why a text of so many bytes can't wait too while so many bytes of others come; nothing if it can."""
+        """Return the reason to refuse a text of `length` bytes while `coming` bytes of others arrive; nothing if it fits."""
         if len(self.texts) >= MOST_TEXTS:
             return TOO_MANY
         return TOO_LONG if coming + length + sum(text.length for text in self.texts.values()) > MOST_BYTES else ""
 
     def take(self, text: PendingPaste) -> None:
-        """Has a text wait."""
+        """Queue a text."""
         self.texts[text.name] = text
         self.spent.pop(text.name, None)
         self.renew(text)
 
     def renew(self, text: PendingPaste) -> None:
-        """Has a text wait longer, since something was done with it."""
+        """Extend the wait of a text, since it was used."""
         text.until = self.loop.clock() + KEPT
         if WAITED not in self.loop.due:
             self.loop.at(WAITED, text.until, self.tend)
 
     def state(self, name: str) -> str:
-        """Return what is reported of the text of a name."""
+        """Return the report for the text of a name."""
         text = self.texts.get(name)
         return text.state() if text else self.spent.get(name, LOST)
 
     def placed(self, name: str) -> PendingPaste | None:
-        """The text that is put at its placeholder, once; None where there is none of this name."""
+        """Return the text to insert at its placeholder, only once; None if there is none of this name."""
         text = self.texts.get(name)
         if not text or text.is_placed:
             return None
@@ -191,14 +191,14 @@ class PendingPastes:
         return text
 
     def drop(self, text: PendingPaste) -> None:
-        """Forgets a text that needs no room any more."""
+        """Forget a text that needs no more room."""
         if self.texts.pop(text.name, None):
             self.spent[text.name] = INSERTED if text.is_placed else LOST
         while len(self.spent) > MOST_SPENT:
             del self.spent[next(iter(self.spent))]
 
     def tend(self) -> None:
-        """Drops what has waited for too long, and does so again when that is due."""
+        """Drop texts that have waited too long, and schedule the next check."""
         now = self.loop.clock()
         for text in [text for text in self.texts.values() if text.until <= now]:
             self.drop(text)

@@ -1,4 +1,4 @@
-"""The panes of one window of a session at the pty host, as the window's server tells them."""
+"""The panes of one window at the pty host, as its server reports them."""
 from __future__ import annotations
 
 import functools
@@ -32,10 +32,10 @@ if TYPE_CHECKING:
     from roam_live.common.tty import Size
     from roam_live.protocol.spawn_request import Begins
 
-# So many seconds a close may take before it is asked for anew.
+# Seconds until an unanswered request to close a pane is repeated.
 CLOSE_WAIT = 3.0
 
-# The socket at which a server takes its clients: where its file was removed the server is had to take so many turns, so many seconds apart.
+# The server's socket for clients. If its file was removed, the host has the server take so many turns, so many seconds apart.
 CLIENTS = "clients"
 ROUSED, ROUSED_EACH = 2, 1.0
 
@@ -47,7 +47,7 @@ ENDED = b"\r\n[ended]"
 NOT_CONNECTED = "[not run: {}; tried again]\r\n"
 NOT_FOLLOWED = "[no shell: the server's panes are not reported: {}; tried again]\r\n"
 
-# What a program reads that asked for reports of the focus (xterm, 1004), where it comes and where it goes.
+# The input of a program with focus reports (xterm, 1004) if its pane gets or loses the focus.
 FOCUS_IN, FOCUS_OUT = b"\x1b[I", b"\x1b[O"
 
 
@@ -60,32 +60,32 @@ class WindowHost:
         self.state = common.state.window(asked.window)
         self.lasting = Lasting(asked.dir)
         self.panes: dict[int, PaneCommand] = {}
-        # The panes of which nothing was told since they are followed anew.
+        # The panes without a report since the last subscription.
         self.untold: set[int] = set()
-        # What was told of the panes since they are followed, as which modes their programs have set.
+        # The reported state of the panes since the subscription, including modes of their programs.
         self.panes_state, self.is_new = PanesState(), False
-        # Whether it is over, and on purpose: its last command has ended.
+        # True once the window is over, and if that was intended because its last command ended.
         self.is_over = self.is_meant = False
-        # Panes in which a bell rang, and whether one wrote something, since that was reported; panes with news, and a call behind `tend`.
+        # Since the last report: panes with a bell, and a flag for output. Then panes with news, and a call after `tend`.
         self.rung: set[int] = set()
         self.has_news = False
         self.touched: dict[int, PaneCommand] = {}
         self.tended: Callable[[], object] = lambda: None
-        # The panes that are there at first, where another kept their shells before, end with the first focus.
+        # The initial panes, if an earlier host had their shells, are complete with the first focus.
         self.is_again = asked.again
-        # Whether a pane said that the panes can't be followed.
+        # True once a pane printed that its server's reports are unavailable.
         self.has_said = False
-        # The size that its first pane is about to have: it begins with that.
+        # The expected size of its first pane, which begins with it.
         self.awaited = size
-        # Where that one's command begins, where another window tells it.
+        # The folder of its first command, if another window determines it.
         self.folder = folder
-        # What its first pane begins with, where somebody asked for that.
+        # The requested start options of its first pane, if any.
         self.first = first
         # True once it was reported that its socket can't be restored; and once the server's socket for clients was there.
         self.has_missed = self.had_clients = False
         common.see_to(self.last)
         self.subscription = HostSubscription(f"{asked.dir}/panes", self.loop, self.hear, self.lost, self.tell, peer)
-        # The process whose end is the window's: who listens there, where it isn't named.
+        # The process whose end is the window's: by default the listener there.
         server = asked.server or self.subscription.server
         if server and self.server() != server:
             self.state.processes[SERVER] = server, begun(server)
@@ -100,14 +100,16 @@ class WindowHost:
         common.keep_spares()
 
     def tell(self, text: str) -> None:
-        """Log what a person has to know, and send it to the terminals at this window."""
+        """Log a message for the user, and send it to the terminals at this window."""
         say(f"window {self.asked.window}: {text}" if self.asked.window else text)
         self.channel.standing = self.subscription.told
         self.channel.notify(text)
 
     def told(self, line: str) -> None:
-        """Takes a line of D/panes: where a pane is, that it is gone, the focus, or pane metadata; counts of clients
-        are nothing here, and others answer what was asked."""
+        """Take a line of D/panes: a pane's position or end, the focus, or metadata.
+
+        Counts of clients are ignored here, and queries are answered elsewhere.
+        """
         words, is_known = line.split(), self.panes_state.take(line)
         if not is_known:
             self.answer(line)
@@ -115,7 +117,7 @@ class WindowHost:
             before, self.state.focus, self.is_again = self.state.focus, int(words[1]), False
             self.report_focus(before)
             self.state.history = [self.state.focus] + [pane for pane in self.state.history if pane != self.state.focus]
-            # The focus is told behind all panes.
+            # The focus follows the reports of all panes.
             for number in self.untold & self.panes.keys():
                 self.drop(number)
             self.untold.clear()
@@ -126,22 +128,21 @@ class WindowHost:
             self.there_is(number, Rect(*rect), generation)
 
     def answer(self, line: str) -> None:
-        """Types the answer to what a pane's program asks of its terminal, where its host knows one."""
+        """Type the answer to a program's terminal query, if the host knows one."""
         query = query_in(line)
         pane = self.panes.get(query.pane) if query else None
         if query and pane and pane.state.generation == query.generation and pane.is_typed_into():
             pane.type(query.answer(self.common.socket.colours, holds_frames(self.server())))
 
     def report_focus(self, before: int) -> None:
-        """Reports to the programs of the pane that had the focus before, and of that which has it now, that it went, where they asked for
-        that."""
+        """Send focus reports to the programs of the pane that lost the focus and the one that got it, if they requested them."""
         for number, report in ((before, FOCUS_OUT), (self.state.focus, FOCUS_IN)):
             pane = self.panes.get(number)
             if before != self.state.focus and pane and pane.is_typed_into() and self.panes_state.has_set(number, FOCUS):
                 pane.type(report)
 
     def there_is(self, number: int, rect: Rect, generation: int) -> None:
-        """Makes, moves or sizes a pane."""
+        """Create, move or resize a pane."""
         pane, size = self.panes.get(number), self.awaited_size((rect.rows, rect.cols))
         self.untold.discard(number)
         if pane and pane.state.generation == generation:
@@ -164,13 +165,13 @@ class WindowHost:
             self.begin(pane)
 
     def awaited_size(self, told: Size) -> Size:
-        """The size of a pane that is told: while another is awaited that, which is so no more once it is told."""
+        """Return the size of a reported pane, or the awaited one until it is reported."""
         if self.awaited in (None, told):
             self.awaited = None
         return self.awaited or told
 
     def await_no_more(self) -> None:
-        """Goes by the sizes that are told, since no other has come."""
+        """Use the reported sizes, since the awaited one has not come."""
         self.awaited = None
         for number, rect in self.panes_state.rects.items():
             if number in self.panes:
@@ -178,32 +179,32 @@ class WindowHost:
                 self.rows.resize(self.key(number), (rect.rows, rect.cols))
 
     def has_begun(self) -> bool:
-        """Whether the command of a pane runs, or one says why it doesn't."""
+        """Return True if a pane's command runs, or the pane shows the reason of a failure."""
         return any(pane.is_connected and (pane.runs() or pane.is_again or pane.to_pane or pane.written) for pane in self.panes.values())
 
     def folder_of_new(self) -> str:
-        """Where a new pane's command starts: where the program in front in the pane in focus is, else where the server is."""
+        """Return the folder of a new pane's command: that of the focused pane's foreground program, else the server's."""
         return self.folder if self.folder and not self.panes else self.folder_beside(0)
 
     def folder_beside(self, number: int) -> str:
-        """Where the program in front in a pane works, or in that in focus for 0."""
+        """Return the working folder of the foreground program in a pane, by default the focused one."""
         pane = self.panes.get(number or self.state.focus)
         return working_folder([*(pane.in_front() if pane else []), self.asked.server])
 
     def rect_of(self, number: int, generation: int) -> Rect | None:
-        """Where that making of a pane is; None where it isn't there."""
+        """Return the rectangle of that pane generation; None if it is gone."""
         pane = self.panes.get(number)
         return self.panes_state.rects.get(number) if pane and pane.state.generation == generation else None
 
     def handed_to(self, rect: Rect) -> Begins | None:
-        """What a new pane begins with, where that was handed over for it."""
+        """Return the start options that wait for a new pane, if any."""
         if self.panes or not self.first:
             return self.channel.handed.for_pane(rect)
         first, self.first = self.first, None
         return first
 
     def begin(self, pane: PaneCommand) -> None:
-        """Connects to a pane and runs its command there; the spare descriptor is for the pane to say what is refused."""
+        """Connect to a pane and run its command there. The spare descriptor is for the pane's message about a refusal."""
         self.common.spare.free()
         try:
             self.lasting.demand()
@@ -222,17 +223,17 @@ class WindowHost:
         self.common.keep_spares()
 
     def begin_again(self) -> None:
-        """Tries again what the system refused."""
+        """Retry the steps that the system refused."""
         for pane in list(self.panes.values()):
             if not pane.is_connected:
                 self.begin(pane)
 
     def key(self, number: int) -> int:
-        """The number of a pane among those of all windows."""
+        """Return the number of a pane among those of all windows."""
         return pane_key(self.asked.window, number)
 
     def drop(self, number: int) -> None:
-        """Hangs up the programs of a pane that is gone."""
+        """Hang up the programs of a pane that is gone."""
         pane = self.panes.pop(number, None)
         self.state.history = [other for other in self.state.history if other != number]
         if pane:
@@ -252,7 +253,7 @@ class WindowHost:
         self.note(pane)
 
     def hear(self, lines: list[str]) -> None:
-        """Takes what came from D/panes."""
+        """Take lines from D/panes."""
         if self.is_new:
             self.panes_state, self.is_new = PanesState(), False
         for line in lines:
@@ -264,27 +265,27 @@ class WindowHost:
             self.channel.sized(places.size())
 
     def follow_now(self) -> None:
-        """Takes what came from D/panes so far."""
+        """Take the available lines from D/panes."""
         if self.subscription.peer:
             self.loop.hear(self.subscription.peer)
 
     def lost(self) -> None:
-        """Goes on without D/panes, which is connected to again; where the server's process has ended the session has."""
+        """Continue without D/panes and reconnect. The session has ended if the server's process has."""
         self.untold, self.is_new = set(self.panes), True
         self.channel.sized(None)
         self.goes_on()
 
     def has_server(self) -> bool:
-        """Whether the server's process runs; where it isn't known somebody has to be at its socket."""
+        """Return True if the server's process runs; if it is unknown, if somebody listens at its socket."""
         noted = self.state.processes.get(SERVER)
         return is_running(*noted) if noted else not self.subscription.is_gone
 
     def server(self) -> int | None:
-        """Return the server's process, None if it is unknown."""
+        """Return the server's process, None if unknown."""
         return self.state.processes[SERVER][0] if SERVER in self.state.processes else None
 
     def goes_on(self) -> None:
-        """Sees to it that the session ends with the server; where it can't be followed from the start a pane says so."""
+        """Arrange that the session ends with the server. If its reports never come, print that in a pane."""
         subscription = self.subscription
         self.loop.soon(self.tend)
         if not self.has_server():
@@ -299,17 +300,17 @@ class WindowHost:
             pane.asked_until = 0.0
 
     def reap(self) -> None:
-        """Takes note of commands that ended."""
+        """Handle ended commands."""
         for pane in self.panes.values():
             if any(map(has_ended, pane.running())):
                 pane.ends(b"" if self.asked.close else ENDED)
 
     def done(self) -> list[PaneCommand]:
-        """The panes whose command has ended, and whose last words are written."""
+        """Return the panes whose command has ended, and whose last output is written."""
         return [pane for pane in self.panes.values() if pane.state.has_ended and pane.terminal is None and not pane.to_pane]
 
     def close_ended(self) -> None:
-        """Has panes closed whose commands have ended; the last one's end is the session's."""
+        """Close the panes whose commands have ended; the last one's end is the session's."""
         done, now = self.done(), time.monotonic()
         if done and len(self.panes) == 1:
             self.is_over = self.is_meant = True
@@ -325,13 +326,13 @@ class WindowHost:
                 self.subscription.ask(self.close_line(pane))
 
     def close_line(self, pane: PaneCommand) -> str:
-        """The line that closes a pane, and where the focus goes if it has it: to the pane that had it before, of those that stay."""
+        """Return the line that closes a pane. If the pane has the focus, the line names the previously focused remaining pane."""
         others = [number for number in self.state.history if number in self.panes and not self.panes[number].state.has_ended]
         heir = f" {others[0]}" if pane.state.number == self.state.focus and others else ""
         return f"close {pane.state.number} {pane.state.generation}{heir}"
 
     def last(self) -> None:
-        """Sees to what has to last of the folder."""
+        """Protect the folder from cleaners of old files."""
         self.lasting.look()
         is_there = not self.lasting.is_missing(CLIENTS)
         if self.had_clients and not is_there:
@@ -339,13 +340,15 @@ class WindowHost:
         self.had_clients = self.had_clients or is_there
 
     def rouse(self) -> None:
-        """Have the server take turns: it binds removed sockets anew in a turn, by the clock of the turn before, and takes none while all
-        its clients sleep."""
+        """Make the server take turns.
+
+        In a turn it binds removed sockets anew, by the clock of the turn before. It takes none while all its clients sleep.
+        """
         for again in range(ROUSED):
             self.loop.later(f"rouse {again} {self.asked.dir}", again * ROUSED_EACH, lambda: self.subscription.ask(PROBE))
 
     def note(self, pane: PaneCommand) -> None:
-        """Note that a pane has news; `tend` handles it before the next wait."""
+        """Record that a pane has news; `tend` handles it before the next wait."""
         self.touched[pane.state.number] = pane
         self.loop.soon(self.tend)
 
@@ -365,11 +368,11 @@ class WindowHost:
             self.tell(MENDED)
 
     def is_followed(self) -> bool:
-        """Whether it is known which panes are there."""
+        """Return True if the current panes are known."""
         return bool(self.subscription.peer) and not self.untold
 
     def tend(self) -> None:
-        """Sees to what is new of the panes."""
+        """Handle the news of panes."""
         touched, self.touched = self.touched, {}
         for pane in touched.values():
             if self.panes.get(pane.state.number) is pane:
@@ -379,37 +382,37 @@ class WindowHost:
         self.tended()
 
     def look(self, pane: PaneCommand) -> None:
-        """Tells of a pane whose programs have written for a while what the server doesn't read."""
+        """Report a pane whose output the server has not read for a while."""
         if pane.is_unread():
             self.tell(UNREAD.format(f"pane {pane.state.number}"))
 
     def tell_front(self, number: int, generation: int, name: str) -> None:
-        """Tells what runs in front in that making of a pane."""
+        """Report the foreground program of that pane generation."""
         self.state.panes[number].program = name
         self.channel.tell_command(number, generation, name)
         self.loop.soon(self.tend)
 
     def look_at_fronts(self) -> None:
-        """Looks up what runs in front in all panes, for one more who wants to know."""
+        """Look up the foreground programs of all panes for a new subscriber."""
         self.fronts.is_wanted = True
         for pane in self.panes.values():
             self.fronts.touched(pane, 0.0)
 
     def touch(self, pane: PaneCommand) -> None:
-        """Has it looked up what runs in front in a pane where something was typed or written, while somebody wants to know."""
+        """Look up the foreground program of a pane after input or output, while somebody subscribes."""
         self.has_news, pane.has_news = self.has_news or pane.has_news, False
         if pane.is_touched:
             pane.is_touched, self.fronts.is_wanted = False, self.channel.has_asked_commands() or self.common.socket.has_asked_windows()
             self.fronts.touched(pane)
 
     def hang_up(self) -> None:
-        """Ends the programs of all panes."""
+        """End the programs of all panes."""
         for number in list(self.panes):
             self.drop(number)
         self.subscription.end()
 
     def close(self) -> None:
-        """Closes the sockets, and forgets the window."""
+        """Close the sockets, and forget the window."""
         self.channel.close()
         for lasts in (self.last, self.listen_again):
             self.common.see_no_more(lasts)

@@ -1,4 +1,4 @@
-"""What a pty host knows and reports of one window at the socket `host`: its terminals, its zoom, what runs in its panes, and notices."""
+"""The pty host's state of one window at the socket `host`: its terminals, its zoom, its programs, and notices."""
 from __future__ import annotations
 
 from roam_live.host.pending_spawns import HandedCommands
@@ -22,23 +22,23 @@ def notice_line(text: str) -> str:
 
 
 class WindowChannel:
-    """A window at the socket: the connections that are here, and the host of its panes."""
+    """A window at the socket: its connections, and the host of its panes."""
 
     def __init__(self, socket: HostSocket, window: int = SESSION, host: WindowHost | None = None) -> None:
         self.socket, self.loop, self.window, self.host = socket, socket.loop, window, host
         self.state = socket.state.window(window)
         self.peers: list[HostPeer] = []
-        # Commands for new panes.
+        # Start options for new panes.
         self.handed = HandedCommands(self.loop, lambda peer, line: socket.send(peer, [line], SESSION))
-        # The notice that each terminal gets when it comes.
+        # The notice that each new terminal gets.
         self.standing = ""
         self.zoom = self.state.zoom
         socket.add(self)
 
-    # ---- who is here
+    # ---- terminals here
 
     def take_up(self, peer: HostPeer) -> None:
-        """Have a connection be here."""
+        """Add a connection here."""
         peer.channel = self
         self.peers.append(peer)
         if peer.presence:
@@ -46,41 +46,41 @@ class WindowChannel:
         self.renew()
 
     def leave(self, peer: HostPeer) -> None:
-        """Have a connection be here no more."""
+        """Remove a connection from here."""
         self.peers.remove(peer)
         peer.leave_channel()
         self.renew()
 
     def forget(self, peer: HostPeer) -> None:
-        """Forget a connection that has ended: its commands, and that a zoom is its own."""
+        """Forget an ended connection: its start options, and its ownership of a zoom."""
         self.handed.drop(peer)
         if self.zoom.leave(peer.number):
             self.loop.later(f"zoom left in {self.window}", OVER, self.end_zoom)
             self.renew()
 
     def said(self, peer: HostPeer, line: str) -> None:
-        """Take note that a connection said something of who is here."""
+        """Record a connection's report about its terminal."""
         self.renew()
         if line == COMMANDS and self.host:
             self.host.look_at_fronts()
 
     def welcome(self, peer: HostPeer) -> None:
-        """Report to a terminal that comes what it has to know."""
+        """Send the initial reports to a new terminal."""
         if self.socket.lines:
             self.socket.lines.comes(self.window)
         notices = [notice_line(self.standing)] if self.standing else []
         self.send(peer, notices)
 
     def has_terminals(self) -> bool:
-        """Whether a terminal is here."""
+        """Return True if a terminal is here."""
         return any(peer.presence for peer in self.peers)
 
     def renew(self) -> None:
-        """Report before the next wait what is new about who is there."""
+        """Report changes of the terminals before the next wait."""
         self.loop.soon(self.tell_news)
 
     def tell_news(self) -> None:
-        """Send each peer that asked what is new of the others, once it is known who they are."""
+        """Send each subscriber the changes of the other terminals, once they are known."""
         asked = [peer for peer in self.peers if peer.asks]
         if self.loop.clock() < self.socket.knows_at:
             self.loop.at(f"others of {self.window}", self.socket.knows_at, self.renew)
@@ -99,29 +99,29 @@ class WindowChannel:
         return True
 
     def sized(self, size: Size | None) -> None:
-        """Takes note of the size that the window has; None where it isn't known."""
+        """Record the size of the window; None if unknown."""
         if self.zoom.sized(size):
             self.renew()
 
     def end_zoom(self) -> None:
-        """Notes no zoom any more whose maker has left, where the window hasn't a size of it."""
+        """Drop the zoom of a departed front end if the window has another size."""
         if self.zoom.end_left():
             self.renew()
 
-    # ---- what runs, and notices
+    # ---- programs, and notices
 
     def has_asked_commands(self) -> bool:
-        """Whether somebody is there who asked what runs in front in the panes."""
+        """Return True if somebody subscribed to foreground programs."""
         return any(peer.asks_commands for peer in self.peers)
 
     def tell_command(self, pane: int, generation: int, name: str) -> None:
-        """Tells those who asked what runs in front in that making of a pane, where it wasn't told so yet."""
+        """Report the foreground program of that pane generation to subscribers that do not know it."""
         for peer in [peer for peer in self.peers if peer.asks_commands and peer.commands.get(pane) != (generation, name)]:
             peer.commands[pane] = generation, name
             self.send(peer, [f"command {pane} {generation} {name}"])
 
     def notify(self, text: str) -> None:
-        """Send each terminal a notice for its person."""
+        """Send each terminal a notice for its user."""
         self.tell_terminals(notice_line(text))
 
     def tell_terminals(self, line: str) -> None:
@@ -130,7 +130,7 @@ class WindowChannel:
             self.send(peer, [line])
 
     def send(self, peer: HostPeer, lines: list[str]) -> None:
-        """Send lines about this window, under the number by which a connection is here."""
+        """Send lines about this window, under the number that the connection uses."""
         self.socket.send(peer, lines, peer.at)
 
     def close(self) -> None:

@@ -1,4 +1,4 @@
-"""The lines about windows at the pty host: answers those of front ends, and sends what happens to windows."""
+"""The lines about windows at the pty host: it answers those of front ends, and sends reports of events."""
 from __future__ import annotations
 
 from roam_live.common.tty import largest
@@ -13,10 +13,10 @@ if TYPE_CHECKING:
     from roam_live.host.windows import Windows
     from roam_live.protocol.spawn_request import Begins
 
-# One who asks may have so many opened at once.
+# The most windows that may be opening for one peer.
 MOST_OPENING = 4
 
-# For so many seconds a window is his who asks again for what he asked for when his connection was cut, as where a relay goes another way.
+# For so many seconds a front end that lost its connection, for example to a relay's new transport, may claim the window that it requested.
 ASKED_AGAIN = 5.0
 
 READ_ONLY = "a read-only terminal opens none"
@@ -25,7 +25,7 @@ NOT_HANDED = "its command is missing"
 
 
 class AskedWindow:
-    """A window that somebody asked for, of a size, beside another; and its number, and since when it is there."""
+    """A requested window, with its size and the window beside it; then its number, and the moment when it opened."""
 
     def __init__(self, peer: HostPeer, beside: int, size: Size) -> None:
         self.peer, self.beside, self.size = peer, beside, size
@@ -33,15 +33,15 @@ class AskedWindow:
 
 
 class WindowLines:
-    """The lines about windows, for a table that has them: what one who only watches asks for isn't done."""
+    """The lines about windows, for a table of them. Read-only peers can't change windows."""
 
     def __init__(self, table: Windows, socket: HostSocket) -> None:
         self.table, self.socket = table, socket
-        # The windows that front ends asked for, and where no terminal was yet.
+        # The requested windows that no terminal has visited yet.
         self.asked: list[AskedWindow] = []
 
     def take(self, peer: HostPeer, beside: int, line: str) -> bool:
-        """Take a line of one who is at a window, and return True if it is one of these."""
+        """Take a line of a peer at a window, and return True if it is about windows."""
         opens, names, shuts = OPEN.fullmatch(line), NAME.fullmatch(line), SHUT.fullmatch(line)
         if line == WINDOWS:
             peer.asks_windows = True
@@ -61,17 +61,19 @@ class WindowLines:
         return True
 
     def line(self, number: int) -> str:
-        """The line that tells a window."""
+        """Return the line that describes a window."""
         return f"{WINDOW} {number} {name_word(self.table.named().get(number, ''))}"
 
     def answer_gone(self, peer: HostPeer, number: int, is_there: bool) -> None:
-        """Tells one that the window isn't there of which he asked something."""
+        """Inform a peer that the window of its request does not exist."""
         if not is_there:
             self.socket.send(peer, [f"{GONE} {number}"], SESSION)
 
     def open(self, peer: HostPeer, beside: int, size: Size, name: str = "") -> None:
-        """Has a window opened, by a command of this name where there is one, and answers once it is there, or can't be. A front end whose
-        connection was cut asks again, and is told of the same."""
+        """Open a window, with start options of this name if any, and answer once it is there or has failed.
+
+        A front end that lost its connection asks again, and gets the same window.
+        """
         refusal = READ_ONLY if peer.is_read_only() else TOO_MANY if peer.opening >= MOST_OPENING else ""
         if refusal:
             self.socket.send(peer, [f"{OPENED} none {refusal}"], SESSION)
@@ -94,21 +96,21 @@ class WindowLines:
         self.table.open(size, beside, lambda number, why: self.opened(asked, number, why), begins)
 
     def handed(self, name: str) -> Begins | None:
-        """What was handed over under this name, at any window."""
+        """Return the start options of this name, from any window."""
         return next((found for found in (one.handed.for_window(name) for one in self.socket.channels.values()) if found), None)
 
     def is_left(self, asked: AskedWindow) -> bool:
-        """Return True if the one who asked isn't connected any more, so that he may not know of his window."""
+        """Return True if the peer of a request is disconnected, so that it may not know of its window."""
         return asked.peer not in self.socket.peers
 
     def left(self, beside: int, size: Size) -> AskedWindow | None:
-        """A window of this size that was asked for here by one who has left; None where there is none."""
+        """Return a window of this size that a disconnected peer requested here; None if there is none."""
         now, named = self.socket.loop.clock(), self.table.named()
         self.asked = [one for one in self.asked if not one.number or one.number in named and now < one.since + ASKED_AGAIN]
         return next((one for one in self.asked if self.is_left(one) and (one.beside, one.size) == (beside, size)), None)
 
     def opened(self, asked: AskedWindow, number: int, why: str = "") -> None:
-        """Tells who asked for a window that it is there, or why it can't be."""
+        """Report an open window, or the reason of a failure, to the peer that requested it."""
         asked.number, asked.since = number, self.socket.loop.clock()
         if not number and asked in self.asked:
             self.asked.remove(asked)
@@ -117,21 +119,21 @@ class WindowLines:
             self.socket.send(asked.peer, [f"{OPENED} {number}" if number else f"{OPENED} none {why}"], SESSION)
 
     def has_asked(self) -> bool:
-        """Whether somebody is there who asked for windows."""
+        """Return True if some peer subscribed to windows."""
         return any(peer.asks_windows for peer in self.socket.peers)
 
-    # ---- what is told
+    # ---- reports
 
     def tell(self, line: str) -> None:
-        """Tells a line to all who asked for windows."""
+        """Send a line to all subscribers of windows."""
         for peer in [peer for peer in self.socket.peers if peer.asks_windows]:
             self.socket.send(peer, [line], SESSION)
 
     def tell_window(self, number: int) -> None:
-        """Tells that a window is there, or has another name."""
+        """Report an open window, or its new name."""
         self.tell(self.line(number))
 
     def comes(self, number: int) -> None:
-        """Takes note that a terminal is at a window."""
+        """Record that a terminal is at a window."""
         self.asked = [one for one in self.asked if one.number != number]
         self.table.came(number)

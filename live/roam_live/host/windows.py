@@ -31,20 +31,19 @@ if TYPE_CHECKING:
     from roam_live.common.tty import Size
     from roam_live.protocol.spawn_request import Begins
 
-# Seconds between two looks whether what was begun is there, or has ended; until a window has to be gone; and for all windows of a session
-# together.
+# Seconds between two checks of a starting or ending window; until a window has to be gone; and for all windows together.
 STEP = 0.004
 ENDS = 1.0
 ALL_END = 1.5 * ENDS
 
-# So many seconds after somebody asked for windows, or one was opened, a server is spawned that stands ready for the next.
+# Seconds from a subscription to windows, or an opened window, to the spawn of a spare server for the next one.
 READY = 1.0
 AGAIN = 1.0
 
-# Seconds between two lines that report that something was written in a window. The server reports a pane's bell once a second at most.
+# Seconds between two activity reports of a window. The server reports a pane's bell once a second at most.
 APART = 1.0
 
-# What tells of a socket at which somebody may listen soon.
+# The errors of a socket at which somebody may soon listen.
 SOON_THERE = (FileNotFoundError, ConnectionRefusedError, BlockingIOError)
 FULL = f"a session has at most {MOST_WINDOWS} windows"
 OVER = "the session ends"
@@ -58,9 +57,9 @@ class Windows:
         self.folder = windows_folder(asked.common)
         self.state = common.state
         self.windows: dict[int, HostedWindow] = {}
-        # Why there is no first window.
+        # The reason that there is no first window.
         self.refusal = ""
-        # A server that stands ready for the next window, and when it was spawned: it has no client, so it sleeps, and is told nowhere.
+        # A spare server for the next window, and the moment of its spawn. It has no client, so it sleeps, and nobody sees it.
         self.spare: WindowProcesses | None = None
         self.spared_at = 0.0
         self.lasting = Lasting(asked.common)
@@ -73,19 +72,18 @@ class Windows:
             self.take_over()
 
     def begin_lasting(self) -> None:
-        """Hold the folder that the session has from now on, and let go of the one before."""
+        """Lock the folder that the session has from now on, and release the previous one."""
         self.lasting.let_go()
         self.lasting = Lasting(self.asked.common)
 
-    # ---- what is asked
+    # ---- requests
 
     def named(self) -> dict[int, str]:
-        """The windows that are there, and their names."""
+        """Return the open windows, and their names."""
         return {number: one.state.name for number, one in self.windows.items() if one.stage == THERE}
 
     def open(self, size: Size | None, beside: int, told: Callable[[int, str], object], begins: Begins | None = None) -> None:
-        """Opens a window, of a size where one is named, asked for at another, that begins as is asked; told with its number, or with 0 and
-        why there is none."""
+        """Open a window, optionally of a size, beside another, with start options. The callback gets its number, or 0 and a reason."""
         number = self.free_number()
         if not number or self.common.is_over:
             told(0, OVER if number else FULL)
@@ -97,20 +95,19 @@ class Windows:
         self.begin(window)
 
     def add(self, processes: WindowProcesses, told: Callable[[int, str], object]) -> HostedWindow:
-        """Have a window, of which a call is told once it is there."""
+        """Add a window. A call reports that it is open."""
         window = self.windows[processes.number] = HostedWindow(processes, told)
         self.state.windows[processes.number] = processes.state
         return window
 
-    # ---- what stands ready
+    # ---- the spare server
 
     def await_spare(self) -> None:
-        """Has a server stand ready soon, where somebody may have a window opened."""
+        """Schedule a spare server if somebody may open a window."""
         self.loop.later("spare window", READY, self.prepare)
 
     def prepare(self) -> None:
-        """Spawns a server that stands ready in the folder of the next window; where that can't be the next one is spawned when it is asked
-        for."""
+        """Spawn a spare server in the folder of the next window. If that fails, the next request spawns one."""
         if self.spare and not self.spare.runs(SERVER):
             self.spare.clean()
             self.spare = None
@@ -128,11 +125,11 @@ class Windows:
         self.spare, self.spared_at = spare, self.loop.clock()
 
     def free_number(self) -> int:
-        """The smallest number that no window has; 0 where all have."""
+        """Return the smallest unused window number; 0 if there is none."""
         return next((one for one in range(1, MOST_WINDOWS + 1) if one not in self.windows), 0)
 
     def taken_spare(self, number: int) -> WindowProcesses | None:
-        """What stands ready for a window of this number, which it is for that from now on; None where nothing does."""
+        """Return the spare server for a window of this number and turn it into that window's; None without a spare."""
         spare = self.spare
         if not spare or spare.number != number:
             return None
@@ -142,25 +139,25 @@ class Windows:
             with suppress(OSError):
                 spare.mark_spare(False)
                 return spare
-        # A cleaner of old files may have had what lies there.
+        # A cleaner of old files may have removed its files.
         spare.end(signal.SIGKILL)
         spare.clean()
         return None
 
     def end_spare(self) -> None:
-        """Ends what stands ready, as a window is."""
+        """End the spare server in the manner of a window."""
         if self.spare:
             spare, self.spare = self.spare, None
             self.end(self.add(spare, lambda number, why: None), is_meant=True)
 
     def folder_beside(self, number: int) -> str:
-        """Where the first command of a window begins: where the program in front in the pane in focus of another is."""
+        """Return the folder for a window's first command: that of the foreground program in another window's focused pane."""
         host = self.windows[number].host if number in self.windows else None
         pane = host.panes.get(host.state.focus) if host else None
         return working_folder(pane.in_front()) if pane else ""
 
     def rename(self, number: int, name: str) -> bool:
-        """Gives a window a name; whether it is there."""
+        """Name a window; return False if it does not exist."""
         window = self.windows.get(number)
         if not window or window.stage != THERE:
             return False
@@ -173,7 +170,7 @@ class Windows:
         return True
 
     def shut(self, number: int) -> bool:
-        """Ends a window; whether it is there."""
+        """End a window; return False if it does not exist."""
         window = self.windows.get(number)
         if not window or window.stage != THERE:
             return False
@@ -181,7 +178,7 @@ class Windows:
         return True
 
     def in_front(self) -> dict[int, str]:
-        """What runs in front in the windows' panes in focus, as far as that was looked up, which it is from now on."""
+        """Return the foreground programs of the windows' focused panes, as far as known, and look them up from now on."""
         self.await_spare()
         for window in self.windows.values():
             if window.host:
@@ -189,20 +186,20 @@ class Windows:
         return {number: one.state.program for number, one in sorted(self.windows.items()) if one.state.program and one.stage == THERE}
 
     def came(self, number: int) -> None:
-        """Takes note that a terminal is at a window now: who attaches without naming one goes there."""
+        """Record the window that a terminal visits, which is the default of later attaches."""
         if number != self.state.last_window:
             self.state.last_window = number
             with suppress(OSError):
                 self.note_last()
 
     def note_last(self) -> None:
-        """Notes at which window somebody was last."""
+        """Record the window used last."""
         replace_text(os.path.join(self.folder, "last"), f"{self.state.last_window}\n")
 
-    # ---- how one is begun
+    # ---- opening
 
     def take_over(self) -> None:
-        """Goes on with the windows of a host that has ended, of which the servers run; what others left is removed."""
+        """Adopt the windows of an ended host whose servers run, and remove the rest of the others."""
         for number in numbers_in(self.folder):
             processes = WindowProcesses(self.asked.common, WindowState(number=number))
             processes.find()
@@ -216,18 +213,18 @@ class Windows:
             self.await_(window, OPENS)
 
     def await_first(self) -> None:
-        """Goes on with the first window, whose server somebody else is about to spawn."""
+        """Wait for the first window, whose server another process is about to spawn."""
         window = self.add(WindowProcesses(self.asked.common, WindowState(number=1)), self.first)
         window.has_client, window.is_given = False, True
         self.await_(window, OPENS)
 
     def taken(self, number: int, why: str) -> None:
-        """Takes note of a window that was taken over, or couldn't be."""
+        """Handle an adopted window, or a failure."""
         if not number:
             say(f"cannot take over a window of the previous pty host: {why}")
 
     def begin(self, window: HostedWindow) -> None:
-        """Begins a window with its server."""
+        """Open a window with its server."""
         try:
             window.processes.make_folder()
             if not window.processes.runs(SERVER):
@@ -238,12 +235,12 @@ class Windows:
         self.await_(window, OPENS)
 
     def await_(self, window: HostedWindow, seconds: float) -> None:
-        """Has the next step of a window tried until a moment."""
+        """Try the next step of a window until a deadline."""
         window.until = self.loop.clock() + seconds
         self.step(window)
 
     def step(self, window: HostedWindow) -> None:
-        """Does the next steps of a window that is about to be there."""
+        """Do the next steps of an opening window."""
         if window.stage != OPENING:
             return
         processes = window.processes
@@ -268,7 +265,7 @@ class Windows:
             self.fail(window, "its server or its client process did not start")
 
     def follow(self, window: HostedWindow) -> bool:
-        """Follows a window's panes, and has its client spawned, once its server is there; whether that is so."""
+        """Follow a window's panes, and spawn its client, once its server is there; return False until then."""
         processes = window.processes
         if window.host:
             return True
@@ -293,13 +290,13 @@ class Windows:
         return True
 
     def has_come(self, window: HostedWindow) -> bool:
-        """Whether a window's start takes terminals, which has its size typed once it does, and its first command runs."""
+        """Return True if a window's client process accepts terminals, has got the window's size, and the first command runs."""
         if window.has_client and not self.is_sized(window):
             return False
         return window.host is not None and window.host.has_begun()
 
     def is_sized(self, window: HostedWindow) -> bool:
-        """Whether a window's start takes terminals: it has the size typed that was asked for, once."""
+        """Return True if a window's client process accepts terminals. It then gets the requested size, once."""
         try:
             peer = connected_now(window.processes.path("terminals"))
         except SOON_THERE:
@@ -313,7 +310,7 @@ class Windows:
         return True
 
     def opened(self, window: HostedWindow) -> None:
-        """Tells of a window that is there."""
+        """Report an open window."""
         window.stage = THERE
         if window.host and window.host.awaited:
             self.loop.later(f"window {window.number} has its size", OPENS, window.host.await_no_more)
@@ -327,16 +324,16 @@ class Windows:
         self.await_spare()
 
     def fail(self, window: HostedWindow, why: str) -> None:
-        """Leaves nothing of a window that can't be there, and tells why."""
+        """Remove a window that failed to open, and report the reason."""
         say(f"cannot open window {window.number}: {why}")
         told, window.told = window.told, lambda number, why: None
         self.end(window, is_meant=True)
         told(0, why)
 
-    # ---- how one ends
+    # ---- closing
 
     def end(self, window: HostedWindow, is_meant: bool) -> None:
-        """Ends a window: its programs are hung up, and its server and start ended, by force where they don't end in time."""
+        """End a window: hang up its programs, and end its server and client, by force if they are late."""
         was_there = window.stage == THERE
         window.stage = ENDING
         for moment in (f"window {window.number} begins", f"news of window {window.number}"):
@@ -354,7 +351,7 @@ class Windows:
         self.step_end(window)
 
     def step_end(self, window: HostedWindow) -> None:
-        """Waits for the end of a window's processes, and for what was last written there."""
+        """Wait for the end of a window's processes, and for its last output."""
         now, processes = self.loop.clock(), window.processes
         waits = [role for role in (SERVER, CLIENT) if processes.runs(role)]
         if waits and now >= window.until - ENDS / 2:
@@ -370,7 +367,7 @@ class Windows:
         self.common.is_over = self.common.is_over or not self.windows
 
     def end_all(self) -> None:
-        """Ends all windows, and waits for that, no longer than they have."""
+        """End all windows, and wait for that, up to their limit."""
         self.end_spare()
         for window in [one for one in self.windows.values() if one.stage != ENDING]:
             self.end(window, is_meant=True)
@@ -382,10 +379,10 @@ class Windows:
         with suppress(OSError):
             os.rmdir(self.folder)
 
-    # ---- what is new
+    # ---- news
 
     def tell_news(self, window: HostedWindow) -> None:
-        """Tells what is new in a window: that panes rang, that something was written where nobody is, and that it is over."""
+        """Report the news of a window: bells of panes, output without a terminal there, and its end."""
         host, now = window.host, self.loop.clock()
         if not host or window.stage != THERE:
             return
@@ -397,7 +394,7 @@ class Windows:
             state.program = in_focus.program
             self.lines.tell(f"{RUNS} {window.number} {state.program}")
         if host.has_news and window.has_terminals():
-            # Whoever is there saw it.
+            # A terminal there has seen it.
             host.has_news = False
         elif host.has_news and now >= window.active_at:
             host.has_news, window.active_at = False, now + APART
@@ -410,11 +407,11 @@ class Windows:
             self.end(window, is_meant=host.is_meant)
 
     def make_last(self) -> None:
-        """Sees to what has to last of the session's folder."""
+        """Protect the session's folder from cleaners of old files."""
         self.lasting.look()
 
     def run(self) -> int:
-        """Keeps the windows until the last of them ends. Where that can't be gone on with another takes them over: they stay then."""
+        """Run the windows until the last of them ends. After a failure they stay, and another host adopts them."""
         try:
             if not self.windows:
                 self.open(None, 0, self.first)
@@ -428,5 +425,5 @@ class Windows:
         return 0
 
     def first(self, number: int, why: str) -> None:
-        """Takes note of the first window, without which there is no session."""
+        """Handle the first window, without which there is no session."""
         self.refusal = "" if number else why

@@ -1,23 +1,23 @@
-"""Keys by the names that tmux has for them (tmux(1), key bindings), as `C-c`, `M-Left`, `Enter` and `F5`, and the acts that type them."""
+"""Keys by tmux's names (tmux(1), key bindings), such as `C-c`, `M-Left`, `Enter` and `F5`, and the acts that type them."""
 from __future__ import annotations
 
 from roam_live.common.named_fields import NamedFields
 from roam_live.common.text import printable
 from roam_live.input.keys import Key, acts_of
 
-# What is held with a key, and what each counts for in the parameter that xterm puts into a sequence (ctlseqs, PC-style function keys).
+# The modifiers of a key, with their values in xterm's sequence parameter (ctlseqs, PC-style function keys).
 HELD = {"S": 1, "M": 2, "C": 4}
 SHIFT, META, CONTROL = HELD["S"], HELD["M"], HELD["C"]
 
 
 class NamedKey(NamedFields):
-    """A key: what is held with it, as the sum of what `HELD` has, and its name, which of a character is itself."""
+    """A key: the sum of its modifiers from `HELD`, and its name, which for a character is the character."""
 
     held: int
     name: str
 
 
-# Other names of the same keys, in small letters: case doesn't count in a name.
+# Other names of the same keys, in lower case: case doesn't matter in a name.
 NAMES = {
     "ic": "insert", "dc": "delete", "npage": "pagedown", "pgdn": "pagedown", "ppage": "pageup", "pgup": "pageup", "return": "enter",
     **{name: name for name in ("insert", "delete", "pagedown", "pageup", "enter", "escape", "tab", "btab", "space", "bspace", "home", "end",
@@ -26,7 +26,7 @@ NAMES = {
     **{f"f{number}": f"f{number}" for number in range(1, 21)},
 }
 
-# The keys that have an act of their own.
+# The keys with an act of their own.
 OWN = {
     "up": "up", "down": "down", "left": "left", "right": "right", "home": "find", "end": "select", "insert": "insert", "delete": "remove",
     "pageup": "prev", "pagedown": "next", "enter": "return", "bspace": "backspace", "kpenter": "padenter", "kp-": "padminus",
@@ -36,7 +36,7 @@ OWN = {
     **{f"f{number}": f"f{number}" for number in range(6, 21)},
 }
 
-# The characters of others, and the sequences of xterm, in which a parameter tells what is held.
+# The characters of other keys, and xterm's sequences, in which a parameter encodes the modifiers.
 CHARACTERS = {"escape": "\x1b", "tab": "\t", "space": " ", "enter": "\r", "bspace": "\x7f", "kp/": "/", "kp*": "*", "kp+": "+"}
 LETTERS = {"up": "A", "down": "B", "right": "C", "left": "D", "home": "H", "end": "F", "f1": "P", "f2": "Q", "f3": "R", "f4": "S"}
 NUMBERS = {"insert": 2, "delete": 3, "pageup": 5, "pagedown": 6, "f5": 15, "f6": 17, "f7": 18, "f8": 19, "f9": 20, "f10": 21, "f11": 23,
@@ -48,7 +48,7 @@ DIGITS = {"2": "\0", "3": "\x1b", "4": "\x1c", "5": "\x1d", "6": "\x1e", "7": "\
 
 
 def named_key(word: str) -> NamedKey | None:
-    """The key of a name; None where it is none. `^c` is `C-c`, and `BTab` is `S-Tab`."""
+    """Return the key of a name; None if it is invalid. `^c` is `C-c`, and `BTab` is `S-Tab`."""
     held = 0
     while len(word) > 2 and word[1] == "-" and word[0].upper() in HELD:
         held, word = held | HELD[word[0].upper()], word[2:]
@@ -63,7 +63,7 @@ def named_key(word: str) -> NamedKey | None:
 
 
 def controlled(letter: str) -> str | None:
-    """The control character that Ctrl types with a character; None where there is none."""
+    """Return the control character that Ctrl types with a character; None if there is none."""
     if letter in DIGITS:
         return DIGITS[letter]
     if letter in " @":
@@ -75,13 +75,13 @@ def controlled(letter: str) -> str | None:
 
 
 def text_of(key: NamedKey) -> str | None:
-    """What a terminal of xterm's kind sends for a key, where it has no act of its own; None where it sends nothing of its own."""
+    """Return the text that xterm sends for a key without an act of its own; None if it sends nothing distinct."""
     bare = key.held & ~META
     letter = CHARACTERS.get(key.name) or (key.name if len(key.name) == 1 else "")
     if key.name == "tab" and bare == SHIFT:
         text: str | None = BACK_TAB
     elif letter:
-        # Shift is in the character already, and others with it send none.
+        # Shift is already in the character, and with others it sends none.
         is_control = bare & CONTROL and not bare & SHIFT
         text = controlled(letter) if is_control else letter if not bare else None
     elif key.name in LETTERS:
@@ -94,7 +94,7 @@ def text_of(key: NamedKey) -> str | None:
 
 
 def acts_named(word: str) -> list[str]:
-    """The acts that type the key of a name; none where it is no name of a key, or a key that sends nothing."""
+    """Return the acts that type the key of a name; none for an unknown name or a key that sends nothing."""
     key = named_key(word)
     if not key:
         return []
@@ -105,8 +105,10 @@ def acts_named(word: str) -> list[str]:
 
 
 def acts_of_word(word: str) -> list[str]:
-    """The acts that type a word: the key of that name, else the word's characters, of which a line feed is a return. ValueError tells of a
-    key that sends nothing."""
+    """Return the acts that type a word: the key of that name, else its characters, with a line feed as a return.
+
+    ValueError for a key that sends nothing.
+    """
     acts = acts_named(word)
     if not acts and named_key(word):
         raise ValueError(f"{printable(word)[:40]} names a key that sends nothing; -l types its characters")
@@ -114,13 +116,12 @@ def acts_of_word(word: str) -> list[str]:
 
 
 def named(key: NamedKey) -> str:
-    """The one name by which a key is known here: what is held, and its name in small letters. With Ctrl a character's case doesn't
-    count."""
+    """Return the canonical name of a key: its modifiers, and its name in lower case. With Ctrl, case does not count."""
     name = key.name.lower() if key.held & CONTROL else key.name
     return "".join(f"{letter}-" for letter in "CMS" if key.held & HELD[letter]) + name
 
 
-# What keys are called where they come from a terminal (module keys), and by the names here; and the sequences that have no name there.
+# The names of keys from a terminal (module keys) by their names here, and the sequences without a name there.
 TYPED_NAMES = {own: name for name, own in OWN.items() if name not in ("enter", "bspace")}
 SEQUENCES = {
     text: named(NamedKey(held, name))
@@ -132,32 +133,34 @@ CONTROLS = {"\r": "enter", "\t": "tab", "\x1b": "escape", "\x7f": "bspace", " ":
 
 
 def names_of_key(key: Key) -> list[str]:
-    """The names of a key as it was typed, of which the first that is bound counts: what is held with it is told by some terminals, and
-    others send the same for several."""
+    """Return the names of a typed key; the first bound one counts.
+
+    Some terminals report modifiers, and others send the same text for several keys.
+    """
     told = [named(NamedKey(key.extended.named_held(), key.extended.name()))] if key.extended else []
     return list(dict.fromkeys(filter(None, [*told, name_of_key(key)])))
 
 
 def typed_name(name: str) -> str:
-    """What a key is called where it comes from a terminal, by its name here."""
+    """Return the name of a key as it comes from a terminal, from its name here."""
     if name in OWN:
         return OWN[name]
     controls = {known: letter for letter, known in CONTROLS.items()}
     return controls.get(name) or (chr(ord(name[2].upper()) & 0x1F) if len(name) == 3 and name.startswith("C-") else name)
 
 
-# Names as a person reads them; of others the first letter is a capital one, and that of one with several letters.
+# The spelling of names for users; in others the first letter is a capital one.
 SPELLED = {"pageup": "PageUp", "pagedown": "PageDown", "bspace": "BSpace", "kpenter": "KPEnter"}
 
 
 def spelled(key: Key) -> str:
-    """Return the name of a key as a person reads it, such as `M-Left`, `C-a` or `F5`; `this key` if it has none."""
+    """Return the name of a key for users, such as `M-Left`, `C-a` or `F5`; `this key` if it has none."""
     name = next(iter(names_of_key(key)), "")
     return spelled_name(name) if name else "this key"
 
 
 def spelled_name(name: str) -> str:
-    """Return a key's name as a person reads it."""
+    """Return a key's name for users."""
     held, last = (name[:-1], name[-1]) if name.endswith("-") else (name[: name.rfind("-") + 1], name[name.rfind("-") + 1 :])
     if len(last) == 1:
         return name
@@ -165,7 +168,7 @@ def spelled_name(name: str) -> str:
 
 
 def name_of_key(key: Key) -> str:
-    """The name of a key as most terminals tell it; nothing of one that has none here."""
+    """Return the name of a key as most terminals report it; nothing if it has none here."""
     if key.name in TYPED_NAMES:
         return TYPED_NAMES[key.name]
     if key.name in CONTROLS:

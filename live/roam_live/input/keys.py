@@ -1,4 +1,4 @@
-"""Bytes of the outer terminal as keys, and keys as acts. The spellings are those of xterm, of the VT220 and of what stands between."""
+"""Bytes of the outer terminal as keys, and keys as acts. It accepts the spellings of xterm, the VT220, and terminals in between."""
 from __future__ import annotations
 
 import codecs
@@ -11,18 +11,18 @@ from roam_live.protocol.colours import BEGINS, COLOUR, FORM, begun_at
 
 
 class Key(NamedFields):
-    """A key: its name, which of a character is itself, the text that terminals send for it, and what this one told of what is held."""
+    """A key: its name, which for a character is the character, the text that terminals send for it, and its reported modifiers."""
 
     name: str
     text: str
     extended: ExtendedKey | None = None
 
     def __new__(cls, name: str, text: str, extended: ExtendedKey | None = None) -> Key:
-        # One is made for each key that is typed.
+        # Each typed key makes one.
         return tuple.__new__(cls, (name, text, extended))
 
 
-# The keys that have an act of their own: what a pane's program is sent for them hangs on its modes.
+# The keys with an act of their own. Their bytes for a pane's program depend on its modes.
 NUMBERED = {1: "find", 2: "insert", 3: "remove", 4: "select", 5: "prev", 6: "next", 7: "find", 8: "select", 17: "f6", 18: "f7", 19: "f8",
             20: "f9", 21: "f10", 23: "f11", 24: "f12", 25: "f13", 26: "f14", 28: "f15", 29: "f16", 31: "f17", 32: "f18", 33: "f19",
             34: "f20", 11: "pf1", 12: "pf2", 13: "pf3", 14: "pf4"}
@@ -40,10 +40,10 @@ SPELLINGS = {
     **{f"\x1b[1;5{letter}": name for letter, name in CONTROLLED.items()},
     **{f"\x1bO{letter.lower()}": name for letter, name in CONTROLLED.items()},
 }
-# The key that interrupts a program, and by which a person waits no longer.
+# The key that interrupts a program, and that ends a user's wait.
 INTERRUPT = "\x03"
 
-# A paste begins and ends so; what stands between is one key of the name `text`, or several, as it comes.
+# A paste begins and ends with these. Its text is one key named `text`, or several, as it arrives.
 PASTE, PASTED = "\x1b[200~", "\x1b[201~"
 SPELLINGS.update({PASTE: "paste", PASTED: "pasted"})
 ACTS = {name for name in SPELLINGS.values() if not name.startswith("C-") and not name.startswith("paste")}
@@ -51,13 +51,13 @@ TYPED = {"\r": "key return", "\x7f": "key backspace"}
 
 ESCAPE = "\x1b"
 
-# A sequence, or a character; and the beginning of a sequence that more may follow.
+# A sequence, or a character; and the start of a sequence that may continue.
 WHOLE = LazyPattern(rf"(?as){FORM}|\x1b\[\[[A-E]|\x1b\[[0-?]*[ -/]*[@-~]|\x1bO[ -~]|.")
 BEGUN = LazyPattern(r"\x1b(\[\[?|\[[0-?]+[ -/]*|O)?")
 
 
 class Keys:
-    """Keys of a stream that comes in any chunks."""
+    """Keys of a stream, however it is cut into chunks."""
 
     def __init__(self) -> None:
         self.decoder = codecs.getincrementaldecoder("utf-8")("replace")
@@ -65,7 +65,7 @@ class Keys:
         self.is_pasting = False
 
     def fed(self, chunk: bytes) -> list[Key]:
-        """The keys that are whole now. An escape that may begin more waits."""
+        """Return the complete keys. An escape that may begin a sequence waits."""
         text, self.rest = self.rest + self.decoder.decode(chunk), ""
         if ESCAPE not in text and not self.is_pasting:
             return [Key(letter, letter) for letter in text]
@@ -86,7 +86,7 @@ class Keys:
         return keys
 
     def typed(self, text: str) -> list[Key]:
-        """The keys of a text in which no paste begins; what may begin a sequence at its end waits."""
+        """Return the keys of a text without the start of a paste. A partial sequence at its end waits."""
         answer = begun_at(text)
         cut = text.rfind("\x1b", max(0, len(text) - 32)) if answer is None else answer
         is_cut = answer is not None or cut >= 0 and BEGUN.fullmatch(text[cut:]) is not None
@@ -94,30 +94,31 @@ class Keys:
         return keys_in(text[:cut] if is_cut else text)
 
     def pasted(self, text: str) -> list[Key]:
-        """A text that is pasted, as one key; what may begin the end of the paste waits."""
+        """Return pasted text as one key. A partial end of the paste waits."""
         begun = next((length for length in range(len(PASTED) - 1, 0, -1) if text.endswith(PASTED[:length])), 0)
         before, self.rest = text[: len(text) - begun], text[len(text) - begun :]
         return [Key("text", before)] * bool(before)
 
     def waits(self) -> bool:
-        """Whether an escape waits for more that may not come; of a report of the mouse all does, and of an answer of the terminal, however
-        long that takes."""
+        """Return True if an escape waits for more bytes that may never come.
+
+        Mouse reports and answers of the terminal always wait for the rest, however long that takes.
+        """
         return self.rest != "" and not self.is_pasting and not self.rest.startswith((BEGIN, BEGINS_ANSWER, *BEGINS))
 
     def ended(self) -> list[Key]:
-        """The keys of what waits, where no more came in time."""
+        """Return the keys of the waiting bytes if no more arrived in time."""
         text, self.rest = self.rest, ""
         return [Key(letter, letter) for letter in text]
 
 
 def keys_in(text: str) -> list[Key]:
-    """The keys of a text, and reports of the mouse and answers of the terminal among them; a sequence that isn't known has the name of
-    none."""
+    """Return the keys of a text, with mouse reports and answers of the terminal. An unknown sequence is named as no key."""
     return [key_of(found[0]) for found in WHOLE.finditer(text)]
 
 
 def key_of(text: str) -> Key:
-    """The key of a character or a sequence: one that tells what is held is the key that other terminals send for it."""
+    """Return the key of a character or a sequence. A sequence with modifiers becomes the key that other terminals send."""
     if len(text) == 1:
         return Key(text, text)
     extended = extended_key(text) if text.endswith(("~", "u")) else None
@@ -129,7 +130,7 @@ def key_of(text: str) -> Key:
 
 
 def name_of(text: str) -> str:
-    """The name of a character or a sequence."""
+    """Return the name of a character or a sequence."""
     if text.startswith(BEGIN) and text[-1] in "Mm":
         return MOUSE
     if text.startswith(BEGINS):
@@ -140,19 +141,21 @@ def name_of(text: str) -> str:
 
 
 def acts_of(key: Key) -> list[str]:
-    """The acts of a key that is typed: its own, or a character for each of its text."""
+    """Return the acts of a typed key: its own, or a character for each of its text."""
     if key.name in ACTS:
         return [f"key {key.name}"]
     return [TYPED.get(letter) or f"char {ord(letter):x}" for letter in key.text]
 
 
-# What stands round a paste, to a program that asked for it (xterm, bracketed paste).
+# The brackets around a paste, for a program with bracketed paste (xterm).
 BRACKETS = tuple([f"char {ord(letter):x}" for letter in text] for text in (PASTE, PASTED))
 
 
 def pasted_acts(text: str, is_bracketed: bool) -> list[str]:
-    """The acts of a text that is pasted, between brackets where the program wants that. No control character is in it but TAB and CR, so it
-    never ends its brackets."""
+    """Return the acts of a pasted text, in brackets if the program wants them.
+
+    It contains no control character but TAB and CR, so it never ends its own brackets.
+    """
     if not is_bracketed:
         return acts_of(Key("text", text))
     return [*BRACKETS[0], *(f"char {ord(letter):x}" for letter in text), *BRACKETS[1]]

@@ -1,5 +1,4 @@
-"""A connection to a session's client process: the lines that wait for it, what is told over it, and how it is had again where it is
-lost."""
+"""A connection to a session's client process: queued lines, received records, and reconnection after a loss."""
 from __future__ import annotations
 
 import os
@@ -21,31 +20,31 @@ if TYPE_CHECKING:
     from roam_live.protocol.display_records import DisplayRecord
     from roam_live.protocol.session_interface import AnySession
 
-# While no room is left on the disk it is tried so often: a client is had as soon as there is some.
+# Seconds between attempts while the disk is full: a client starts as soon as there is room.
 FULL_PAUSE = 1
 
-# So many seconds a client has for its socket, and how often it is looked for.
+# Seconds for a client to create its socket, and seconds between checks.
 READY_WAIT = 10.0
 STEP = 0.02
 
-# So many seconds what was typed before a person left may take, and a client has for its first record.
+# Seconds for the input typed before a detach to reach the client, and for a client's first record.
 LAST_WAIT = 1.5
 FIRST_WAIT = 5.0
 
-# What a client tells before it ends is read so many times at most, 65,536 bytes each.
+# The last output of a client is read at most this many times, 65,536 bytes each.
 LAST_READS = 64
 
-# So many acts stand in one line at most, where they come at once, as what is pasted: they are typed in one turn. A client has 64 on their
-# way, so that one line waits while another is answered, and another terminal's key finds room between.
+# Most acts in one line if they arrive at once, such as a paste: the client types them in one turn. A client accepts 64 in flight. So one
+# line waits while another is answered, and another terminal's key fits in between.
 MOST_ACTS = 32
 
-# So many bytes wait for a client before no more is read of what is typed.
+# Bytes that may wait for a client. Above this, no more input is read.
 TYPED_LIMIT = 1 << 24
 
-# What a line begins with whose acts were pasted.
+# The start of a line whose acts were pasted.
 PASTED = "paste ; "
 
-# Why a link was lost.
+# The reason of a lost link.
 LOST = "the client process ended; the last keys may be lost"
 NO_MORE = "at most 16 terminals may attach"
 LET_GO = "this terminal was disconnected; the last keys may be lost"
@@ -53,55 +52,56 @@ NO_RECORDS = "the client process there sends no display records"
 REFUSED = "the client process refused a line"
 SILENT = "the client process does not answer"
 
-# What an act begins with that goes to the program in the pane in focus.
+# The start of each act that goes to the program in the focused pane.
 TYPES = ("char ", "key ")
 
 
 def greeting_of(is_read_only: bool, prediction: str) -> bytes:
-    """What a client is told first."""
+    """Return the first lines sent to a client."""
     more = b"watch\n" if is_read_only else b"" if prediction == "never" else f"predict {prediction}\n".encode()
     return b"events\n" + more
 
 
 class ClientLink:
-    """A terminal's connection to the client, over which it is told records. Each line goes whole to one connection: what of a line came to
-    one that is lost is nothing."""
+    """A terminal's connection to the client, which sends records over it.
+
+    Each line goes whole to one connection. A client ignores a partial line at the end of a lost connection.
+    """
 
     def __init__(self, path: str | os.PathLike[str], is_read_only: bool, prediction: str = "never") -> None:
         self.path, self.is_read_only = path, is_read_only
         self.greeting = greeting_of(is_read_only, prediction)
         self.peer: socket.socket | None = None
-        # The process at the other end, where it is known.
+        # The process at the other end, if known.
         self.process = 0
         self.waiting = bytearray()
         self.sent = 0
-        # How many acts the last line has, where more may join them, and whether they were pasted.
+        # The number of acts in the last line, if more may join them, and a flag for pasted ones.
         self.acts = 0
         self.is_pasted = False
         self.since = 0.0
         self.forget()
 
     def forget(self) -> None:
-        """Knows nothing yet of what a connection tells."""
+        """Reset the state of the previous connection."""
         self.records = Records()
-        # Whether anything came, and whether the end; how many lines it was given, and how many of them are done; that it is full, and which
-        # line it refused.
+        # Flags for the first byte and the end of file; the lines sent, and those done; a flag for a full client, and the line it refused.
         self.has_come = self.has_ended = False
         self.lines = self.taken = 0
         self.is_full, self.refusal = False, ""
 
     def fileno(self) -> int:
-        """Its descriptor."""
+        """Return its descriptor."""
         return self.end().fileno()
 
     def end(self) -> socket.socket:
-        """The connection, which has to be there."""
+        """Return the connection, which has to exist."""
         if self.peer is None:
             raise ValueError("a link that isn't connected was asked for its connection")
         return self.peer
 
     def connect(self) -> None:
-        """Connects to the client."""
+        """Connect to the client."""
         self.peer = connected_now(self.path)
         self.process = SocketPeer.of(self.peer).process
         self.since, self.sent = time.monotonic(), 0
@@ -114,7 +114,7 @@ class ClientLink:
         self.lines = self.waiting.count(b"\n")
 
     def predict(self, prediction: str) -> None:
-        """Has predictions be shown otherwise, here and by the clients that are connected to later."""
+        """Change the prediction setting, here and for later clients."""
         is_waiting = self.waiting.startswith(self.greeting)
         greeting = greeting_of(self.is_read_only, prediction)
         if is_waiting:
@@ -124,13 +124,13 @@ class ClientLink:
             self.say(f"predict {prediction}")
 
     def say(self, line: str) -> None:
-        """Adds a line at the end."""
+        """Append a line."""
         self.waiting += f"{line}\n".encode()
         self.acts = 0
         self.lines += 1
 
     def type(self, *acts: str, is_pasted: bool = False) -> None:
-        """Adds acts at the end; those that were pasted have lines of their own, which say so."""
+        """Append acts; pasted ones have lines of their own, marked as such."""
         for act in acts:
             if 0 < self.acts < MOST_ACTS and is_pasted == self.is_pasted:
                 self.waiting[-1:] = f" ; {act}\n".encode()
@@ -141,11 +141,11 @@ class ClientLink:
             self.is_pasted = is_pasted
 
     def is_stuffed(self) -> bool:
-        """Return True if so much waits that nothing more is to be typed, and no paste among it, which a C-c would drop."""
+        """Return True if too much waits to accept more typing, and no paste among it that C-c would drop."""
         return len(self.waiting) >= TYPED_LIMIT and not self.has_pastes()
 
     def is_full_behind(self) -> bool:
-        """Return True if as much waits with a paste among it, so that only a C-c helps."""
+        """Return True if as much waits with a paste among it, so that only C-c helps."""
         return len(self.waiting) >= TYPED_LIMIT and self.has_pastes()
 
     def has_pastes(self) -> bool:
@@ -153,8 +153,10 @@ class ClientLink:
         return PASTED.encode() in self.waiting
 
     def drop_pasted(self) -> list[str]:
-        """Drop the pastes that weren't begun to be sent, and all keys behind the first of them, and return the lines that had them. Other
-        acts, and what is asked for, stay. A line that is half sent is sent whole."""
+        """Drop the pastes that are still unsent, and all keys after the first of them; return the lines that had them.
+
+        Other acts and requests stay. A half-sent line is sent whole.
+        """
         if not self.has_pastes():
             return []
         begin = self.waiting.find(b"\n") + 1 if self.sent else 0
@@ -168,7 +170,7 @@ class ClientLink:
         return dropped
 
     def send(self) -> bool:
-        """Sends what the client takes now; tells whether it is still there."""
+        """Send as much as the client accepts now, and return True while it is there."""
         self.acts = 0
         try:
             self.sent += self.end().send(memoryview(self.waiting)[self.sent : self.sent + 65536])
@@ -182,7 +184,7 @@ class ClientLink:
         return True
 
     def read_events(self) -> list[DisplayRecord] | None:
-        """The records that came; None where the connection has ended, or tells what is no record."""
+        """Return the records that arrived; None if the connection has ended or sent an invalid record."""
         chunk = read(self.end().fileno())
         self.has_come = self.has_come or bool(chunk)
         try:
@@ -197,7 +199,7 @@ class ClientLink:
         return records
 
     def note(self, record: DisplayRecord) -> None:
-        """Takes note of what a record tells of the connection."""
+        """Record what the client reports of the connection."""
         if record.word == "taken":
             self.taken = record.numbers[0]
         elif record.word == "full":
@@ -206,21 +208,23 @@ class ClientLink:
             self.refusal = record.words
 
     def exchanged(self, seconds: float = 0.1) -> list[DisplayRecord] | None:
-        """Waits so many seconds at most, gives what is taken, and tells the records that came; None where the connection has ended: what
-        was told before that is read first."""
+        """Wait up to `seconds`, send what fits, and return the records that arrived.
+
+        Return None once the connection has ended and its last records were read.
+        """
         events = ready(self.end(), READ | WRITE if self.waiting else READ, seconds)
         if events & WRITE:
             self.send()
         return self.read_events() if events & READ else []
 
     def hear_last(self) -> None:
-        """Takes note of what a client told that takes nothing more, as that it refused a line."""
+        """Read the last records of a client that accepts nothing more, such as the refusal of a line."""
         for _ in range(LAST_READS):
             if self.read_events() is None:
                 return
 
     def begins(self, seconds: float) -> bool:
-        """Gives what waits, and tells whether records begin to come in so many seconds."""
+        """Send the waiting lines, and return True if records arrive within so many seconds."""
         end = time.monotonic() + seconds
         while not self.records.begun and time.monotonic() < end:
             if self.exchanged() is None:
@@ -228,15 +232,15 @@ class ClientLink:
         return self.records.begun
 
     def untaken(self) -> int:
-        """How many lines were given that aren't taken yet."""
+        """Return the number of sent lines that are not taken yet."""
         return max(0, self.lines - self.taken)
 
     def is_done(self) -> bool:
-        """Whether all lines that were given are taken, with all their acts."""
+        """Return True if the client has taken all lines, with all their acts."""
         return self.taken >= self.lines
 
     def loss(self) -> str:
-        """Why a connection has ended, where its client is still there."""
+        """Return the reason that a connection has ended although its client still runs."""
         if self.is_full or not self.has_come:
             return NO_MORE
         if not self.records.begun:
@@ -244,13 +248,13 @@ class ClientLink:
         return f"{REFUSED}: {self.refusal}" if self.refusal else LET_GO
 
     def close(self) -> None:
-        """Closes it."""
+        """Close it."""
         if self.peer:
             self.peer.close()
             self.peer = None
 
     def part(self, seconds: float = LAST_WAIT) -> bool:
-        """Gives the client what was typed, closes, and tells whether it took all in so many seconds."""
+        """Send the typed input, close, and return True if the client took all of it within so many seconds."""
         end = time.monotonic() + seconds
         has_said, has_ended = False, not self.peer
         while not has_ended and time.monotonic() < end:
@@ -263,14 +267,14 @@ class ClientLink:
 
 
 def without_keys(line: str) -> str:
-    """Return a line without what it types into a pane; nothing of one that was pasted."""
+    """Return a line without the acts that type into a pane; nothing of a pasted line."""
     if line.startswith(PASTED):
         return ""
     return " ; ".join(act for act in line.split(" ; ") if not act.startswith(TYPES))
 
 
 class Reconnector:
-    """Has a link connected: to the client that is there, or to another, which is spawned after pauses that grow."""
+    """Reconnects a link: to the existing client, or to a new one, which is spawned after growing pauses."""
 
     def __init__(self, session: AnySession, link: ClientLink, is_full: Callable[[], bool] = lambda: False) -> None:
         self.session, self.link, self.is_full = session, link, is_full
@@ -279,7 +283,7 @@ class Reconnector:
         self.client: int | None = None
 
     def lost(self) -> str:
-        """Takes note of a link that has ended, and tells why, as far as that is known yet."""
+        """Record that a link has ended, and return the reason as far as it is known yet."""
         self.session.read()
         why = self.link.loss() if self.session.runs("client") else LOST
         self.retry.begins(self.link.since)
@@ -289,19 +293,19 @@ class Reconnector:
         return why
 
     def pause(self) -> float:
-        """The seconds until it is tried anew."""
+        """Return the seconds until the next attempt."""
         pause = self.retry.pause()
         return min(pause, FULL_PAUSE) if pause and is_disk_full(self.link.path) else pause
 
     def connected(self) -> str:
-        """Takes note of a link that is there, and tells what was lost with the one before."""
+        """Record that a link is connected, and return a message if the previous one lost something."""
         self.begun_at = 0.0
         self.session.read()
         before, self.client = self.client, self.session.process("client")
         return "" if before is None else LET_GO if before == self.client else LOST
 
     def connect(self) -> tuple[float, str] | None:
-        """Connects where that can be done now; else the seconds until it is tried again, and why, where a person is to know."""
+        """Connect if possible now. Otherwise return the seconds until the next try, and a reason for the user if there is one."""
         try:
             self.link.connect()
             return None
@@ -321,7 +325,7 @@ class Reconnector:
         return self.begin(now)
 
     def begin(self, now: float) -> tuple[float, str]:
-        """Starts a client, which has its socket soon."""
+        """Spawn a client, whose socket comes soon."""
         try:
             self.session.revive()
         except (Fault, OSError) as fault:
@@ -330,7 +334,7 @@ class Reconnector:
         return STEP, ""
 
     def failed(self, said: str) -> tuple[float, str]:
-        """What is told of a fault, and the pause after it."""
+        """Return the pause after a failure, with its message."""
         self.retry.fails()
         self.begun_at = 0.0
         return self.pause(), said

@@ -1,23 +1,23 @@
-"""Datagrams over a Unix stream, as a server's socket for clients carries them: each behind its length, in two bytes."""
+"""Datagrams over a Unix stream, as on a server's socket for clients: each follows its length, in two bytes."""
 from __future__ import annotations
 
 import socket
 
 from roam_live.common.io import read, write
 
-# A datagram has a header of 42 bytes, which begins with these letters, and 1 to 1,200 behind it.
+# A datagram has a header of 42 bytes, which begins with these letters, and 1 to 1,200 bytes after it.
 LETTERS = b"RM"
 SHORTEST, LONGEST = 43, 1242
 
-# The place of a datagram in its instruction, from 0, stands in these bytes. While so little waits an instruction more is queued, and where
-# it isn't, none of it is.
+# These bytes of a datagram contain its index in its instruction, from 0. An instruction is queued whole while less than this waits;
+# otherwise it is dropped whole.
 INDEX = slice(36, 38)
 LITTLE = 1 << 16
 MOST = LITTLE + (1 << 22)
 
 
 def is_datagram(text: bytes) -> bool:
-    """Whether this may be a datagram of roam."""
+    """Return True if this may be a datagram of roam."""
     return SHORTEST <= len(text) <= LONGEST and text[:2] == LETTERS
 
 
@@ -31,11 +31,11 @@ class Carrier:
         self.takes = False
 
     def fileno(self) -> int:
-        """Its descriptor."""
+        """Return its descriptor."""
         return self.peer.fileno()
 
     def received(self) -> list[bytes] | None:
-        """The datagrams that came whole; None where the other end has left, or says what is no datagram."""
+        """Return the complete datagrams that arrived; None at the end of file or after an invalid one."""
         chunk = read(self.peer.fileno())
         if chunk == b"":
             return None
@@ -52,7 +52,7 @@ class Carrier:
         return found
 
     def send(self, datagram: bytes) -> None:
-        """Queues a datagram: of an instruction all or none."""
+        """Queue a datagram: all of an instruction or none."""
         if datagram[INDEX] == b"\0\0":
             self.takes = len(self.going) <= LITTLE
         self.takes = self.takes and len(self.going) <= MOST
@@ -60,9 +60,9 @@ class Carrier:
             self.going += len(datagram).to_bytes(2, "big") + datagram
 
     def flush(self) -> bool:
-        """Writes what is taken; tells whether the other end is still there."""
+        """Write as much as the other end accepts, and return True while it is there."""
         return write(self.peer.fileno(), self.going)
 
     def close(self) -> None:
-        """Closes the stream."""
+        """Close the stream."""
         self.peer.close()

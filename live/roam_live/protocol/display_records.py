@@ -1,30 +1,32 @@
-"""What a client process tells over the stream of a terminal that asked for it by the line `events`: records, a line each, and for some so
-many bytes behind it (roam(1), RECORDS)."""
+"""The records that a client process sends to a terminal after the line `events`.
+
+Each is a line, some with counted bytes after it (roam(1), RECORDS).
+"""
 from __future__ import annotations
 
 from roam_live.common.io import LineReader, LongLine
 from roam_live.common.named_fields import NamedFields
 from roam_live.common.text import decimal_in
 
-# What came before this was painted, and isn't known to the terminal any more.
+# Output before this line was painted, and the terminal may no longer show it.
 BEGIN = b"\nevents\n"
 FULL = b"full\n"
-# A line has fewer bytes, and what stands behind one too: a screen of 200 by 500 in which each cell has an ink of its own is some 7 MB.
+# A line is shorter, and so is the data after most lines. A screen of 200 by 500 in which each cell has its own style is some 7 MB.
 LONGEST_LINE = 512
 MOST_BYTES = 1 << 24
 MOST_NUMBER = 10**20 - 1
-# How many numbers stand behind each word; of these words the number says how many bytes follow.
+# The count of numbers after each word. For these words the number is the length of the data that follows.
 NUMBERS = {"events": 0, "size": 2, "part": 2, "paint": 1, "anew": 1, "screen": 1, "silent": 1, "heard": 0, "refused": 1, "taken": 1,
            "full": 0}
 CARRYING = ("paint", "anew", "screen")
 
 
 class NoRecord(Exception):
-    """What came is no record: whoever is at the other end isn't a client of this version."""
+    """An invalid record: the peer is not a client of this version."""
 
 
 class DisplayRecord(NamedFields):
-    """A record: its word, its numbers, and the bytes behind it or the words in its line."""
+    """A record: its word, its numbers, and the data after it or the words in its line."""
 
     word: str
     numbers: tuple[int, ...] = ()
@@ -32,12 +34,12 @@ class DisplayRecord(NamedFields):
     words: str = ""
 
     def __new__(cls, word: str, numbers: tuple[int, ...] = (), data: bytes = b"", words: str = "") -> DisplayRecord:
-        # Several are made for each key that is typed.
+        # Each typed key makes several.
         return tuple.__new__(cls, (word, numbers, data, words))
 
 
 def number_of(text: str) -> int:
-    """A number in decimals without a leading zero."""
+    """Return a decimal number without a leading zero."""
     number = decimal_in(text, MOST_NUMBER)
     if number is None:
         raise NoRecord(f"{text[:20]!r} is no number")
@@ -45,7 +47,7 @@ def number_of(text: str) -> int:
 
 
 def line_of(line: bytes) -> DisplayRecord:
-    """The record of a line, without the bytes that stand behind it."""
+    """Return the record of a line, without the data after it."""
     try:
         word, *rest = line.decode("utf-8").split(" ")
     except UnicodeDecodeError:
@@ -62,16 +64,16 @@ def line_of(line: bytes) -> DisplayRecord:
 
 
 class Records:
-    """Takes what comes over a stream, cut anywhere, and gives the records in it, each once and in order."""
+    """Splits a stream into its records, each once and in order, however it is cut into chunks."""
 
     def __init__(self) -> None:
         self.kept = LineReader(LONGEST_LINE)
         self.begun = False
-        # The record whose bytes aren't there yet.
+        # The record whose data is incomplete.
         self.waiting: DisplayRecord | None = None
 
     def came(self, chunk: bytes) -> list[DisplayRecord]:
-        """The records that these bytes end. What was painted before the first one is dropped."""
+        """Return the records that these bytes complete. Output before the first one is dropped."""
         self.kept.kept += chunk
         found: list[DisplayRecord] = []
         if not self.begun and not self._begins(found):
@@ -81,7 +83,7 @@ class Records:
         return found
 
     def _begins(self, found: list[DisplayRecord]) -> bool:
-        """Whether records have begun; a client without room says so and nothing else."""
+        """Return True once records have begun. A client without room reports that and nothing else."""
         kept = self.kept.kept
         place = kept.find(BEGIN)
         if place >= 0:
@@ -95,7 +97,7 @@ class Records:
         return False
 
     def _next(self) -> DisplayRecord | None:
-        """The next record that is there whole."""
+        """Return the next complete record."""
         record = self.waiting or self._line()
         if record is None or record.word not in CARRYING:
             return record
@@ -104,7 +106,7 @@ class Records:
         return None if data is None else DisplayRecord(record.word, record.numbers, data, record.words)
 
     def _line(self) -> DisplayRecord | None:
-        """The record of the line that stands first, where one does whole."""
+        """Return the record of the first line; None while that line is incomplete."""
         try:
             line = self.kept.line()
         except LongLine:
@@ -113,7 +115,7 @@ class Records:
 
 
 class Screen(NamedFields):
-    """A screen as it is told, cell by cell: a right half of a wide character is empty."""
+    """A screen, cell by cell, as a record contains it. The right half of a wide character is empty."""
 
     rows: int
     cols: int
@@ -122,12 +124,12 @@ class Screen(NamedFields):
     cells: tuple[tuple[str, ...], ...]
 
     def text(self) -> list[str]:
-        """Its rows, without blanks at their ends."""
+        """Return its rows, without trailing blanks."""
         return ["".join(row).rstrip(" ") for row in self.cells]
 
 
 def screen_of(data: bytes) -> Screen:
-    """The screen of a record's bytes; what isn't one is no record."""
+    """Return the screen of a record's data; NoRecord if it is invalid."""
     try:
         head, *lines = data.decode("utf-8").split("\n")
     except UnicodeDecodeError:

@@ -1,4 +1,4 @@
-"""A front end's connection to the pty host: what it says and hears of the session, and the texts that it gives."""
+"""A front end's connection to the pty host: reports and requests about the session, and the texts to store."""
 from __future__ import annotations
 
 import os
@@ -24,31 +24,30 @@ if TYPE_CHECKING:
     from roam_live.common.tty import Size
     from roam_live.protocol.host_client import HostClient
 
-# What is told to who had all others at the session leave it: how many do.
+# Sent to a terminal that detached all others: their number.
 LEFT = "left"
 
-# By what another host is known, and what a host reports of texts.
+# The word that names a host, and the words of its reports about texts.
 HOST = "host"
 ANSWERS = (STORED, INSERTED, LOST, REFUSED)
 
-# What is told here of one where no host is there that takes any, and of one for which there is no room yet: with the host's words. It
-# is given again after so many seconds, until there is.
+# The local reports for a text without a host, and for one without room yet, with the host's words. The front end retries after so many
+# seconds until there is room.
 NO_HOST, LATER = "no host", "later"
 STORES_AGAIN = 0.3
 
-# Where so many connections in a row couldn't be had one may still be there soon.
+# After so many failed connections in a row one may still come soon.
 FEW = 2
 
-# For so many seconds a host that was not met yet may be about to listen, as where it was launched just before: it is tried again at short
-# pauses, and expected.
+# A new host may begin to listen within so many seconds after its launch. Until then it is expected, and retried at short pauses.
 LAUNCHES = 5.0
 
-# So many bytes wait for a host at most.
+# The most bytes that may wait for a host.
 MOST_UNSENT = 2 * MOST_BYTES
 
 
 class HostLink(Subscription):
-    """The connection, while a host is there: it reports this terminal, and receives what is new of the session and its windows."""
+    """The connection to a host. It reports this terminal, and receives news of the session and its windows."""
 
     again = "follow host"
 
@@ -57,38 +56,37 @@ class HostLink(Subscription):
         super().__init__(lambda: connected_now(path), loop, lambda lines: None, self.forget)
         self.begun = loop.clock()
         self.name, self.size, self.kind = terminal_name(), size, "read-only" if is_read_only else "read-write"
-        # What is known of each window where the person is or was, and the one where he is.
+        # The views of each window that the user has visited, and of the current one.
         self.clients: dict[int, HostClient] = {}
         self.here: HostClient | None = None
-        # Whether a host was there that tells so much, by which name it is known, and whether it is there now.
+        # A flag for a host that has reported so much, the host's name, and a flag for its presence.
         self.is_known = False
         self.host_name = ""
         self.is_there = False
         self.reader = AnswerReader()
-        # Texts that aren't held yet, by their names, and those that are, and aren't known to be put; and who gave each. A number is that of
-        # a buffer of the host's.
+        # Texts by name that the host has not stored yet; stored ones whose insertion is unconfirmed; and the owner of each. A number is
+        # that of one of the host's buffers.
         self.unstored: dict[str, bytes | int] = {}
         self.stored: dict[str, None] = {}
         self.givers: dict[str, HostClient] = {}
-        # Those of which the host has to tell what becomes of them; and whether it had no room for one, so that one after the other is
-        # given.
+        # The texts whose fate the host has still to report; and a flag for a full host, to which texts go one by one.
         self.asked: set[str] = set()
         self.is_full = False
-        # What is called where this terminal is to leave, and with how many others do, where it had them do so.
+        # Called if this terminal must detach, and with the number of others that its request detached.
         self.leaves: Callable[[], object] = lambda: None
         self.others_left: Callable[[str], object] = lambda count: None
-        # The lines by which this terminal brings what new panes have, once to each host: behind a cut another may have brought since.
+        # The lines with this terminal's environment, sent once to each host: another terminal may have sent its own during an outage.
         self.environment: list[str] = []
-        # The colours of this terminal, as far as it told them, and what of that the host wasn't told: each is told them once.
+        # The colours of this terminal, as far as it reported them, and those still unsent to the host. Each is sent once.
         self.colours = Colours()
         self.untold: list[str] = []
-        # What takes lines about windows, and is called as they begin, and once the connection is lost; None while nobody asks.
+        # Takes lines about windows, and is called as they begin, and once the connection is lost; None without a subscriber.
         self.windows: tuple[Callable[[list[str]], object], Callable[[], object], Callable[[], object]] | None = None
 
     # ---- the connection
 
     def begin(self, peer: socket.socket) -> None:
-        """Follows a connection that is there."""
+        """Follow a new connection."""
         super().begin(peer)
         self.reader = AnswerReader()
         if self.here:
@@ -97,7 +95,7 @@ class HostLink(Subscription):
             self.ask_windows()
 
     def go(self, client: HostClient) -> None:
-        """Be at a window from now on, and report that once connected."""
+        """Go to a window, and report that once connected."""
         before, self.here = self.here, client
         if before and before is not client:
             before.left()
@@ -108,23 +106,23 @@ class HostLink(Subscription):
             self.connect()
 
     def follow_windows(self, hears: Callable[[list[str]], object], begins: Callable[[], object], loses: Callable[[], object]) -> None:
-        """Ask for the windows, now and at each connection."""
+        """Subscribe to the windows, now and on each connection."""
         self.windows = hears, begins, loses
         if self.peer:
             self.ask_windows()
 
     def ask_windows(self) -> None:
-        """Ask for the windows anew."""
+        """Request the windows anew."""
         if self.windows:
             self.windows[1]()
             self.ask(WINDOWS)
 
     def ask(self, line: str, number: int = SESSION) -> None:
-        """Says a line about a window, or about the session, while a host is connected."""
+        """Send a line about a window, or about the session, while a host is connected."""
         super().ask(led(number, line))
 
     def ask_with(self, line: str, data: bytes, number: int) -> bool:
-        """Says a line with bytes behind it, and tells whether a host is connected that takes them."""
+        """Send a line and the data after it, and return True if a connected host accepts them."""
         if not self.peer or not self.has_room(len(line) + len(data)):
             return False
         self.ask(line, number)
@@ -132,17 +130,17 @@ class HostLink(Subscription):
         return True
 
     def is_connecting(self) -> bool:
-        """Whether a connection may be there soon: none is, as where the host was launched just before, and few were tried in a row."""
+        """Return True if a connection may succeed soon: there is none yet, and few tries in a row have failed."""
         return bool(self.path) and self.peer is None and self.faults <= FEW
 
     def lost(self, why: str) -> None:
-        """Lets go of a connection, or goes on without one that can't be had, which is tried again."""
+        """Drop a connection, or continue without one, and retry it later."""
         super().lost(why)
         if not self.is_known and self.loop.clock() < self.begun + LAUNCHES:
             self.faults = 0
 
     def hear(self) -> None:
-        """Takes what came; what can't be an answer ends the connection."""
+        """Read the lines that arrived. An invalid answer ends the connection."""
         chunk = read(self.peer.fileno()) if self.peer else None
         if chunk == b"":
             self.lost(LET_GO)
@@ -183,7 +181,7 @@ class HostLink(Subscription):
         return True
 
     def forget(self) -> None:
-        """Knows no more who is there. Where no host was known before, none is there that takes texts."""
+        """Forget the other terminals. If no host was known before, none accepts texts."""
         self.is_there = False
         for client in list(self.clients.values()):
             client.forget()
@@ -193,8 +191,10 @@ class HostLink(Subscription):
             self.windows[2]()
 
     def meet(self, name: str) -> None:
-        """Goes on with a host: what it doesn't hold yet is given again. To another one all is lost that was given before: what was pasted
-        into a program isn't put into the shell that is in its place."""
+        """Continue with a host, and send it again the texts it has not stored.
+
+        If the host is another one, the earlier texts are lost. A paste for one program must not reach the shell in its place.
+        """
         is_other = self.host_name not in ("", name)
         for line in self.environment if name != self.host_name else ():
             self.ask(line)
@@ -217,7 +217,7 @@ class HostLink(Subscription):
     # ---- colours
 
     def tell_colour(self, text: str) -> None:
-        """Takes an answer of the terminal: what colour it has, which the host is told where this terminal edits."""
+        """Take the terminal's answer about a colour, and send it to the host if this terminal is read-write."""
         told = told_in(text)
         line = " ".join((COLOUR, *told)) if told else ""
         if line and self.kind == "read-write" and line not in self.colours.lines():
@@ -226,7 +226,7 @@ class HostLink(Subscription):
             self.tell_colours()
 
     def tell_colours(self) -> None:
-        """Tells the host what it wasn't told of this terminal's colours, while it is there."""
+        """Send the host this terminal's unsent colours while it is connected."""
         for line in self.untold if self.is_there else ():
             self.ask(line)
         self.untold = [] if self.is_there else self.untold
@@ -234,7 +234,7 @@ class HostLink(Subscription):
     # ---- texts
 
     def lose(self, word: str) -> None:
-        """Gives no more of what was to be given, and tells why."""
+        """Give up all texts, and report the reason."""
         names = [*self.stored, *self.unstored]
         self.stored.clear()
         self.unstored.clear()
@@ -242,7 +242,7 @@ class HostLink(Subscription):
             self.tell_giver(name, word, "")
 
     def tell_giver(self, name: str, word: str, more: str) -> None:
-        """Report what becomes of a text to who gave it, who is forgotten once nothing more comes."""
+        """Report the fate of a text to its owner, and forget the owner after the last report."""
         giver = self.givers.get(name)
         if name not in self.stored and name not in self.unstored:
             self.givers.pop(name, None)
@@ -250,32 +250,37 @@ class HostLink(Subscription):
             giver.answers(name, word, more)
 
     def has_room(self, length: int) -> bool:
-        """Whether a text of so many bytes may wait here: where a host is stopped nothing goes, not even what isn't wanted any more."""
+        """Return True if a text of so many bytes may wait here. A stopped host drains nothing, not even cancelled texts."""
         return len(self.waiting) + length <= MOST_UNSENT
 
     def store(self, name: str, data: bytes | int, giver: HostClient) -> None:
-        """Has the host hold a text, or a buffer of its own as one, of which one that it hasn't is refused: it is given again, where the
-        connection is lost or the host has no room, until it is held."""
+        """Store a text at the host, or one of its buffers as a text.
+
+        If the connection is lost or the host has no room, send it again until it is stored. The host refuses the number of an unknown
+        buffer.
+        """
         self.unstored[name], self.givers[name] = data, giver
         if self.is_there and not self.is_full:
             self.ask_to_take(name, data)
 
     def store_first(self) -> None:
-        """Gives a host that had no room the first text that waits, once it has told of those that it was given; the next ones are given
-        at once, where none waits."""
+        """Send the first waiting text to a host that had no room, once it has answered the earlier ones.
+
+        If none waits, later texts are sent at once.
+        """
         name = next(iter(self.unstored), "")
         self.is_full = name != ""
         if name and self.is_there and not self.asked:
             self.ask_to_take(name, self.unstored[name])
 
     def ask_to_take(self, name: str, data: bytes | int) -> None:
-        """Gives a text, or a buffer, to the host that is there."""
+        """Send a text, or a buffer's number, to the connected host."""
         self.asked.add(name)
         self.ask(paste_line(name, data))
         self.waiting += b"" if isinstance(data, int) else data
 
     def cancel(self, name: str) -> None:
-        """Gives a text no more. One that is half given is given whole, since its bytes are awaited."""
+        """Cancel a text. A half-sent one is completed, since the host expects its bytes."""
         data = self.unstored.pop(name, None)
         self.stored.pop(name, None)
         self.givers.pop(name, None)
@@ -283,7 +288,7 @@ class HostLink(Subscription):
             self.drop_waiting(name, data)
 
     def drop_waiting(self, name: str, data: bytes | int) -> None:
-        """Take a text out of what waits for the host, where nothing of it was sent: no other line has its name, which is random."""
+        """Remove a wholly unsent text from the queue to the host. Its name is random, so no other line has it."""
         line = f"{led(SESSION, paste_line(name, data))}\n".encode()
         begin = self.waiting.find(line)
         if begin >= 0:
@@ -293,7 +298,7 @@ class HostLink(Subscription):
                 self.store_first()
 
     def answered(self, name: str, word: str, more: str) -> None:
-        """Takes what becomes of a text that was given: one for which the host has no room is given again later."""
+        """Take the fate of a text. One without room at the host is sent again later."""
         self.asked.discard(name)
         if word == REFUSED and more in FULL:
             self.is_full = True
@@ -307,7 +312,7 @@ class HostLink(Subscription):
             self.store_first()
 
     def take_answer(self, name: str, word: str, more: str) -> None:
-        """Takes what becomes of a text that was given, and has room."""
+        """Take the fate of a text that had room."""
         if self.unstored.pop(name, None) is None:
             del self.stored[name]
         if word == STORED:
@@ -316,5 +321,5 @@ class HostLink(Subscription):
 
 
 def paste_line(name: str, data: bytes | int) -> str:
-    """Return the line by which a text is given, behind which its bytes stand, or a buffer of the host's."""
+    """Return the line that sends a text, before its bytes, or names one of the host's buffers."""
     return f"paste {name} {BUFFER} {data}" if isinstance(data, int) else f"paste {name} {len(data)}"

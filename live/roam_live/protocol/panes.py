@@ -1,4 +1,4 @@
-"""Where the panes of a session are: as the socket `panes` of its folder tells it, line by line, to whoever follows it or asks once."""
+"""The positions of a session's panes: the lines at the socket `panes` of its folder, for subscribers and single queries."""
 from __future__ import annotations
 
 import os
@@ -17,30 +17,29 @@ if TYPE_CHECKING:
 
 BESIDE = {"left": (0, -1), "right": (0, 1), "up": (-1, 0), "down": (1, 0)}
 
-# Acts after which another pane may be in focus.
+# Acts after which another pane may be focused.
 MOVES = ("focus", "next", "split", "close")
 
-# A session has so many panes at most; one that is split has room for two and the border between.
+# The most panes of a window; a pane is split if it has room for two and the border between them.
 MOST_PANES = 9
 ROOM = {"right": (0, 9), "down": (5, 0)}
 
-# A server knows so many client processes that edit, and that watch; from so many that edit on a person is warned: then none of another
-# machine that is new is taken.
+# The most read-write and read-only client processes that a server accepts. From this many read-write ones on, the user gets a warning. Then
+# no new client of another machine is accepted.
 MOST_CLIENTS, MOST_WATCHERS = 64, 16
 WARNED_CLIENTS = 48
 
-# No number of a line, which may come from another machine, has more digits: rows, columns and counts; and the making of a pane.
+# The most digits of a line's numbers, which may come from another machine: rows, columns and counts; and a pane generation.
 SMALL_DIGITS, GENERATION_DIGITS = 4, 19
 
-# A text for the clipboard is base64.
+# A text for the clipboard in base64.
 CLIP_TEXT = LazyPattern(r"(?a)(?:[A-Za-z0-9+/]{4}){0,32767}(?:[A-Za-z0-9+/]{4}|[A-Za-z0-9+/]{3}=|[A-Za-z0-9+/]{2}==)?")
 
 # Most modes of a pane, most characters of the name of one, most bytes of a title, and the shapes of a cursor.
 MOST_MODES, LONGEST_MODE, MOST_TITLE, SHAPES = 16, 16, 800, "0123456"
 LONGEST_LINE = (1 << 17) + 64
 
-# What a server is asked for by who goes by pane metadata, and the words that begin the lines of that; that a
-# program wants what is pasted between brackets, and reports of the focus.
+# The subscription to pane metadata, and the words that begin its lines; then the modes of bracketed paste and of focus reports.
 METADATA = "metadata"
 BELL = "bell"
 METADATA_WORDS = ("modes", "shape", "title", BELL)
@@ -48,14 +47,14 @@ BRACKETED = "paste"
 FOCUS = "focus"
 OTHER = "other"
 
-# The word of the application codes of the keypad (DECKPAM).
+# The word for the keypad's application codes (DECKPAM).
 KEYPAD = "keypad"
 
-# What it is asked for by who sets a clipboard too, and the word of its lines.
+# The subscription to clipboard texts, and the word of its lines.
 CLIPBOARD = "clipboard"
 CLIP = "clip"
 
-# So many seconds a server has for what it is asked once, and what is told behind the focus for coming.
+# Seconds for a server to answer a single query, and for the lines that follow the focus.
 ASKED = 1.0
 BEHIND = 0.1
 
@@ -70,7 +69,8 @@ class Rect(NamedFields):
 
 
 class Places(NamedFields):
-    """What is told of a session: the rectangles of its panes by number, the focus, and how many clients edited and watched so far."""
+    """The reported state of a session: the rectangles of its panes, the focus, and the count of clients so far, read-write and read-only.
+    """
 
     rects: dict[int, Rect]
     focus: int = 0
@@ -78,38 +78,38 @@ class Places(NamedFields):
     watchers: int = 0
 
     def size(self) -> tuple[int, int]:
-        """The session's rows and columns."""
+        """Return the session's rows and columns."""
         rects = self.rects.values()
         return max(rect.row + rect.rows for rect in rects), max(rect.col + rect.cols - 1 for rect in rects)
 
     def area(self) -> tuple[int, int]:
-        """Return the rows and columns that all panes take together, which is what `stty size` prints in a single pane."""
+        """Return the rows and columns of all panes together, which `stty size` prints in a single pane."""
         rows, cols = self.size()
         return rows - 1, cols
 
     def is_covered(self) -> bool:
-        """Whether the panes and borders cover the area, as far as their sizes tell: while only some are told anew they don't."""
+        """Return True if the panes and borders cover the area, by their sizes. During a partial update they do not."""
         rows, cols = self.size()
         return sum((rect.rows + 1) * (rect.cols + 1) for rect in self.rects.values()) == rows * (cols + 1)
 
     def labels(self) -> str:
-        """The panes' numbers as a session's status row has them: that in focus in brackets, each other between spaces."""
+        """Return the panes' numbers in the form of a session's status row: the focused one in brackets, the others between spaces."""
         return "".join(f"[{pane}]" if pane == self.focus else f" {pane} " for pane in in_order(self.rects))
 
     def pane_at(self, row: int, col: int) -> int:
-        """The pane that has a place of the session; 0 where none does."""
+        """Return the pane at a position of the session; 0 if there is none."""
         return next((pane for pane, rect in self.rects.items() if covers(rect, row, col, True) and covers(rect, row, col, False)), 0)
 
     def is_full(self) -> bool:
-        """Whether the server knows as many clients as it ever does."""
+        """Return True if the server has accepted its last client."""
         return self.clients >= MOST_CLIENTS
 
     def warning(self) -> str:
-        """What a person is warned of, in a few words: that the server takes only so many clients more; nothing where it isn't needed."""
+        """Return a short warning that the server accepts few more clients; nothing if there is no need."""
         return f"{self.clients} of {MOST_CLIENTS} clients" if self.clients >= WARNED_CLIENTS else ""
 
     def neighbour(self, way: str) -> int | None:
-        """The pane that touches the one in focus on that side, nearest to its middle; None where none does."""
+        """Return the adjacent pane on that side, nearest to the middle of the focused one; None if there is none."""
         here = self.rects[self.focus]
         down, right = BESIDE[way]
         middle = (here.row + (here.rows - 1) / 2, here.col + (here.cols - 1) / 2)
@@ -120,7 +120,7 @@ class Places(NamedFields):
         return min(found)[1] if found else None
 
     def unsplit(self, way: str) -> str:
-        """Why the pane in focus can't be split that way; nothing where it can, or that isn't known."""
+        """Return the reason if the focused pane is too small to split that way; nothing if it fits, or if its size is unknown."""
         here = self.rects.get(self.focus)
         if len(self.rects) >= MOST_PANES:
             return f"a window has at most {MOST_PANES} panes"
@@ -130,8 +130,10 @@ class Places(NamedFields):
 
 
 def in_order(rects: dict[int, Rect]) -> list[int]:
-    """Panes in the order of the layout's tree, as far as their rectangles tell it: those on the left, or above, of a cut through all of
-    them come first. Where four meet in a cross either cut may have been the first."""
+    """Return the panes in the order of the layout's tree, as far as their rectangles show it.
+
+    Those left of a cut through all panes, or above it, come first. If four meet in a cross, either cut may have been the first.
+    """
     for begin, extent in (("col", "cols"), ("row", "rows")):
         ordered = sorted(rects.items(), key=lambda item: int(getattr(item[1], begin)))
         end = 0
@@ -143,21 +145,20 @@ def in_order(rects: dict[int, Rect]) -> list[int]:
 
 
 def covers(rect: Rect, row: float, col: float, is_beside: bool) -> bool:
-    """Whether a pane has the column to a side, or the row above or below."""
+    """Return True if a pane covers the column to a side, or the row above or below."""
     if is_beside:
         return rect.col <= col < rect.col + rect.cols
     return rect.row <= row < rect.row + rect.rows
 
 
 def distance(rect: Rect, row: float, col: float) -> float:
-    """How far a pane is from a point, along the side that it may lie off."""
+    """Return the distance of a pane from a point, along the given side."""
     below, beside = rect.row + rect.rows - 1, rect.col + rect.cols - 1
     return max(rect.row - row, row - below, 0) + max(rect.col - col, col - beside, 0)
 
 
 def metadata_key(line: str) -> str:
-    """What a line tells of pane metadata: its word and the pane, and of the clipboard its word alone; nothing where
-    it tells something else."""
+    """Return the key of a metadata line: its word and pane, for the clipboard its word alone; nothing for other lines."""
     word, _, rest = line.partition(" ")
     return f"{word} {rest[:1]}" if word in METADATA_WORDS else CLIP if word == CLIP else ""
 
@@ -178,13 +179,13 @@ def is_small(word: str) -> bool:
 
 
 def is_generation(word: str) -> bool:
-    """Return True if a word is a making of a pane."""
+    """Return True if a word is a pane generation."""
     return is_digits(word, GENERATION_DIGITS)
 
 
 def is_value(word: str, value: list[str]) -> bool:
-    """Return True if these words may be told behind a pane by a word: modes, a shape, a title in hexadecimal, no bell's, or a text for the
-    clipboard."""
+    """Return True if these words are valid after a pane: modes, a shape, a title in hexadecimal, no words for a bell, or a clipboard text.
+    """
     if word == "modes":
         return len(value) <= MOST_MODES and all(0 < len(one) <= LONGEST_MODE and is_mode(one) for one in value)
     if word == BELL:
@@ -204,7 +205,7 @@ def is_mode(word: str) -> bool:
 
 
 class PaneMetadata(NamedFields):
-    """A piece of pane metadata of one making of a pane, and the line that tells it."""
+    """A piece of metadata of one pane generation, and its line."""
 
     generation: str
     value: str
@@ -212,23 +213,23 @@ class PaneMetadata(NamedFields):
 
 
 class PanesState:
-    """What was told of a session's panes so far."""
+    """The reported state of a session's panes."""
 
     def __init__(self) -> None:
         self.panes: dict[int, str] = {}
         self.rects: dict[int, Rect] = {}
-        # Of each pane which making of its number it is; and the newest of pane metadata, by word and pane.
+        # The generation of each pane; and the newest metadata, by word and pane.
         self.generations: dict[int, str] = {}
         self.metadata: dict[str, PaneMetadata] = {}
-        # The text for the clipboard that was told last, and the pane, until it is taken.
+        # The last text for the clipboard, and its pane, until it is taken.
         self.clip: tuple[int, str] | None = None
-        # The panes whose bell rang, until they are taken.
+        # The panes with a bell, until they are taken.
         self.rung: set[int] = set()
         self.focus = 0
         self.counts: dict[str, tuple[int, str]] = {}
 
     def take(self, line: str) -> bool:
-        """Takes a line, and tells whether it can be one of these."""
+        """Take a line, and return True if it is valid here."""
         word, *rest = line.split(" ")
         if is_pane(word):
             return self.take_pane(line, int(word), rest)
@@ -244,7 +245,7 @@ class PanesState:
         return False
 
     def take_pane(self, line: str, pane: int, rest: list[str]) -> bool:
-        """Take where a pane is and which making of its number, or that it is gone; return False if the line is none of these."""
+        """Take a pane's position and generation, or its end; return False if the line has another form."""
         if rest == ["gone"]:
             self.panes.pop(pane, None)
             self.rects.pop(pane, None)
@@ -270,24 +271,24 @@ class PanesState:
         return True
 
     def places(self) -> Places | None:
-        """Where the panes are; None where the focus, which is told behind them, isn't known, or on no pane."""
+        """Return the positions of the panes; None while the focus, which comes after them, is unknown or on no pane."""
         if self.focus not in self.rects:
             return None
         clients, watchers = (self.counts.get(kind, (0, ""))[0] for kind in ("clients", "watchers"))
         return Places(dict(sorted(self.rects.items())), self.focus, clients, watchers)
 
     def forget_metadata(self, pane: str) -> None:
-        """Knows nothing of pane metadata of a pane that is gone."""
+        """Forget the metadata of a pane that is gone."""
         for word in METADATA_WORDS:
             self.metadata.pop(f"{word} {pane}", None)
 
     def value(self, word: str, pane: int) -> str:
-        """What is told by a word of pane metadata; nothing where it isn't known of this making of the pane."""
+        """Return the metadata of a word for a pane; nothing if it is unknown in this generation."""
         told = self.metadata.get(f"{word} {pane}")
         return told.value if told and told.generation == self.generations.get(pane) else ""
 
     def taken_clip(self) -> tuple[int, str] | None:
-        """The text for the clipboard that was told since, and the pane."""
+        """Remove and return the last text for the clipboard, and its pane."""
         clip, self.clip = self.clip, None
         return clip
 
@@ -297,35 +298,35 @@ class PanesState:
         return rung
 
     def has_set(self, pane: int, mode: str) -> bool:
-        """Whether a pane's program is known to have set a mode."""
+        """Return True if a pane's program is known to have set a mode."""
         return mode in self.value("modes", pane).split()
 
     def title_and_shape(self, pane: int) -> tuple[str, int]:
-        """A pane's title, and the shape of its cursor, as far as they are known."""
+        """Return a pane's title and cursor shape, as far as known."""
         return bytes.fromhex(self.value("title", pane)).decode("utf-8", "replace"), int(self.value("shape", pane) or 0)
 
     def is_whole(self) -> bool:
-        """Whether all is known that is told at first."""
+        """Return True once the whole initial state has arrived."""
         return self.focus in self.rects and len(self.counts) == 2
 
     def lines(self) -> list[str]:
-        """The lines by which somebody who knows nothing knows as much, in the order of a server."""
+        """Return the lines that report the whole state to a new subscriber, in a server's order."""
         counts = [self.counts[kind][1] for kind in ("clients", "watchers") if kind in self.counts]
         return [*(line for _, line in sorted(self.panes.items())), f"focus {self.focus}", *counts] if self.places() else []
 
     def metadata_lines(self) -> dict[str, str]:
-        """The lines by which somebody knows as much of pane metadata, by word and pane. Bells have rung."""
+        """Return the lines that report the metadata to a new subscriber, by word and pane, without past bells."""
         return {key: told.line for key, told in self.metadata.items()}
 
 
 class AskedPanes:
-    """A connection to a socket `panes`, by which it is asked once where the panes are."""
+    """A connection to a socket `panes` for a single query of the positions."""
 
     def __init__(self, peer: socket.socket) -> None:
         self.peer, self.lines, self.told = peer, LineReader(), PanesState()
 
     def heard(self, seconds: float) -> list[str] | None:
-        """Return the lines that come in so many seconds, as soon as there are some; None if none comes any more."""
+        """Return the lines that come in so many seconds, as soon as there are some; None at the end."""
         if not comes(self.peer, max(0.0, seconds)):
             return []
         lines = self.lines.read(self.peer.fileno())
@@ -334,14 +335,14 @@ class AskedPanes:
         return lines
 
     def hear_all(self, seconds: float = ASKED, is_enough: Callable[[], bool] = lambda: False) -> None:
-        """Hear what is told at first, and what comes right behind it, unless something before that is enough."""
+        """Read the initial state and the lines right after it, unless an earlier part is enough."""
         end = time.monotonic() + seconds
         while not is_enough() and time.monotonic() < end and self.heard(end - time.monotonic()) is not None:
             end = min(end, time.monotonic() + BEHIND) if self.told.places() else end
 
 
 def asked_places(path: str | os.PathLike[str], seconds: float = ASKED) -> Places | None:
-    """Return where the panes are, asked once at a socket `panes`; None if nobody tells it in so many seconds."""
+    """Query a socket `panes` once and return the positions; None without an answer within so many seconds."""
     try:
         with connected_in(path, seconds) as peer:
             asked = AskedPanes(peer)

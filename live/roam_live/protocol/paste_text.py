@@ -1,28 +1,28 @@
-"""Texts that are pasted: what of one is typed, the brackets round it, and the placeholder that is typed in its place."""
+"""Pasted texts: the part that is typed, the brackets around it, and the placeholder typed in its place."""
 from __future__ import annotations
 
 import os
 
 from roam_live.common.patterns import LazyPattern
 
-# What stands round a paste, to a program that asked for it (xterm, bracketed paste); and what either ends with, but for its last byte.
+# The brackets around a paste for a program with bracketed paste (xterm), and their common end without the last byte.
 OPENS, CLOSES = b"\x1b[200~", b"\x1b[201~"
 BRACKET_ENDS = tuple(begin + kind for begin in (b"\x1b[", b"\xc2\x9b", b"\x9b") for kind in (b"200", b"201"))
 
-# A text has fewer bytes, and all that wait at a host have together.
+# A text has fewer bytes, and so do all that wait at a host together.
 MOST_BYTES = 1 << 24
 
-# The control characters that are no part of a paste: all but TAB and CR, which LF becomes.
+# The control characters that a paste omits: all but TAB and CR, which LF becomes.
 DROPPED = LazyPattern(r"[\x00-\x08\x0a-\x0c\x0e-\x1f\x7f-\x9f]")
 DROPPED_BUT_ESCAPE = LazyPattern(r"[\x00-\x08\x0a-\x0c\x0e-\x1a\x1c-\x1f\x7f-\x9f]")
 
 # MOST_TEXTS texts wait at the pty host at most, with MOST_BYTES together.
 MOST_TEXTS = 64
 
-# What became of so many texts that don't wait any more is known.
+# The host remembers the fate of this many finished texts.
 MOST_SPENT = 1024
 
-# The last MOST_BUFFERS texts that were copied are buffers, of MOST_BUFFER bytes each; MOST_COMING bytes of others may come at once. SAMPLE
+# The last MOST_BUFFERS copied texts are buffers, of MOST_BUFFER bytes each; MOST_COMING bytes of others may arrive at once. SAMPLE
 # characters of each are listed.
 MOST_BUFFERS = 20
 MOST_BUFFER = 1 << 20
@@ -35,24 +35,23 @@ BUFFER_READ_ONLY = "a read-only terminal stores no buffers"
 BUFFER_UNKNOWN = "no buffer has this number"
 BUFFER_NOTHING = "nothing of that buffer can be typed"
 
-# What is told of a text: that it waits, that it was put at its placeholder, that it isn't known, as one that waited for too long, or that
-# it is refused, in words behind its name.
+# The reports about a text: stored; inserted at its placeholder; unknown, as after too long a wait; or refused, with words after its name.
 STORED, INSERTED, LOST, REFUSED = "stored", "inserted", "lost", "refused"
 
-# Why there is no room for one yet.
+# The reason that there is no room for one yet.
 TOO_MANY = f"{MOST_TEXTS} texts wait to be pasted"
 TOO_LONG = f"{MOST_BYTES >> 20} MB wait to be pasted"
 FULL = (TOO_MANY, TOO_LONG)
 
 
 def cleaned(text: str, keeps_escape: bool = False) -> str:
-    """What of a text is pasted: LF and CR LF as CR, and no other control character but TAB; ESC too where that is kept."""
+    """Return the part of a text to paste: LF and CR LF become CR, other control characters but TAB go. ESC may stay."""
     dropped = DROPPED_BUT_ESCAPE if keeps_escape else DROPPED
     return dropped.sub("", text.replace("\r\n", "\r").replace("\n", "\r"))
 
 
 def without_brackets(text: bytes) -> bytes:
-    """A text without what would end its brackets, or begin others: what joins to one once another was taken out goes too."""
+    """Return a text without brackets, including those that form once another is removed."""
     if not any(end in text for end in BRACKET_ENDS):
         return text
     found, begin = bytearray(), 0
@@ -70,7 +69,7 @@ def without_brackets(text: bytes) -> bytes:
 
 
 def random_name() -> str:
-    """A name for a text that nobody gave before: sixteen hexadecimal digits."""
+    """Return a new random name for a text: sixteen hexadecimal digits."""
     return os.urandom(8).hex()
 
 
@@ -79,8 +78,10 @@ PLACEHOLDER_ACTS = "char 9f", "char 9c"
 
 
 def placeholder_acts(name: str) -> list[str]:
-    """The acts that type the placeholder of a text: APC, its name and ST, in forms that no key sends. They stand in one line, so that
-    nothing comes between."""
+    """Return the acts that type the placeholder of a text: APC, its name and ST, in forms that no key sends.
+
+    They share one line, so that nothing comes between.
+    """
     return [f"char {ord(letter):x}" for letter in f"\x9f{name}\x9c"]
 
 

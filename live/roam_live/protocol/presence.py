@@ -1,4 +1,4 @@
-"""Who is at a session: terminals that say so to the pty host, and what that tells of the others, line by line."""
+"""The terminals of a session: their reports to the pty host, and its lines about the others."""
 from __future__ import annotations
 
 import os
@@ -11,31 +11,31 @@ TYPE_CHECKING = False
 if TYPE_CHECKING:
     from collections.abc import Callable
 
-# The word by which a terminal says that it is there, or that its size is another; and that by which it asks to be told of the others.
+# The report of a terminal's presence or new size, and the subscription to the others.
 HERE, WHO = "here", "who"
 
-# What is told then: that another is there, or has another size, that it has left, and, behind these, how many others there are.
+# The reports of another terminal or its new size, of one that left, and last the count of the others.
 THERE, GONE, OTHERS = "there", "gone", "others"
 
-# The word by which it is asked which terminals are at all windows, and that by which each is told; what one is told that is to leave; and
-# the line by which one has all others leave.
+# The query for the terminals of all windows, and the word of each answer; the request to one terminal to detach; the line that detaches all
+# others.
 CLIENTS, CLIENT, LEAVE, LEAVE_OTHERS = "clients", "client", "leave", "leave others"
 
-# So many seconds a terminal that left is taken for the same that comes again, as to another window; and so many are known.
+# Seconds in which a departed terminal counts as the same if it returns, for example to another window; and the most that are known.
 STAYS = 5.0
 MOST_ATTENDED = 256
 
-# The longest name of a terminal, what one does, and the highest numbers of its rows and columns, and of terminals.
+# The longest name of a terminal, the name of an unnamed one, and the highest rows, columns and numbers.
 LONGEST_NAME = 64
 KINDS = ("read-write", "read-only")
 MOST_SIZE, MOST_NUMBER = 99999, 9999999999
 
-# So many others are told of at most; they may be told from another machine.
+# Most others that are reported. Reports may come from another machine.
 MOST_OTHERS = 64
 
 
 class Presence(NamedFields):
-    """A terminal that is at a session: its name, its size, and whether it `read-write` or `read-only`."""
+    """A terminal at a session: its name, its size, and its kind, `read-write` or `read-only`."""
 
     name: str
     rows: int
@@ -47,12 +47,12 @@ class Presence(NamedFields):
 
 
 def number_in(word: str, most: int) -> int:
-    """The number of a word, from 1 to the most, without a zero before it; else 0."""
+    """Return the number in a word, from 1 to the most, without leading zeros; else 0."""
     return decimal_in(word, most) or 0
 
 
 def presence_in(words: list[str]) -> Presence | None:
-    """The terminal that four words tell; None where they don't."""
+    """Return the terminal that four words describe; None if they are invalid."""
     if len(words) != 4 or words[3] not in KINDS or not 0 < len(words[0]) <= LONGEST_NAME or not all("!" <= one <= "~" for one in words[0]):
         return None
     rows, cols = (number_in(word, MOST_SIZE) for word in words[1:3])
@@ -60,13 +60,13 @@ def presence_in(words: list[str]) -> Presence | None:
 
 
 def presence_said(line: str) -> Presence | None:
-    """The terminal that says by a line that it is there; None where that isn't such a line."""
+    """Return the terminal that a line reports as present; None if the line has another form."""
     word, *words = line.split(" ")
     return presence_in(words) if word == HERE else None
 
 
 def terminal_name() -> str:
-    """The name of this process's terminal behind that of the machine: printable ASCII without blanks, 64 characters at most."""
+    """Return the machine's name and this process's terminal: printable ASCII without blanks, 64 characters at most."""
     try:
         path = os.ttyname(0)
     except OSError:
@@ -76,15 +76,15 @@ def terminal_name() -> str:
 
 
 class Attended:
-    """Since when terminals are at a session, by the clock of the day: one that goes from window to window stays."""
+    """The arrival of terminals at a session, by the wall clock: one that moves between windows stays."""
 
     def __init__(self, clock: Callable[[], float] = time.time) -> None:
         self.clock = clock
-        # Since when each is there, and when it left, where it did.
+        # The arrival of each terminal, and its departure if it has left.
         self.since: dict[str, tuple[float, float | None]] = {}
 
     def comes(self, name: str, now: float) -> int:
-        """Takes note of a terminal that comes, and tells since when it is there."""
+        """Record that a terminal arrives, and return the number of the moment since it has been there."""
         since, left = self.since.get(name, (self.clock(), None))
         if left is not None and now > left + STAYS:
             since = self.clock()
@@ -95,21 +95,21 @@ class Attended:
         return int(since)
 
     def leaves(self, name: str, now: float) -> None:
-        """Takes note of one that left."""
+        """Record a departure."""
         if name in self.since:
             self.since[name] = self.since[name][0], now
 
 
 class OtherTerminals:
-    """What was told of the others at a session so far."""
+    """The reported other terminals at a session."""
 
     def __init__(self) -> None:
         self.there: dict[int, Presence] = {}
-        # Whether that is all of them.
+        # True once all of them are known.
         self.is_whole = False
 
     def take(self, line: str) -> bool:
-        """Takes a line, and tells whether it can be one of these."""
+        """Take a line, and return True if it is valid here."""
         word, *words = line.split(" ")
         number = number_in(words[0], MOST_NUMBER) if words else 0
         presence = presence_in(words[1:])
@@ -125,5 +125,5 @@ class OtherTerminals:
         return True
 
     def has_typing(self) -> bool | None:
-        """Whether one of them types; None where that isn't known."""
+        """Return True if one of them is read-write; None if unknown."""
         return any(one.kind == "read-write" for one in self.there.values()) if self.is_whole else None

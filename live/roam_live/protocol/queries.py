@@ -1,4 +1,4 @@
-"""What the programs of panes ask of their terminals, as a server tells it at `panes`, and the answers that are typed there."""
+"""Terminal queries of the panes' programs, as a server reports them at `panes`, and the answers typed there."""
 from __future__ import annotations
 
 from roam_live.common.build_info import version
@@ -6,27 +6,26 @@ from roam_live.common.file_path import FilePath
 from roam_live.common.text import decimal_in
 from roam_live.protocol.colours import NUMBERS, Colours
 
-# What a server is asked for by who answers, and the word that begins each line of that. No number there is higher.
+# The subscription of the process that answers, and the word that begins each of its lines. Numbers there are bounded.
 QUERIES, QUERY = "queries", "query"
 MOST_NUMBER = 10**19 - 1
 
-# What the terminal of a pane is called (XTVERSION): its name and version.
+# The name and version of a pane's terminal (XTVERSION).
 NAMED = b"\x1bP>|roam %s\x1b\\"
 
-# The modes of which it is asked whether they are set, by the words of a line, and what is answered (DECRPM): 1 where one is set, 2 where it
-# isn't, 0 where it isn't known.
+# The modes that may be queried, by the words of a line. The answer (DECRPM) is 1 if set, 2 if reset, 0 if unknown.
 MODES = {"frames": 2026, "pastes": 2004}
 SET, RESET, UNKNOWN = 1, 2, 0
 
-# How an answer ends that tells a colour: as the query did.
+# The end of an answer about a colour, the same as the query's.
 BELL, ENDED = b"\x07", b"\x1b\\"
 
-# The word by which a server holds frames together.
+# With this option a server buffers synchronized updates.
 AS_MEANT = b"--normalize"
 
 
 def holds_frames(process: int | None) -> bool:
-    """Whether a server's process holds frames together, by its words; not where that can't be read."""
+    """Return True if a server's process buffers synchronized updates, by its options; False if those can't be read."""
     try:
         return process is not None and AS_MEANT in FilePath(f"/proc/{process}/cmdline").read_bytes().split(b"\0")
     except OSError:
@@ -34,18 +33,18 @@ def holds_frames(process: int | None) -> bool:
 
 
 def mode_told(mode: int, state: int) -> bytes:
-    """What tells whether a mode is set."""
+    """Return the report of a mode's state."""
     return b"\x1b[?%d;%d$y" % (mode, state)
 
 
 class PaneQuery:
-    """A query of a making of a pane's program, by the words of a line."""
+    """A terminal query of a pane generation's program, in the words of a line."""
 
     def __init__(self, words: list[str]) -> None:
         self.pane, self.generation, self.what, self.more = int(words[0]), int(words[1]), words[2], words[3:]
 
     def answer(self, colours: Colours, has_frames: bool) -> bytes:
-        """What is typed for it: nothing where a colour isn't known."""
+        """Return the answer to type; nothing if it needs an unknown colour."""
         if self.what == "version":
             return NAMED % version().encode()
         if self.what in MODES:
@@ -56,12 +55,12 @@ class PaneQuery:
         return b"\x1b]%d;rgb:%s%s" % (NUMBERS[self.what], colour.encode(), end) if colour else b""
 
 
-# What may stand behind what is asked.
+# The words that may follow each query.
 BEHIND = {"version": [], "frames": ["set"], "pastes": ["set"], "foreground": ["bell"], "background": ["bell"]}
 
 
 def query_in(line: str) -> PaneQuery | None:
-    """The query that a line tells, `query P GENERATION WHAT`; None where it is another line."""
+    """Return the query of a line `query P GENERATION WHAT`; None for another line."""
     word, *words = line.split(" ")
     if word != QUERY or len(words) < 3 or words[2] not in BEHIND:
         return None

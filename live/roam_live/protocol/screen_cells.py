@@ -1,4 +1,4 @@
-"""The cells of a screen as a client process tells it, each with its style: what stands in one, and the SGR before it."""
+"""The cells of a screen as a client process sends them: the text of each, and the SGR sequence before it."""
 from __future__ import annotations
 
 from typing import NamedTuple, Optional, Union
@@ -32,8 +32,10 @@ class Style(NamedTuple):
 
 
 class ShownCells:
-    """A screen's cells by row and column from 1, each with what stands there and a style, and the cursor. A right half of a wide character
-    is empty."""
+    """A screen's cells by row and column from 1, each with its text and style, and the cursor.
+
+    The right half of a wide character is empty.
+    """
 
     def __init__(self, rows: int, cols: int) -> None:
         self.rows, self.cols = rows, cols
@@ -43,7 +45,7 @@ class ShownCells:
 
 
 def cells_of(data: bytes) -> ShownCells:
-    """The cells of a record's bytes; what is no screen is no record."""
+    """Return the cells of a record's data; NoRecord if they form no screen."""
     screen = screen_of(data)
     shown = ShownCells(screen.rows, screen.cols)
     shown.row, shown.col = screen.cursor
@@ -57,7 +59,7 @@ def cells_of(data: bytes) -> ShownCells:
 
 
 def parted(text: str, style: Style) -> tuple[str, Style]:
-    """What stands in a cell, and its style: that of the cell before it, changed by the SGR that stands first."""
+    """Return a cell's text and style: that of the cell before, changed by the SGR sequence at its start."""
     while text.startswith("\x1b["):
         numbers, final, text = text[2:].partition("m")
         words = numbers.split(";")
@@ -68,7 +70,7 @@ def parted(text: str, style: Style) -> tuple[str, Style]:
 
 
 def sgr_of(text: str) -> str:
-    """The SGR that stands before what stands in a cell."""
+    """Return the SGR sequence in front of a cell's text."""
     found = ""
     while text.startswith("\x1b["):
         numbers, final, text = text.partition("m")
@@ -77,7 +79,7 @@ def sgr_of(text: str) -> str:
 
 
 def part_of(data: bytes, rect: Rect) -> bytes:
-    """A part of a screen as a record tells it: its first cells have the style that was set before them."""
+    """Return a part of a screen in the form of a record. Its first cells repeat the style in effect before them."""
     screen = screen_of(data)
     row, col = screen.cursor[0] - rect.row + 1, screen.cursor[1] - rect.col + 1
     is_visible = screen.visible and 1 <= row <= rect.rows and 1 <= col <= rect.cols
@@ -90,7 +92,7 @@ def part_of(data: bytes, rect: Rect) -> bytes:
 
 
 def styled(style: Style, numbers: Iterable[int]) -> Style:
-    """A style after the numbers of an SGR."""
+    """Return a style after the numbers of an SGR sequence."""
     left = list(numbers)
     while left:
         number = left.pop(0)
@@ -106,12 +108,12 @@ def styled(style: Style, numbers: Iterable[int]) -> Style:
 
 
 def with_colour(style: Style, ground: str, colour: Colour) -> Style:
-    """A style with another colour of its foreground or background."""
+    """Return a style with another foreground or background colour."""
     return style._replace(foreground=colour) if ground == "foreground" else style._replace(background=colour)
 
 
 def with_short(style: Style, number: int) -> Style:
-    """A style after a number of an SGR that is a colour, the default one or no flag by itself."""
+    """Return a style after an SGR number that is a colour, the default one or another plain number."""
     tens, digit = divmod(number, 10)
     if tens in GROUNDS and digit in (*range(8), 9):
         ground, first = GROUNDS[tens]
@@ -122,7 +124,7 @@ def with_short(style: Style, number: int) -> Style:
 
 
 def colour_of(numbers: list[int]) -> Colour:
-    """The colour that the numbers behind 38 or 48 name, which are taken off."""
+    """Remove and return the colour in the numbers after 38 or 48."""
     kind, *rest = numbers[:4] + [0] * 4
     del numbers[: 2 if kind == 5 else 4]
     return rest[0] if kind == 5 else (rest[0], rest[1], rest[2])

@@ -1,5 +1,7 @@
-"""What a front end asks of the rows scrolled off a pane's screen, and of buffers, which the pty host keeps: questions over its
-connection there, each with a call for the answer."""
+"""Requests for scrollback rows and paste buffers of the pty host.
+
+Each goes over the front end's connection, with a call for the answer.
+"""
 from __future__ import annotations
 
 from roam_live.common.io import LineReader, LongLine
@@ -13,27 +15,29 @@ if TYPE_CHECKING:
     from collections.abc import Callable
     from typing import Union
 
-    # What is called with the words of an answer and the bytes behind it; None where it can't be answered.
+    # Called with the words of an answer and the data after it; None if there is no answer.
     Told = Callable[[Union["Answer", None]], object]
 
-# The words of questions about buffers, and of answers.
+# The words of requests about buffers, and of their answers.
 BUFFER, BUFFERS, ADD, LIST, SHOW = "buffer", "buffers", "add", "list", "show"
 
-# Behind no answer so many bytes follow: a screen of 200 rows and 500 columns has less, whatever its styles; and no list has so many lines.
+# The data of an answer is shorter: a screen of 200 rows and 500 columns takes less, whatever its styles. A list has fewer lines.
 MOST_ANSWER = 1 << 24
 MOST_LISTED = 64
 
-# No text that is searched for has so many bytes: it stands in a line, which the host takes up to 256.
+# A search text has fewer bytes, since it is part of a line, and the host accepts lines up to 256.
 MOST_SOUGHT = 180
 
 
 class BadAnswer(Exception):
-    """What a host told can't be an answer."""
+    """An invalid answer from a host."""
 
 
 class Snapshot(NamedFields):
-    """A pane's rows at one moment: those that left are `first` to `end` without it, and those of the screen, which are given, are `end` and
-    on. Each has a space or `+` before it, which says that the row goes on in the next."""
+    """A pane's rows at one moment: scrollback rows `first` to `end` exclusive, and the screen's rows from `end` on, which it includes.
+
+    Each row begins with a space, or with `+` if it is soft-wrapped into the next.
+    """
 
     pane: int
     generation: int
@@ -43,7 +47,7 @@ class Snapshot(NamedFields):
 
 
 class BufferNote(NamedFields):
-    """A buffer: its number, how many bytes it has, and the first of its characters."""
+    """A buffer: its number, its length in bytes, and its first characters."""
 
     number: int
     length: int
@@ -51,7 +55,7 @@ class BufferNote(NamedFields):
 
 
 class Answer:
-    """An answer: the window that it is about, its words, the bytes behind them, and lines where it is a list."""
+    """An answer: its window, its words, the data after them, and the lines of a list."""
 
     def __init__(self, words: list[str], window: int = SESSION) -> None:
         self.words, self.window = words, window
@@ -59,12 +63,12 @@ class Answer:
         self.lines: list[str] = []
 
     def number(self, place: int) -> int:
-        """The number that a word is; BadAnswer where it is none."""
+        """Return a word as a number; BadAnswer if it is none."""
         return number_at(self.words, place)
 
 
 def number_at(words: list[str], place: int) -> int:
-    """The number, of at most fifteen digits, that a word is; BadAnswer where there is none."""
+    """Return a word as a number of at most fifteen digits; BadAnswer if it is none."""
     number = decimal_in(words[place], MOST_NUMBER) if len(words) > place else None
     if number is None:
         raise BadAnswer(" ".join(words)[:80])
@@ -72,24 +76,24 @@ def number_at(words: list[str], place: int) -> int:
 
 
 def rows_in(data: bytes) -> list[bytes]:
-    """The rows of an answer's bytes, each without its LF."""
+    """Return the rows in an answer's data, each without its LF."""
     return data.split(b"\n")[:-1]
 
 
 class AnswerReader:
-    """Takes apart what a host tells: lines, of which some have bytes behind them, or more lines."""
+    """Splits a host's output into lines, some with data or more lines after them."""
 
-    # The words of those with bytes, by how many words they have, the last of which is the length.
+    # The words of answers with data, and their number of words, the last of which is the length.
     LENGTHS = {ROWS: 6, SNAPSHOT: 7}
 
     def __init__(self) -> None:
         self.came = LineReader()
-        # The answer whose bytes, or lines, aren't all there yet, and how many are missing.
+        # The incomplete answer, and the number of missing bytes, or lines.
         self.answer: Answer | None = None
         self.missing = self.lines_missing = 0
 
     def fed(self, chunk: bytes) -> list[Answer]:
-        """What is whole now; BadAnswer where a line, or what is behind it, is longer than any."""
+        """Return the complete answers; BadAnswer if a line or its data exceeds the limits."""
         self.came.kept += chunk
         found: list[Answer] = []
         try:
@@ -100,7 +104,7 @@ class AnswerReader:
         return found
 
     def next(self) -> Answer | None:
-        """The next answer that is there whole."""
+        """Return the next complete answer."""
         answer = self.answer = self.answer or self.begun()
         while answer and self.lines_missing:
             line = self.came.line()
@@ -117,7 +121,7 @@ class AnswerReader:
         return answer
 
     def begun(self) -> Answer | None:
-        """The answer that the next line begins."""
+        """Return the answer that the next line begins."""
         told = self.came.line()
         if told is None:
             return None
@@ -135,23 +139,22 @@ class AnswerReader:
 
 
 class ScrollbackClient:
-    """The questions of this end: a call asks the host, by a line and bytes behind it, and tells whether one
-    is connected."""
+    """The requests of a front end. Each call sends a line and data, and returns True if a host is connected."""
 
     def __init__(self, ask: Callable[[str, bytes], bool]) -> None:
         self.ask = ask
         self.on_more: Callable[[int, int, int], object] = lambda pane, generation, count: None
-        # What was asked, in the order in which it is answered: the word of its answer, and the call.
+        # The open requests in the order of their answers: the answer's word, and the call.
         self.asked: list[tuple[str, Told]] = []
 
-    # ---- questions
+    # ---- requests
 
     def count(self, pane: int, generation: int, told: Callable[[tuple[int, int] | None], object]) -> None:
-        """Asks for the numbers of the first row that is kept and of that behind the last."""
+        """Request the numbers of the first stored row and of the end."""
         self.put(f"{COUNT} {pane} {generation}", COUNT, lambda answer: told((answer.number(3), answer.number(4)) if answer else None))
 
     def rows(self, pane: int, generation: int, first: int, count: int, told: Callable[[int, list[bytes]], object]) -> None:
-        """Asks for rows by their numbers; told with the number of the first that is there, and those that were had: maybe fewer."""
+        """Request rows by number. The callback gets the number of the first available one, and the rows, possibly fewer."""
 
         def take(answer: Answer | None) -> None:
             if answer:
@@ -162,8 +165,10 @@ class ScrollbackClient:
         self.put(f"{ROWS} {pane} {generation} {max(0, first)} {min(count, MOST_ROWS)}", ROWS, take)
 
     def find(self, pane: int, generation: int, first: int, back: bool, text: str, told: Callable[[int | None], object]) -> None:
-        """Asks for the next row behind `first`, or before it, in which a text begins; case counts where the text has a capital. No row
-        holds a text with a control character, or one that is longer than a line may be."""
+        """Request the next row after `first`, or before it, in which a match begins. Case counts if the text has a capital.
+
+        No row contains a control character, and no text may be longer than a line permits.
+        """
         if not text.isprintable() or not text or len(text.encode("utf-8", "replace")) > MOST_SOUGHT:
             told(None)
             return
@@ -171,7 +176,7 @@ class ScrollbackClient:
         self.put(line, FOUND, lambda answer: told(answer.number(3) if answer else None))
 
     def snapshot(self, pane: int, generation: int, told: Callable[[Snapshot | None], object]) -> None:
-        """Asks for a snapshot of a pane; this end has one at a time."""
+        """Request a snapshot of a pane; this end has one at a time."""
 
         def take(answer: Answer | None) -> None:
             told(Snapshot(pane, generation, answer.number(3), answer.number(4), rows_in(answer.data)) if answer else None)
@@ -179,23 +184,23 @@ class ScrollbackClient:
         self.put(f"{SNAPSHOT} {pane} {generation}", SNAPSHOT, take)
 
     def release(self, pane: int, generation: int) -> None:
-        """Lets a snapshot go."""
+        """Release a snapshot."""
         self.ask(f"{RELEASE} {pane} {generation}", b"")
 
     def add_buffer(self, text: bytes, told: Callable[[int | None], object]) -> None:
-        """Has a buffer kept; told with its number, None where it isn't kept."""
+        """Add a paste buffer. The callback gets its number, or None if it was refused."""
         self.put(f"{BUFFER} {ADD} {len(text)}", BUFFER, lambda answer: told(answer.number(2) if answer else None), text)
 
     def buffers(self, told: Callable[[list[BufferNote] | None], object]) -> None:
-        """Asks which buffers there are, the newest first."""
+        """Request the list of buffers, the newest first."""
         self.put(f"{BUFFER} {LIST}", BUFFERS, lambda answer: told([note_in(line) for line in answer.lines] if answer else None))
 
     def buffer(self, number: int, told: Callable[[bytes | None], object]) -> None:
-        """Asks for the bytes of a buffer."""
+        """Request the bytes of a buffer."""
         self.put(f"{BUFFER} {SHOW} {number}", BUFFER, lambda answer: told(answer.data if answer else None))
 
     def put(self, line: str, word: str, told: Told, data: bytes = b"") -> None:
-        """Asks, and notes who is told; at once that it can't be, where no host is connected."""
+        """Send a request and record its callback; call it with None at once if no host is connected."""
         if self.ask(line, data):
             self.asked.append((word, told))
         else:
@@ -204,7 +209,7 @@ class ScrollbackClient:
     # ---- answers
 
     def take(self, answer: Answer) -> bool:
-        """Takes what a host told, and tells whether it is of this; BadAnswer where it can't be."""
+        """Take a host's answer, and return True if it belongs here; BadAnswer if it is invalid."""
         words = answer.words
         if words[0] == MORE:
             self.on_more(*(number_at(words, place) for place in (1, 2, 3)))
@@ -219,13 +224,13 @@ class ScrollbackClient:
         return True
 
     def forget(self) -> None:
-        """Knows of no host any more: nothing that was asked is answered."""
+        """Forget the host: no open request gets an answer."""
         asked, self.asked = self.asked, []
         for _, told in asked:
             told(None)
 
 
 def note_in(line: str) -> BufferNote:
-    """The buffer that a line of a list tells."""
+    """Return the buffer of a line in a list."""
     words = line.split(" ", 2)
     return BufferNote(number_at(words, 0), number_at(words, 1), words[2] if len(words) > 2 else "")

@@ -11,22 +11,22 @@ HOME = "name a server by its directory, or by its port, 1 to 65535, and the sess
 
 
 def random_id() -> str:
-    """An id that nobody had: 15 hexadecimal digits, the first no zero, so that it is below every bound of an id."""
+    """Return a new random id: 15 hexadecimal digits, the first no zero, so that it is below every limit of an id."""
     return f"{int.from_bytes(os.urandom(8), 'big') >> 4 | 1 << 59:x}"
 
 
 def is_id(word: str) -> bool:
-    """Whether a word is an id: 1 to 16 hexadecimal digits."""
+    """Return True if a word is an id: 1 to 16 hexadecimal digits."""
     return 1 <= len(word) <= 16 and all(letter in "0123456789abcdefABCDEF" for letter in word)
 
 
 def is_port(word: str) -> bool:
-    """Whether a word is the number of a port: 1 to 65535."""
+    """Return True if a word is a port number: 1 to 65535."""
     return word.isascii() and word.isdigit() and len(word) <= 5 and 1 <= int(word) <= 65535
 
 
 def is_port_served(port: int) -> bool:
-    """Whether somebody has this UDP port of loopback. One byte goes there, which is no datagram to a server."""
+    """Return True if a process has bound this UDP port of loopback. The probe is one byte, which no server takes for a datagram."""
     import socket
 
     with socket.socket(socket.AF_INET, socket.SOCK_DGRAM) as probe:
@@ -43,14 +43,14 @@ def is_port_served(port: int) -> bool:
 
 
 class Home:
-    """Where a server is reached: in its folder, or at a UDP port of loopback, where the session's id has to be known."""
+    """The address of a server: its folder, or a UDP port of loopback and the session's id."""
 
     def __init__(self, folder: str | None = None, port: int = 0, session: str = "") -> None:
         self.folder, self.port, self.session = folder, port, session
 
     @classmethod
     def of(cls, words: list[str]) -> Home | None:
-        """That of the words of a command line: DIR, or PORT SESSION; None where they are neither."""
+        """Return the address in the words of a command line: DIR, or PORT SESSION; None if they are neither."""
         if len(words) == 1:
             return cls(folder=os.path.abspath(words[0]))
         if len(words) == 2 and is_port(words[0]) and is_id(words[1]):
@@ -61,16 +61,16 @@ class Home:
         return f"in {self.folder}" if self.folder else f"at port {self.port}"
 
     def is_served(self) -> bool:
-        """Whether a server is there."""
+        """Return True if a server listens at this address."""
         return is_listened(f"{self.folder}/clients") if self.folder else is_port_served(self.port)
 
     def why_unserved(self) -> str:
-        """Why none is known to be there, where that is more than that nobody listens."""
+        """Return the reason that no server is known here, if it is more than that nobody listens."""
         why = unheard(f"{self.folder}/clients") if self.folder and os.path.exists(f"{self.folder}/clients") else ""
         return f": {why}" if why and why != os.strerror(errno.ECONNREFUSED) else ""
 
     def attach_words(self, more: list[str]) -> list[str]:
-        """The words of a client process; no id stands in them where the folder keeps others out."""
+        """Return the arguments of a client process. They omit the id if the folder's permissions protect the session."""
         if self.folder:
             return [program(), "attach", "--dir", self.folder, *more]
         return [program(), "attach", "--port", str(self.port), "--session", self.session, "--client", random_id(), *more]

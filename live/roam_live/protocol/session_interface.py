@@ -1,6 +1,7 @@
-"""What the tools need of a session, however it is reached: one of this machine, one of another, one that was spawned by hand, or one at a
-port. What isn't known of it is None, and never an empty answer. Nothing of this module is loaded while a tool runs: it is for who checks
-types, and for who makes a session of another kind."""
+"""The interface of a session for the tools, however it is reached: local, remote, spawned by hand, or at a port.
+
+None means unknown, and differs from an empty answer. Tools never load this module: it serves type checking and new kinds of sessions.
+"""
 from __future__ import annotations
 
 from typing import Protocol
@@ -13,19 +14,19 @@ if TYPE_CHECKING:
 
 
 class HostedSession(Protocol):
-    """A session whose shells are kept by a process that may end before it."""
+    """A session whose shells run in a pty host that may end before it."""
 
     name: str
 
     def process(self, role: str) -> int | None:
-        """The process of a role, as `server`, `host` or `client`; None where none runs, or none is known."""
+        """Return the process of a role such as `server`, `host` or `client`; None if none runs or is known."""
 
     def revive_host(self) -> bool:
-        """Spawns the shells anew where what kept them has ended, and this process may; tells whether they run."""
+        """Restart the pty host if it has ended and this process may, and return True if it runs."""
 
 
 class AnySession(HostedSession, Protocol):
-    """A session, as a front end needs it. Its words name where it is, as in `no server is {session}`."""
+    """A session as a front end needs it. Its text names its location, as in `no server is {session}`."""
 
     # The role of the process whose end is the session's.
     served: str
@@ -34,39 +35,39 @@ class AnySession(HostedSession, Protocol):
 
     @property
     def folder(self) -> FilePath | None:
-        """Where bells and the panes are told; None where no folder is known."""
+        """Return the folder with the sockets for bells and panes; None if unknown."""
 
     @property
     def common(self) -> FilePath | None:
-        """Where front ends are noted: the folder of the session of which this is a window, or the same."""
+        """Return the folder in which front ends register: that of this window's session, or the same."""
 
     def read(self) -> None:
-        """Reads anew what is noted of it."""
+        """Reload its recorded state."""
 
     def runs(self, role: str | None = None) -> bool:
-        """Whether the process of a role is known to run; that of the role `served` where none is named."""
+        """Return True if the process of a role is known to run; by default that of the role `served`."""
 
     def is_served(self) -> bool:
-        """Whether somebody answers where its server is reached."""
+        """Return True if a server answers at its address."""
 
     def busy(self) -> dict[int, str] | None:
-        """The panes in which another program than a shell runs, and its name; None where that isn't known, of one pane or of all."""
+        """Return the panes that run a program other than a shell, with its name; None if that is unknown, of one pane or of all."""
 
     def revive(self) -> None:
-        """Spawns the client process, where none is there; Fault or OSError tells why that can't be."""
+        """Spawn the client process if it is missing; Fault or OSError gives the reason of a failure."""
 
     def ending(self) -> tuple[str, int]:
-        """What a person is told once it has ended, and the status of the front end."""
+        """Return the message about its end, and the front end's exit status."""
 
     @property
     def number(self) -> int:
-        """The number of the window that it is; 0 where the session can't have others."""
+        """Return the number of its window; 0 if the session is limited to one."""
 
     def window(self, number: int | None = None) -> AnySession:
-        """Another window of the session by its number; Fault where it isn't there."""
+        """Return another window of the session by its number; Fault if it does not exist."""
 
     def windows(self) -> Sequence[AnySession]:
-        """The windows of the session that run, in order."""
+        """Return the running windows of the session, in order."""
 
     def close(self) -> None:
-        """Lets it go: what was spawned for this front end alone ends."""
+        """Release it, and end the processes spawned for this front end alone."""

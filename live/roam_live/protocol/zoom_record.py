@@ -1,5 +1,7 @@
-"""What is noted of a zoom, at the pty host: which size the session is to have again, so that it gets that also where
-the front end was killed that made it larger."""
+"""The record of a zoom at the pty host: the size that the session gets back.
+
+So the size returns even if the front end that zoomed was killed.
+"""
 from __future__ import annotations
 
 from roam_live.common.named_fields import NamedFields
@@ -10,22 +12,22 @@ TYPE_CHECKING = False
 if TYPE_CHECKING:
     from roam_live.common.tty import Size
 
-# The word by which a terminal tells of its zoom, and that by which it is told of one, behind who made it; and what is told of none.
+# The word by which a terminal reports its zoom, the word for a reported zoom with its front end, and the report of none.
 ZOOM, ZOOMED = "zoom", "zoomed"
 NONE = "none"
 NO_ZOOM = f"{ZOOMED} {NONE}"
 
-# So many sizes are asked for in one zoom at most.
+# The most size requests of one zoom.
 MOST_ASKED = 8
 
-# So many seconds after a front end left that had made a zoom the session has taken what that typed last, also on a busy machine; and after
-# so many nothing comes of it any more.
+# Seconds after which a session, even on a busy machine, has taken the last input of a front end that zoomed and left. Then the seconds
+# after which its input has no more effect.
 LEFT = 2.0
 OVER = 10.0
 
 
 class ZoomNote(NamedFields):
-    """The size that a session is to have again, and those that it was asked for by the zoom, the last of them last."""
+    """The size that a session gets back, and the sizes that the zoom requested, in order."""
 
     size: Size
     asked: tuple[Size, ...]
@@ -35,7 +37,7 @@ class ZoomNote(NamedFields):
 
 
 def note_in(words: list[str]) -> ZoomNote | None:
-    """The note that words tell; None where they don't."""
+    """Return the note in these words; None if they are invalid."""
     numbers = [number_in(word, MOST[place % 2]) for place, word in enumerate(words)]
     if len(words) % 2 or not 2 <= len(words) // 2 <= MOST_ASKED + 1 or not all(numbers):
         return None
@@ -44,7 +46,7 @@ def note_in(words: list[str]) -> ZoomNote | None:
 
 
 def zoomed_in(words: list[str]) -> tuple[int, ZoomNote | None] | None:
-    """Who made a zoom, 0 where he has left, and its note, as words tell it, or that there is none; None where they tell neither."""
+    """Return the front end of a zoom, 0 once it has left, with its note, or None for no zoom; None if the words are invalid."""
     if words == [NONE]:
         return 0, None
     note, maker = note_in(words[1:]), number_in(words[0], MOST_NUMBER) if words else 0

@@ -1,8 +1,10 @@
-"""How many new client processes other machines bring to a server, which knows a number of them in its life and gives none back: a client
-that it knows always passes, and new ones come slowly and leave some for the server's own machine.
+"""The limit on new client processes that other machines bring to a server.
 
-All far ends of a window count together: each client that one lets through is a line of a file in the window's folder. A line is written at
-once and never changed, so that an end that is killed leaves nothing half done.
+A server accepts a number of clients in its life and frees none. A known client always passes. New ones come slowly and leave some for the
+server's own machine.
+
+All far ends of a window count together. Each accepted client is a line of a file in the window's folder. A line is written at once and
+never changed, so that a killed far end leaves no partial state.
 """
 from __future__ import annotations
 
@@ -17,29 +19,29 @@ from roam_live.protocol.panes import MOST_CLIENTS, MOST_WATCHERS, asked_places
 from roam_live.protocol.server_address import is_id
 from roam_live.session.names import REMOTE_CLIENTS
 
-# The file has so many bytes at most.
+# The most bytes of the file.
 MOST_NOTE = 1 << 14
 
-# So many new ones pass at once, and then one in so many seconds.
+# New clients that pass at once, and then the seconds between two.
 AT_ONCE = 2
 SECONDS = 10.0
 
-# So long a server has at most for counting one that was let through, and for telling how many it counts.
+# Seconds for a server to count a client after it passes, and to report the count.
 SETTLES = 5.0
 ASKED = 0.25
 
-# What stands for a server whose session isn't known: no datagram is taken for another's there.
+# The placeholder for a server whose session is unknown. There no datagram counts as another session's.
 UNKNOWN = 0
 
-# A datagram's version, kind, session and client process; the kinds of those that a client sends, and of each how many a server knows and
-# how many of these other machines leave.
+# A datagram's version, kind, session and client process. Then the kinds that a client sends, and for each how many a server accepts and how
+# many other machines leave.
 HEAD = struct.Struct(">2xBBQQ")
 READ_WRITE, READ_ONLY = 2, 3
 LIMITS = {READ_WRITE: (MOST_CLIENTS, 16), READ_ONLY: (MOST_WATCHERS, 4)}
 
 
 class RemoteClient(namedtuple("RemoteClient", "session kind name moment count")):
-    """A client that was let through: its server's session, its kind and its id, when that was, and how many the server knew before."""
+    """A client that passed: its server's session, its kind and id, the moment, and the number of clients that the server knew before."""
 
     session: int
     kind: int
@@ -52,7 +54,7 @@ class RemoteClient(namedtuple("RemoteClient", "session kind name moment count"))
 
 
 def remote_client_in(line: str) -> RemoteClient | None:
-    """The client that a line tells; None where it is none."""
+    """Return the client in a line; None if it is invalid."""
     words = line.split(" ")
     if len(words) != 5 or not (is_id(words[0]) and is_id(words[2])):
         return None
@@ -63,7 +65,7 @@ def remote_client_in(line: str) -> RemoteClient | None:
 
 
 def room_at(moments: list[float], now: float) -> float:
-    """How many new ones may pass now, where others did at these moments: it grows to those that pass at once."""
+    """Return how many new ones may pass now after others passed at these moments. It grows up to the burst."""
     room, before = float(AT_ONCE), 0.0
     for moment in [*(min(moment, now) for moment in moments), now]:
         room = min(float(AT_ONCE), room + max(0.0, moment - before) / SECONDS)
@@ -73,22 +75,22 @@ def room_at(moments: list[float], now: float) -> float:
 
 
 def counted(folder: str) -> dict[int, int] | None:
-    """How many clients of each kind the server of a folder tells that it knows; None where it doesn't tell."""
+    """Return how many clients of each kind the server of a folder reports; None without a report."""
     places = asked_places(os.path.join(folder, "panes"), ASKED) if folder else None
     return {READ_WRITE: places.clients, READ_ONLY: places.watchers} if places else None
 
 
 class ClientLimit:
-    """What passes to the server of one folder; without a folder this end counts for itself alone."""
+    """The limit for the server of one folder. Without a folder this end counts alone."""
 
     def __init__(self, folder: str, clock: Callable[[], float], counts: Callable[[str], dict[int, int] | None] = counted) -> None:
         self.folder, self.clock, self.counts = folder, clock, counts
-        # Those that this end let through; and of these the ones that couldn't be noted.
+        # The clients that this end let pass; and those of them that could not be recorded.
         self.known: set[tuple[int, int, int]] = set()
         self.unnoted: list[RemoteClient] = []
 
     def passes(self, datagram: bytes) -> bool:
-        """Whether a datagram goes to the server: also one that the server refuses in any case, for which it keeps nothing."""
+        """Return True if a datagram may go to the server, even one that the server refuses without using memory."""
         version, kind, session, name = HEAD.unpack_from(datagram)
         if version not in (1, 2) or kind not in LIMITS or (session, kind, name) in self.known:
             return True
@@ -101,7 +103,7 @@ class ClientLimit:
         return False
 
     def session(self) -> int | None:
-        """The id of the server's session; None where it isn't known."""
+        """Return the id of the server's session; None if unknown."""
         if not self.folder:
             return None
         with contextlib.suppress(OSError, ValueError):
@@ -110,13 +112,13 @@ class ClientLimit:
         return None
 
     def lets(self, session: int, kind: int, name: int) -> bool:
-        """Whether a client passes that this end doesn't know; one that is new is noted then."""
+        """Return True if a client unknown to this end passes. A new one is then recorded."""
         there = self.noted(session)
         if any((one.kind, one.name) == (kind, name) for one in there):
             return True
         if not self.has_room(there, kind):
             return False
-        # The server is asked before the file is locked, which others wait for.
+        # The server is asked before the file is locked, since others wait for the lock.
         told = self.counts(self.folder)
         with self.locked() as note:
             there = self.noted(session)
@@ -130,11 +132,11 @@ class ClientLimit:
         return True
 
     def has_room(self, there: list[RemoteClient], kind: int) -> bool:
-        """Whether a new one of a kind may pass now."""
+        """Return True if a new one of a kind may pass now."""
         return room_at([one.moment for one in there if one.kind == kind], self.clock()) >= 1
 
     def count(self, there: list[RemoteClient], kind: int, told: dict[int, int] | None) -> int:
-        """How many clients of a kind the server knows, with one that was let through just now."""
+        """Return the number of a kind's clients that the server knows, including one that just passed."""
         ours = [one for one in there if one.kind == kind]
         known = told[kind] if told else len(ours)
         return max([known, *(one.count + 1 for one in ours[-1:] if self.clock() < one.moment + SETTLES)])
@@ -142,11 +144,11 @@ class ClientLimit:
     # ---- the file
 
     def path(self) -> str:
-        """The file's path."""
+        """Return the file's path."""
         return os.path.join(self.folder, REMOTE_CLIENTS)
 
     def noted(self, session: int) -> list[RemoteClient]:
-        """The starts of a session that were let through, in their order."""
+        """Return the clients of a session that passed, in order."""
         lines: list[str] = []
         if self.folder:
             with contextlib.suppress(OSError), open(self.path(), encoding="ascii", errors="replace") as file:
@@ -156,7 +158,7 @@ class ClientLimit:
 
     @contextlib.contextmanager
     def locked(self) -> Iterator[int | None]:
-        """The file, which no other far end writes meanwhile; None where it can't be had."""
+        """Yield the file, locked against other far ends; None if that fails."""
         note = None
         try:
             with contextlib.suppress(OSError):
@@ -169,13 +171,13 @@ class ClientLimit:
                 os.close(note)
 
     def note(self, note: int | None, client: RemoteClient, is_first: bool) -> None:
-        """Notes a client: the first of a server in place of what one before it left."""
+        """Record a client: a server's first one replaces those of an earlier server."""
         try:
             if note is None:
                 raise OSError
             if is_first:
                 os.ftruncate(note, 0)
-            # The line before may be cut, where the disk was full.
+            # The previous line may be incomplete after a full disk.
             line = f"\n{client}\n".encode()
             if os.write(note, line) != len(line):
                 raise OSError

@@ -1,5 +1,6 @@
-"""What both ends of a relay have: the words that they are started with, the way out, datagrams at a port of loopback, and which of two
-ways, the stream or the path, carries what waits."""
+"""The common parts of both ends of a relay: their options, their exit, datagrams at a port of loopback, and the choice between the stream
+and the UDP path.
+"""
 from __future__ import annotations
 
 import math
@@ -20,10 +21,10 @@ TYPE_CHECKING = False
 if TYPE_CHECKING:
     from roam_live.relay.forwarding import Opens
 
-    # What is sent to or came from at a port of loopback.
+    # The address of a peer at a port of loopback.
     Address = tuple[str, int]
 
-# A peer that says nothing for so many seconds is forgotten, and so are the longest silent of too many.
+# A peer that is silent for so many seconds is forgotten, and so are the longest silent of too many.
 FORGOTTEN_AFTER = 180.0
 PEER_LIMIT = 256
 
@@ -33,7 +34,7 @@ SIGNALS = (signal.SIGTERM, signal.SIGHUP, signal.SIGINT)
 
 
 class Ended(Exception):
-    """The way out, with a status."""
+    """The exit of the process, with a status."""
 
     def __init__(self, status: int) -> None:
         super().__init__(status)
@@ -41,8 +42,7 @@ class Ended(Exception):
 
 
 class Options:
-    """What the command line asks for, of either end: a port, or a folder in place of it or beside it; of the near end the command, and of
-    the far one the session."""
+    """The options of either end: a port, a folder in its place or in addition, the near end's command, and the far end's session."""
 
     def __init__(self, *, folder: str | None = None, port: int | None = None, command: list[str] | None = None, owner: int | None = None,
                  alone: float | None = None, log: str | None = None, host: str = "", far: bool = False, greeted: bool = False,
@@ -53,14 +53,14 @@ class Options:
 
 
 def end_for(wakeup: int) -> None:
-    """Ends for a signal that came."""
+    """End after a signal."""
     for number in read(wakeup) or b"":
         if number in SIGNALS:
             raise Ended(128 + number)
 
 
 def loopback_socket() -> socket.socket:
-    """A UDP socket that doesn't wait, with room for the fragments of a large instruction, as far as the system gives it."""
+    """Return a non-blocking UDP socket with room for the fragments of a large instruction, as far as the system permits."""
     one = socket.socket(socket.AF_INET, socket.SOCK_DGRAM)
     one.setsockopt(socket.SOL_SOCKET, socket.SO_RCVBUF, WAITING_LIMIT)
     one.setblocking(False)
@@ -68,7 +68,7 @@ def loopback_socket() -> socket.socket:
 
 
 def received(source: socket.socket) -> list[tuple[bytes, Address]]:
-    """The datagrams that came, and where from."""
+    """Return the datagrams that arrived, with their sources."""
     found = []
     for _ in range(MOST_AT_ONCE):
         try:
@@ -77,43 +77,42 @@ def received(source: socket.socket) -> list[tuple[bytes, Address]]:
         except BlockingIOError:
             break
         except OSError:
-            # Nobody has the port to which something was sent.
+            # Nobody has the port that an earlier packet was sent to.
             continue
     return found
 
 
-# A way that was there for so many seconds is validated: then nothing goes over the command any more beside a path, and what breaks a
-# command is no fault of its own.
+# A transport that has lasted for so many seconds is validated. Then nothing more goes over the command beside a UDP path, and the end of a
+# command is not its own fault.
 SOUND = 5.0
 
-# What waits for the way that carries nothing now.
+# An empty queue for the transport that is not in use.
 NOTHING = Waiting()
 
 
 class Ways:
-    """What an end has of both."""
+    """The two transports of an end."""
 
     def __init__(self, loop: Loop) -> None:
         self.loop = loop
         self.path: Path | None = None
         self.stream: RelayStream | None = None
-        # What carries what waits, as it was seen last, and connections: these end where another does from then on.
+        # The transport that last carried data and connections. Connections end with a change of transport.
         self.carrier: Path | RelayStream | None = None
-        # Whether nothing goes over the stream, since the path is validated.
+        # True while the stream is silent because the path is validated.
         self.rests = False
 
-    # ---- the path comes and goes
+    # ---- the path
 
     def take_path(self, path: Path, hears: Callable[[], object], opens: Opens | None = None) -> None:
-        """Takes a path in place of the one that there was; where something comes over it this is called, and where a connection is opened
-        by it the other call, which the far end has."""
+        """Use a new path in place of the previous one. One call reports input; the other, at the far end, opens forwarded connections."""
         self.drop_path()
         self.path = path
         path.streams = PathStreams(self.loop, opens)
         path.join(self.loop, hears)
 
     def drop_path(self) -> None:
-        """Lets the path go without a word, with the connections that it carries."""
+        """Close the path without a message, with its connections."""
         if self.path:
             self.path.close()
             self.ended(self.path)
@@ -121,50 +120,52 @@ class Ways:
         self.rest()
 
     def take_stream(self, stream: RelayStream, opens: Opens | None = None) -> None:
-        """Takes a stream, with a call where a connection is opened by it."""
+        """Use a stream, with a call that opens forwarded connections."""
         self.stream = stream
         stream.streams = PipeStreams(self.loop, stream.tell_forwarded, opens)
 
     def drop_stream(self) -> None:
-        """Lets the stream go, with the connections that it carries."""
+        """Close the stream, with its connections."""
         if self.stream:
             self.ended(self.stream)
         self.stream = None
 
     def ended(self, way: Path | RelayStream) -> None:
-        """Ends the connections of a way that is no more."""
+        """End the connections of a transport that is gone."""
         if way.streams:
             way.streams.close()
         self.carrier = None if self.carrier is way else self.carrier
 
-    # ---- which of them carries what waits
+    # ---- the transport in use
 
     def is_validated(self) -> bool:
-        """Whether the path carries all."""
+        """Return True if the path carries everything."""
         return self.path is not None and self.path.is_validated()
 
     def was_validated(self) -> bool:
-        """Whether it does, and has for some time."""
+        """Return True if the path is validated and has been for some time."""
         return self.path is not None and self.path.is_validated() and self.path.validated_since + SOUND <= time.monotonic()
 
     def chosen(self, is_stream_there: bool) -> Path | RelayStream | None:
-        """What carries what waits: the path where it is validated, or nothing else is there; and else the stream."""
+        """Return the transport in use: the path if it is validated or the only one; otherwise the stream."""
         return self.path if self.path and (self.path.is_validated() or not is_stream_there) else self.stream
 
     def rest(self) -> None:
-        """Has nothing go over the stream while the path has been validated for some time, and has it heard anew once it isn't. The command
-        stays, for what else was asked of it, as a port that it forwards."""
+        """Keep the stream silent while the path has been validated for some time, and resume it afterwards.
+
+        The command stays for its other uses, such as a port that it forwards.
+        """
         rests = self.stream is not None and self.was_validated()
         if self.rests and not rests and self.stream:
             self.stream.resume()
         self.rests = rests
 
     def is_quiet(self) -> bool:
-        """Whether nothing is to be said over the stream."""
+        """Return True if the stream has nothing to send."""
         return self.rests and self.stream is not None and not self.stream.is_owed()
 
     def fill(self, waiting: Waiting, is_stream_there: bool) -> None:
-        """Has what waits go, by the way that carries it, and what each end says that it is there."""
+        """Send the queue by the transport in use, and heartbeats on each."""
         way = self.chosen(is_stream_there)
         if way is not self.carrier:
             if self.carrier and self.carrier.streams:
@@ -177,7 +178,7 @@ class Ways:
             self.path.fill(waiting if way is self.path else NOTHING)
 
     def moments(self) -> list[float]:
-        """When something is due."""
+        """Return the moments of the next steps."""
         found = [self.stream.due_at()] if self.stream and not self.is_quiet() else []
         if self.path:
             found.append(self.path.due_at())
@@ -187,7 +188,7 @@ class Ways:
 
 
 def finish(path: Path, seconds: float) -> None:
-    """Says what is to be said over a path, as long as the other end hasn't all of it and so many seconds last."""
+    """Send the last messages over a path until the other end has all of them, or the time is up."""
     end = time.monotonic() + seconds
     while not path.is_said() and not path.is_spent() and time.monotonic() < end:
         path.fill(NOTHING)

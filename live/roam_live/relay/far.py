@@ -1,4 +1,4 @@
-"""The end of a relay beside the server."""
+"""The far end of a relay, next to the server."""
 from __future__ import annotations
 
 import math
@@ -28,14 +28,14 @@ TYPE_CHECKING = False
 if TYPE_CHECKING:
     from roam_live.session.folder import SessionFolder
 
-# An end to which nothing is said for so many seconds ends; one that was called over a path waits so long for the near end, which may sleep
-# over holidays.
+# A far end without messages for so many seconds ends. One that was called over a path waits longer, since the near end may sleep over
+# holidays.
 ALONE = 30.0
 FAR_WAIT = 7 * 24 * 3600.0
 
 
 class Far:
-    """The end beside the server: a stream to its socket for each client, or a UDP socket."""
+    """The end next to the server: a stream to its socket for each client, or a UDP socket."""
 
     def __init__(self, asked: Options, wakeup: int, loop: Loop | None = None) -> None:
         self.asked, self.loop = asked, loop or Loop()
@@ -52,10 +52,10 @@ class Far:
         self.waiting = Waiting()
         self.sockets: dict[int, socket.socket | Carrier] = {}
         self.moments: dict[int, float] = {}
-        # What lets new clients through, by the folders of the servers.
+        # The limits on new clients, by the folders of the servers.
         self.limits: dict[str, ClientLimit] = {}
-        # What holds the command while this goes on in another process; the near end's name, and the note by which the next far end of it
-        # ends this one.
+        # The descriptor that keeps the command open while this process continues without it. Then the near end's name, and the note by
+        # which the next far end of that name ends this one.
         self.held: int | None = None
         self.name = ""
         self.note: pathlib.Path | None = None
@@ -71,11 +71,11 @@ class Far:
         self.stream.tell(0, FORWARDS)
         self.loop.add(1, None, self.flush, has_more=lambda: self.stream.going)
         self.loop.add(0, self.hear)
-        # Whether the near end called recently: while it sleeps its terminals aren't at the session.
+        # True if the near end called recently. While it sleeps, its terminals do not count as attached.
         self.is_called = True
 
     def send(self, peer: int, datagram: bytes) -> None:
-        """Sends a client's datagram to the server, where that is to know its client."""
+        """Send a client's datagram to the server, if the limit lets it pass."""
         if not self.limit(peer >> WINDOW_SHIFT).passes(datagram):
             return
         try:
@@ -87,11 +87,11 @@ class Far:
             self.moments[peer] = time.monotonic()
             self.sockets[peer].send(datagram)
         except OSError:
-            # Nobody has the port now, or its queue is full: the datagram is lost, as any may be.
+            # Nobody has the port now, or its queue is full: the datagram is lost, like any other may be.
             pass
 
     def opened(self, number: int) -> socket.socket | Carrier:
-        """A way to the server for one client more, to that of a window where the near end takes them."""
+        """Return a connection to the server for a new client, to a window's server if the near end supports windows."""
         if self.asked.port:
             one = loopback_socket()
             one.connect(("127.0.0.1", self.asked.port))
@@ -99,18 +99,18 @@ class Far:
         return Carrier(connected_now(os.path.join(self.folder(number), "clients")))
 
     def folder(self, number: int) -> str:
-        """The folder of a window's server; nothing where it has none."""
+        """Return the folder of a window's server; nothing if it has none."""
         return self.windows.folder(number) or self.asked.dir or ""
 
     def limit(self, number: int) -> ClientLimit:
-        """What lets new clients of a window through."""
+        """Return the limit on new clients of a window."""
         folder = self.folder(number)
         if folder not in self.limits:
             self.limits[folder] = ClientLimit(folder, time.monotonic)
         return self.limits[folder]
 
     def drop(self, peer: int) -> None:
-        """Forgets a client."""
+        """Forget a client."""
         end = self.sockets.pop(peer)
         self.loop.remove(end)
         end.close()
@@ -118,46 +118,46 @@ class Far:
         self.waiting.forget(peer)
 
     def drop_silent(self) -> None:
-        """Forgets the clients that have said nothing for long."""
+        """Forget the clients that have been silent for long."""
         for peer in [peer for peer, moment in self.moments.items() if moment + FORGOTTEN_AFTER < time.monotonic()]:
             self.drop(peer)
 
     def opened_socket(self, name: str) -> socket.socket:
-        """A connection to a socket of the session's folder, of those that are forwarded; OSError where it can't be had."""
+        """Return a connection to a forwarded socket of the session's folder; OSError if that fails."""
         if not self.asked.dir:
             raise FileNotFoundError(name)
         if self.place:
             return connected_now(self.windows.path(name))
-        # A window's folder has no `host`: that of its session has it.
+        # A window's folder has no `host`; that of its session does.
         return connected_now(os.path.join(window_in(self.asked.dir).common if name == HOST else self.asked.dir, name))
 
-    # ---- what the other end is told
+    # ---- reports to the near end
 
     def has_command(self) -> bool:
-        """Whether the command is still there."""
+        """Return True if the command is still there."""
         return self.ways.stream is not None
 
     def tell_windows(self, text: bytes) -> None:
-        """Tells the near end which windows there are, by all that carries something."""
+        """Report the windows to the near end, over all transports."""
         if self.has_command():
             self.stream.tell(0, text)
         if self.ways.path:
             self.ways.path.tell(0, text)
 
     def use_windows(self) -> None:
-        """Tells windows from now on: a peer that was taken for one of the relay's own is another's."""
+        """Report windows from now on: a peer that counted as one of the relay's own window may belong to another."""
         if not self.windows.is_used:
             for peer in [peer for peer in self.sockets if peer >> WINDOW_SHIFT]:
                 self.drop(peer)
         self.windows.use()
 
     def follow_server(self, process: int) -> None:
-        """Sees the end of the server of the relay's own window."""
+        """Watch for the end of the server of the relay's own window."""
         self.server = opened_process(process)
         self.loop.add(self.server, self.server_ended)
 
     def server_ended(self) -> None:
-        """Goes on with another window of the session as its own, or tells its end."""
+        """Continue with another window of the session as its own, or report the end."""
         heir = self.windows.heir()
         process = heir.process("server") if heir else None
         self.loop.remove(self.server)
@@ -169,7 +169,7 @@ class Far:
             self.tell_end()
 
     def tell_end(self) -> None:
-        """Tells that the session has ended, or that its server was killed, and ends."""
+        """Report the session's end, or that its server was killed, and end."""
         text, path = KILLED if self.place and self.place.ending()[1] else ENDED, self.ways.path
         if path and self.ways.chosen(self.has_command()) is path:
             path.tell(0, text)
@@ -180,15 +180,15 @@ class Far:
                 pass
         raise Ended(0)
 
-    # ---- what comes from it
+    # ---- messages from the near end
 
     def flush(self) -> None:
-        """Writes what the other end takes by the command; where it is gone there this goes on without."""
+        """Write as much as the command accepts. If its other end is gone, continue without it."""
         if not self.stream.flush():
             self.let_go()
 
     def hear(self) -> None:
-        """Takes what came over the command."""
+        """Read messages from the command."""
         frames = self.stream.received()
         if frames is None:
             self.let_go()
@@ -196,12 +196,12 @@ class Far:
             self.take(frames)
 
     def hear_path(self) -> None:
-        """Takes what came over the path."""
+        """Read messages from the path."""
         if self.ways.path:
             self.take(self.ways.path.received())
 
     def take(self, frames: Iterable[tuple[int, bytes]]) -> None:
-        """Takes what the other end sent."""
+        """Take the near end's frames."""
         for peer, text in frames:
             if peer and is_datagram(text):
                 self.send(peer, text)
@@ -218,7 +218,7 @@ class Far:
     # ---- the path beside the command
 
     def make_path(self, name: str) -> None:
-        """Makes a path, and goes on in a process that outlives the command; where one can't be had the command stays all there is."""
+        """Set up a path, and continue in a process that outlives the command. If that fails, the command stays the only transport."""
         end = udp_end(PORTS) if name and self.asked.dir and is_wanted() else None
         if not end or not self.asked.dir:
             return
@@ -236,7 +236,7 @@ class Far:
                 made[0].tell(0, self.windows.told)
 
     def let_go(self) -> None:
-        """Goes on without the command, where there is a path; else all ends with it."""
+        """Continue without the command if there is a path; otherwise end."""
         if not self.ways.path or self.held is None:
             raise Ended(0)
         for end in (self.stream.source, self.stream.target):
@@ -251,7 +251,7 @@ class Far:
         os.close(self.held)
 
     def alone_at(self) -> float:
-        """When it ends, or lets the command go, where nothing more is heard: one that was called over the path may be called after days."""
+        """Return when it ends, or releases the command, without further messages. One that was called over the path waits for days."""
         if self.has_command():
             return math.inf if self.ways.rests else self.stream.heard + ALONE
         path = self.ways.path
@@ -260,7 +260,7 @@ class Far:
         return path.heard_at + FAR_WAIT if path.place else max(path.heard_at, self.let_go_at) + ALONE
 
     def end_alone(self) -> None:
-        """Ends where nobody has spoken for long, or lets the command go where somebody has over the path."""
+        """End after a long silence, or release the command if the path was used."""
         if time.monotonic() <= self.alone_at():
             return
         if not self.has_command():
@@ -270,7 +270,7 @@ class Far:
         self.let_go()
 
     def renew(self) -> None:
-        """Makes another path in place of one that has no numbers left, where the command is there to tell of it; else it ends."""
+        """Replace a path that has no counters left, if the command can report the new one; otherwise end."""
         path = self.ways.path
         if path and path.is_spent():
             self.ways.drop_path()
@@ -288,7 +288,7 @@ class Far:
     # ---- the server
 
     def join(self, peer: int, end: socket.socket | Carrier) -> None:
-        """Has what comes from the server for a client carried, and what goes to it."""
+        """Relay the datagrams between a client and the server."""
         if isinstance(end, Carrier):
             carrier = end
             self.loop.add(carrier, lambda: self.hear_server(peer, carrier.received()), lambda: self.flush_server(peer, carrier),
@@ -298,19 +298,19 @@ class Far:
             self.loop.add(port, lambda: self.hear_server(peer, [datagram for datagram, _ in received(port)]))
 
     def hear_server(self, peer: int, datagrams: list[bytes] | None) -> None:
-        """Takes what came for a client; None where the server has left it."""
+        """Take the server's datagrams for a client; None if the server has closed the connection."""
         if datagrams is None:
             self.drop(peer)
         for datagram in datagrams or []:
             self.waiting.add(peer, datagram)
 
     def flush_server(self, peer: int, carrier: Carrier) -> None:
-        """Writes what the server takes of a client's; one that it has left is forgotten."""
+        """Write as much of a client's datagrams as the server accepts. Forget a client after a closed connection."""
         if not carrier.flush():
             self.drop(peer)
 
     def prepare(self) -> float | None:
-        """Tells what is new, and by when something is due."""
+        """Report the news, and return the moment of the next step."""
         self.ways.rest()
         self.renew()
         self.ways.fill(self.waiting, self.has_command())
@@ -320,11 +320,11 @@ class Far:
         return min([*self.ways.moments(), *([alone_at] if alone_at < math.inf else [])], default=None)
 
     def turn(self) -> None:
-        """Waits until something can be done, and does it."""
+        """Wait until something is ready, and handle it."""
         self.loop.turn()
 
     def close(self) -> None:
-        """Closes the sockets, and removes what notes this process."""
+        """Close the sockets, and remove this process's note."""
         for peer in list(self.sockets):
             self.drop(peer)
         self.ways.drop_path()

@@ -1,5 +1,4 @@
-"""The windows of a session at the far end of a relay: which there are, as the host tells it, for a near end that asked; and their
-folders."""
+"""The windows of a session at the far end of a relay: their numbers from the host, for a near end that asked, and their folders."""
 from __future__ import annotations
 
 import contextlib
@@ -22,29 +21,29 @@ TYPE_CHECKING = False
 if TYPE_CHECKING:
     from roam_live.session.folder import SessionFolder
 
-# The high byte of a peer's number names its window, which 0 stands for the relay's own.
+# The high byte of a peer's number is its window, 0 for the relay's own.
 WINDOW_SHIFT = 8
 MOST_IN_WINDOW = (1 << WINDOW_SHIFT) - 1
 
-# What leads the name of a socket that is forwarded, of another window than the relay's own.
+# The prefix of a forwarded socket's name for a window other than the relay's own.
 LED = re.compile(r"w/([1-9]\d?)/(?=.)", re.ASCII)
 
-# All windows, each by its number and its session's id, that of the relay's own first.
+# All windows, each by its number and its session's id, the relay's own first.
 TOLD = re.compile(rb"n(?:[1-9]\d? [0-9a-f]{1,16}(?: (?!$)|$)){1,99}")
 
 
 def leads_of(number: int) -> str:
-    """What leads the names of a window's sockets."""
+    """Return the prefix of a window's socket names."""
     return f"w/{number}/"
 
 
 def windows_text(windows: list[tuple[int, str]]) -> bytes:
-    """What tells the windows that there are."""
+    """Return the text that reports the windows."""
     return LEADS + " ".join(f"{number} {name}" for number, name in windows).encode()
 
 
 def windows_in(text: bytes) -> dict[int, str]:
-    """The windows that a text tells, in its order; none where it can't be one."""
+    """Return the windows in a text, in its order; none if it is invalid."""
     if not TOLD.fullmatch(text):
         return {}
     words = text[1:].decode().split(" ")
@@ -52,28 +51,28 @@ def windows_in(text: bytes) -> dict[int, str]:
 
 
 class FarWindows:
-    """The windows of a session, once the near end asked: a call tells it all of them, as often as they change."""
+    """The windows of a session, once the near end asked. A call reports all of them after each change."""
 
     def __init__(self, place: SessionFolder | None, loop: Loop, tells: Callable[[bytes], object]) -> None:
         self.place, self.loop, self.tells = place, loop, tells
-        # Whether the near end takes windows, and what it was told.
+        # True if the near end supports windows; and its last report.
         self.is_used = False
         self.told = b""
-        # Those that the host names, once it has named all: the server of one that is gone may not have ended yet.
+        # The windows in the host's complete list: the server of one that is gone may still run.
         self.named: set[int] = set()
         self.is_whole = False
         self.following: Subscription | None = None
-        # Those that ran when that was asked last.
+        # Those that ran at the last check.
         self.ran: Sequence[SessionFolder] = ()
 
     def running(self) -> Sequence[SessionFolder]:
-        """The windows that run; those of the last time where it can't be asked now."""
+        """Return the windows that run; those of the last time if the lookup fails now."""
         with contextlib.suppress(Fault):
             self.ran = self.place.windows() if self.place else ()
         return self.ran
 
     def use(self) -> None:
-        """Tells the near end the windows from now on; one that asks anew is told them anew."""
+        """Report the windows to the near end from now on. A repeated request gets all of them anew."""
         if not self.place or not self.place.number:
             return
         self.told = b""
@@ -86,7 +85,7 @@ class FarWindows:
         self.tell()
 
     def there(self) -> list[tuple[int, str]]:
-        """The windows that run, with the ids of their sessions, the relay's own first. That one is there until its server has ended."""
+        """Return the running windows with their sessions' ids, the relay's own first. That one exists until its server has ended."""
         if not self.place:
             return []
         there = [window for window in self.running() if not self.is_whole or window.number in self.named | {self.own()}]
@@ -94,7 +93,7 @@ class FarWindows:
         return sorted(((number, name) for number, name in found if is_id(name)), key=lambda one: (one[0] != self.own(), one[0]))
 
     def own(self) -> int:
-        """The number of the relay's own window."""
+        """Return the number of the relay's own window."""
         return self.place.number if self.place else 0
 
     def connected(self) -> socket.socket:
@@ -104,7 +103,7 @@ class FarWindows:
         return connected_now(self.place.common / "host")
 
     def hear(self, lines: list[str]) -> None:
-        """Tells what is new of the windows."""
+        """Handle the news of windows."""
         found = [parted(line)[1].split(" ") for line in lines if parted(line)[0] == SESSION]
         told = [words for words in found if words[0] in (WINDOW, WINDOWS, GONE)]
         for word, *rest in told:
@@ -118,12 +117,12 @@ class FarWindows:
             self.tell()
 
     def lose(self) -> None:
-        """Waits until the host names all windows anew."""
+        """Wait until the host reports all windows anew."""
         self.named.clear()
         self.is_whole = False
 
     def tell(self) -> None:
-        """Tells all windows, where that is new."""
+        """Report all windows if they have changed."""
         there = self.there()
         text = windows_text(there) if there else b""
         if self.is_used and text and text != self.told:
@@ -131,13 +130,13 @@ class FarWindows:
             self.tells(text)
 
     def folder(self, number: int) -> str:
-        """The folder of a window; that of the relay's own for 0, and nothing where it isn't known."""
+        """Return the folder of a window; the relay's own for 0, and nothing if unknown."""
         if not self.place:
             return ""
         return str(self.place.common / leads_of(number)) if number and self.is_used else str(self.place.folder)
 
     def path(self, name: str) -> str:
-        """The path of a socket by the name that it is forwarded under."""
+        """Return the path of a socket from its forwarded name."""
         of_window = LED.match(name)
         if of_window and not self.is_used:
             return ""
@@ -146,7 +145,7 @@ class FarWindows:
         return os.path.join(self.place.common if self.place and name == HOST else self.folder(0), name)
 
     def heir(self) -> SessionFolder | None:
-        """Another window of the session, once the relay's own has ended; None where there is none, or the near end knows of none."""
+        """Return another window of the session after the end of the relay's own; None if there is none, or the near end knows none."""
         others = [window for window in self.running() if window.number != self.own()] if self.is_used else []
         if others:
             self.place = others[0]

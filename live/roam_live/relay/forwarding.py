@@ -1,8 +1,7 @@
-"""Connections to sockets of a session's folder that a relay carries from its near end to its far one: to those of two names, and to no
-other.
+"""Connections to two sockets of a session's folder that a relay forwards from its near end to its far one. No other sockets are forwarded.
 
-Each has a number, which the near end chooses, and ends as soon as either end of it does; what was read before that is still written. An
-end sends no more of one than a limit beyond what the reader at the other end has taken, of which that tells. Each way between two relays
+Each has a number, which the near end chooses, and ends as soon as either end of it does; data read before that is still written. An end
+sends at most a credit beyond the bytes that the other end's reader has consumed and acknowledged. Each transport between two relays
 forwards connections of its own. Over a command they are frames of peer 0.
 """
 from __future__ import annotations
@@ -19,30 +18,30 @@ from roam_live.common.io import read, write
 
 TYPE_CHECKING = False
 if TYPE_CHECKING:
-    # How a socket of a name is connected to; OSError where it can't be.
+    # Returns a connection to a socket by name; OSError if that fails.
     Opens = Callable[[str], socket.socket]
 
-# What leads the name of a socket of another window than the relay's own.
+# The prefix of a socket's name for a window other than the relay's own.
 LED = re.compile(r"^w/[1-9]\d?/", re.ASCII)
 
-# The sockets to which connections are forwarded, that by which a terminal is known to be there, and how many connections at most.
+# The forwarded sockets, the one that shows a terminal's presence, and the most connections.
 HOST, PANES = "host", "panes"
 LONGEST_NAME = 32
 MOST_FORWARDED = 64
 
-# So many that are ending are kept beside those, until the other end, or the reader here, has all of them.
+# The most ending connections besides those, until the other end, or the reader here, has all of their data.
 MOST_ENDING = 64
 
-# So many bytes more may go than the reader has taken; what it took is told after so many; and so many are read before they can go.
+# The credit beyond the consumed bytes; the consumed bytes after which an acknowledgement follows; and the bytes read in advance.
 CREDIT = 1 << 16
 TAKEN_AFTER = 1 << 14
 READ_AHEAD = 1 << 14
 
-# Numbers are 1 to this, one after the other.
+# Numbers are 1 to this, in sequence.
 MOST_NUMBER = 65535
 
-# Frames of peer 0 over a command: that an end forwards connections at all, which a far end says
-# before all else; that one is opened, with its name; bytes; its end; and how many bytes its reader has taken.
+# Frames of peer 0 over a command. The first announces forwarding, which a far end does at the start. The others open a connection by name,
+# contain its bytes, end it, and acknowledge consumed bytes.
 FORWARDS, OPEN, BYTES, END, TAKEN = b"c\2", b"o", b"d", b"q", b"t"
 NUMBER = struct.Struct(">cH")
 TAKEN_COUNT = struct.Struct(">cHQ")
@@ -50,39 +49,38 @@ MOST_BYTES = 4096
 
 
 class BadStream(Fault):
-    """What the other end said of a connection that can't be."""
+    """An invalid message of the other end about a connection."""
 
 
 class ForwardedConnection:
-    """One end of a connection that is forwarded: its socket here, what was read there and goes, and what came and is to be written
-    there."""
+    """One end of a forwarded connection: its local socket, the bytes to send, and the bytes to write to the socket."""
 
     def __init__(self, number: int) -> None:
         self.number = number
-        # The name of the socket to which it is connected at the far end.
+        # The name of its socket at the far end.
         self.socket_name = ""
         self.peer: socket.socket | None = None
         self.going, self.coming = bytearray(), bytearray()
-        # How many bytes went and may go; how many came and were taken, and how many of these the other end knows of.
+        # The bytes sent and permitted; and the bytes received, consumed and acknowledged.
         self.went, self.allowed = 0, CREDIT
         self.came = self.taken = self.told = 0
-        # Whether its socket here has ended, or what it is at the other end.
+        # True if its local socket has ended, and True if the other end's has.
         self.has_ended = self.is_over = False
 
     def room(self) -> int:
-        """How many bytes more may go."""
+        """Return how many more bytes may be sent."""
         return max(0, self.allowed - self.went)
 
     def may_go(self) -> int:
-        """How many bytes go now."""
+        """Return how many bytes can be sent now."""
         return min(len(self.going), self.room())
 
     def is_taken_due(self) -> bool:
-        """Whether the other end has to be told what was taken."""
+        """Return True if an acknowledgement is due."""
         return not self.is_over and not self.has_ended and self.taken >= self.told + TAKEN_AFTER
 
     def take(self, text: bytes) -> None:
-        """Takes bytes that came in their order; where its socket has ended nobody wants them."""
+        """Take bytes in order. After the end of its socket they are dropped."""
         self.came += len(text)
         if self.has_ended:
             self.taken += len(text)
@@ -94,7 +92,8 @@ One = TypeVar("One", bound=ForwardedConnection)
 
 
 class Streams(Generic[One]):
-    """The connections that one way carries, at one end of it. The far end opens sockets by their names; the near end hands in who came."""
+    """The connections of one transport, at one end of it. The far end opens sockets by name; the near end passes in accepted connections.
+    """
 
     def __init__(self, loop: Loop, opens: Opens | None = None) -> None:
         self.loop, self.opens = loop, opens
@@ -102,17 +101,17 @@ class Streams(Generic[One]):
         self.last = 0
 
     def made(self, number: int) -> One:
-        """A connection of a number."""
+        """Return a connection of a number."""
         raise NotImplementedError
 
-    # ---- those that begin here
+    # ---- connections that begin here
 
     def has_room(self) -> bool:
-        """Whether one more may be forwarded."""
+        """Return True if one more connection may be forwarded."""
         return sum(not (one.has_ended or one.is_over) for one in self.all.values()) < MOST_FORWARDED
 
     def begin(self, name: str, peer: socket.socket, said: bytes = b"") -> bool:
-        """Carries a connection that came here, with what was read of it; whether there is room."""
+        """Forward an accepted connection, with the bytes read so far, and return True if there is room."""
         if not self.has_room():
             return False
         self.make_room()
@@ -128,25 +127,25 @@ class Streams(Generic[One]):
         return True
 
     def name(self, one: One, name: str) -> None:
-        """Tells the other end the name of a connection's socket."""
+        """Send the other end the name of a connection's socket."""
         raise NotImplementedError
 
     def join(self, one: One, peer: socket.socket) -> None:
-        """Has the loop read and write a connection's socket here."""
+        """Let the loop read and write a connection's local socket."""
         one.peer = peer
         self.loop.add(peer, lambda: self.hear(one), lambda: self.write(one), has_more=lambda: one.coming,
                       hears=lambda: not one.is_over and len(one.going) < READ_AHEAD)
 
     def make_room(self) -> None:
-        """Forgets the oldest of too many that are ending."""
+        """Forget the oldest of too many ending connections."""
         ending = [one for one in self.all.values() if one.has_ended or one.is_over]
         for one in ending[: max(0, len(ending) - MOST_ENDING + 1)]:
             self.forget(one)
 
-    # ---- what is done at the sockets here
+    # ---- local sockets
 
     def hear(self, one: One) -> None:
-        """Takes what came at a socket here."""
+        """Read bytes from a local socket."""
         chunk = read(one.peer.fileno()) if one.peer else None
         if chunk == b"":
             self.end(one)
@@ -154,7 +153,7 @@ class Streams(Generic[One]):
             one.going += chunk or b""
 
     def write(self, one: One) -> None:
-        """Writes what a socket here takes; where what it is at the other end has ended this is closed then."""
+        """Write as much as a local socket accepts. If the other end has ended, close it afterwards."""
         waiting = len(one.coming)
         if not one.peer or not write(one.peer.fileno(), one.coming):
             self.end(one)
@@ -164,7 +163,7 @@ class Streams(Generic[One]):
             self.forget(one)
 
     def end(self, one: One) -> None:
-        """Takes note that a socket here has ended: what was read of it goes still."""
+        """Record the end of a local socket. Bytes read before are still sent."""
         self.part(one)
         if one.is_over:
             self.forget(one)
@@ -174,21 +173,21 @@ class Streams(Generic[One]):
         one.coming.clear()
 
     def part(self, one: One) -> None:
-        """Closes a connection's socket here."""
+        """Close a connection's local socket."""
         if one.peer:
             self.loop.remove(one.peer)
             one.peer.close()
             one.peer = None
 
     def forget(self, one: One) -> None:
-        """Lets a connection go."""
+        """Drop a connection."""
         self.part(one)
         self.all.pop(one.number, None)
 
-    # ---- all of them
+    # ---- all connections
 
     def end_all(self) -> None:
-        """Ends all, since another way carries them from now on: the other end is told."""
+        """End all connections because of a change of transport, and inform the other end."""
         for one in list(self.all.values()):
             one.going.clear()
             if not one.has_ended:
@@ -199,20 +198,20 @@ class Streams(Generic[One]):
         return any(one.socket_name == name and not (one.has_ended or one.is_over) for one in self.all.values())
 
     def end_named(self, name: str) -> None:
-        """Ends those that were connected here to a socket of a name: the other end is told."""
+        """End the connections to a socket of a name, and inform the other end."""
         for one in [one for one in self.all.values() if one.socket_name == name and not one.has_ended]:
             one.going.clear()
             self.end(one)
 
     def close(self) -> None:
-        """Ends all without a word."""
+        """End all without a message."""
         for one in list(self.all.values()):
             self.forget(one)
 
-    # ---- what comes
+    # ---- incoming
 
     def opened(self, one: One, name: str) -> None:
-        """Connects a connection that the other end began to a socket of a name; where that can't be it is ended."""
+        """Connect a connection of the other end to a socket by name, and end it if that fails."""
         try:
             if name != HOST and LED.sub("", name, count=1) != PANES or not self.opens:
                 raise FileNotFoundError(name)
@@ -222,7 +221,7 @@ class Streams(Generic[One]):
             self.end(one)
 
     def came_end(self, one: One) -> None:
-        """Takes note that a connection has ended at the other end: what came is written still."""
+        """Record that a connection has ended at the other end. Bytes that arrived before are still written."""
         one.is_over = True
         one.going.clear()
         if not one.coming or not one.peer:
@@ -230,40 +229,40 @@ class Streams(Generic[One]):
 
     @staticmethod
     def came_taken(one: One, count: int) -> None:
-        """Takes note of how many bytes the reader at the other end has taken, in all."""
+        """Record the total that the reader at the other end has consumed."""
         if count > one.went:
             raise BadStream(f"the other end acknowledged {count} bytes of a connection's {one.went}")
         one.allowed = max(one.allowed, count + CREDIT)
 
 
 class PipeStreams(Streams[ForwardedConnection]):
-    """The connections over a command, as frames, each handed to a call with whether its bytes are counted."""
+    """The connections over a command, as frames, each passed to a call with a flag for counted bytes."""
 
     def __init__(self, loop: Loop, tells: Callable[[bytes, bool], object], opens: Opens | None = None) -> None:
         super().__init__(loop, opens)
         self.tells = tells
 
     def made(self, number: int) -> ForwardedConnection:
-        """A connection of a number."""
+        """Return a connection of a number."""
         return ForwardedConnection(number)
 
     def name(self, one: ForwardedConnection, name: str) -> None:
-        """Tells the other end that a connection is opened."""
+        """Inform the other end that a connection is opened."""
         self.tells(NUMBER.pack(OPEN, one.number) + name.encode(), False)
 
     def end(self, one: ForwardedConnection) -> None:
-        """Takes note that a socket here has ended; the other end is told behind what was read."""
+        """Record the end of a local socket. The other end is informed after the bytes read before."""
         super().end(one)
         self.tell_end(one)
 
     def tell_end(self, one: ForwardedConnection) -> None:
-        """Tells the end of a connection, once all of it went."""
+        """Report the end of a connection, after all its bytes are sent."""
         if one.has_ended and not one.going and self.all.get(one.number) is one:
             self.tells(NUMBER.pack(END, one.number), False)
             self.forget(one)
 
     def fill(self, most: int) -> int:
-        """Has frames go, with so many bytes at most, and tells how many are left of these."""
+        """Send frames with at most so many bytes, and return how many bytes are left."""
         for one in list(self.all.values()):
             if one.is_taken_due():
                 one.told = one.taken
@@ -274,13 +273,13 @@ class PipeStreams(Streams[ForwardedConnection]):
                 del one.going[:length]
                 one.went += length
                 most -= length
-                # Its turn is behind the others'.
+                # Its next turn comes after the others'.
                 self.all[one.number] = self.all.pop(one.number)
             self.tell_end(one)
         return most
 
     def take(self, text: bytes) -> bool:
-        """Takes a frame, and tells whether it is one of these; BadStream where it can't be."""
+        """Take a frame, and return True if it belongs here; BadStream if it is invalid."""
         kind = text[:1]
         if kind not in (OPEN, BYTES, END, TAKEN):
             return False
@@ -301,7 +300,7 @@ class PipeStreams(Streams[ForwardedConnection]):
         return True
 
     def take_open(self, number: int, name: bytes) -> None:
-        """Takes a connection that the other end begins; above the most it is ended at once."""
+        """Take a connection that the other end begins; above the limit it is ended at once."""
         if not self.opens:
             raise BadStream("the far end opened a connection")
         if number in self.all or not number or not 0 < len(name) <= LONGEST_NAME:
@@ -316,7 +315,7 @@ class PipeStreams(Streams[ForwardedConnection]):
 
     @staticmethod
     def take_bytes(one: ForwardedConnection, text: bytes) -> None:
-        """Takes bytes of a connection; more than may be here is no fault of a reader."""
+        """Take bytes of a connection; more than the credit is no error of a reader."""
         if one.came + len(text) > one.taken + CREDIT:
             raise BadStream("the other end exceeded a connection's window")
         one.take(text)

@@ -1,4 +1,4 @@
-"""The end of a relay beside the clients, which stands for a server of another machine."""
+"""The near end of a relay, next to the clients, which replaces a server of another machine."""
 from __future__ import annotations
 
 import contextlib
@@ -30,30 +30,30 @@ if TYPE_CHECKING:
 
     from roam_live.relay.forwarding import Streams
 
-# After so many seconds of silence another command is spawned.
+# Seconds of silence after which another command is spawned.
 SILENT = 7.0
 
-# The seconds from the start of one command to that of the next, where none answers, and how long each is given.
+# Seconds from the start of one command to that of the next if none answers, and seconds for each to answer.
 PAUSES = (0.2, 1, 2, 5)
 PATIENCE = 20.0
 
-# Packets that tell the other end that its own end was heard.
+# Packets that acknowledge the other end's last message.
 LAST_PACKETS = 3
 
-# Seconds between two checks whether a front end is connected.
+# Seconds between two checks for a connected front end.
 LOOKS = 5.0
 
-# So often at most other windows are taken that are told, and what that moment is called.
+# Seconds between two updates of other windows, and the timer's name.
 WINDOWS_EVERY = 0.1
 TOLD_WINDOWS = "windows told"
 
-# What a shell's status tells of a command that it hasn't found, and what may be done then.
+# A shell's exit status for an unknown command, and advice for that case.
 NOT_FOUND = 127
 NOT_THERE = ": roam is not installed there, or --far must name its roam-mux"
 
 
 def bound_port(port: int | None) -> socket.socket | None:
-    """A port of loopback, where one is asked for."""
+    """Return a socket at a port of loopback, if one is requested."""
     if port is None:
         return None
     one = loopback_socket()
@@ -65,8 +65,7 @@ def bound_port(port: int | None) -> socket.socket | None:
 
 
 class Near:
-    """The end beside the clients: the socket at which they connect, or a port of loopback, and the command, which is spawned as often as
-    needed."""
+    """The near end of a relay: the socket or port of loopback for clients, and the command, which is spawned as often as needed."""
 
     def __init__(self, asked: Options, wakeup: int, loop: Loop | None = None) -> None:
         self.asked, self.loop = asked, loop or Loop()
@@ -89,7 +88,7 @@ class Near:
         self.ways = Ways(self.loop)
         self.finder = Finder(asked.host)
         self.link: RunningCommand | None = None
-        # Whether the far end forwards connections; None where that isn't known yet.
+        # True if the far end forwards connections; None if unknown.
         self.forwards: bool | None = None
         self.tries: list[RunningCommand] = []
         self.ending: list[RunningCommand] = []
@@ -97,27 +96,27 @@ class Near:
         self.next_try = 0.0
         self.retry = Retry(PAUSES)
         self.broken = BrokenWords()
-        # The text that told windows last, and when another may be taken.
+        # The last report of windows, and the earliest moment to apply another.
         self.windows_told, self.windows_at = b"", 0.0
         self.looked_at = self.used_at = time.monotonic()
         self.is_over = False
-        # What is noted of the session's end.
+        # The record of the session's end.
         self.ended = ""
 
     def left(self) -> None:
-        """Ends, since the process of --with has."""
+        """End because the process of --with has ended."""
         raise Ended(0)
 
     def has_live_link(self) -> bool:
-        """Whether a command is there that carries something, or would."""
+        """Return True if a command is there that carries data, or would."""
         return self.link is not None and (self.ways.rests or not self.link.stream.is_silent(SILENT))
 
     def is_silent(self) -> bool:
-        """Whether there is neither a path nor a command that is known to carry anything."""
+        """Return True if neither a path nor a command is known to carry data."""
         return not self.ways.is_validated() and not self.has_live_link()
 
     def tend(self) -> None:
-        """Spawns a command where one is due, and ends those that are late."""
+        """Spawn a command if one is due, and end late ones."""
         now = time.monotonic()
         self.ending = [link for link in self.ending if link.process.poll() is None]
         self.ways.rest()
@@ -127,7 +126,7 @@ class Near:
             was_validated = self.ways.was_validated() or self.link is not None and self.link.since + SOUND < now
             self.retry.faults = 0 if was_validated else self.retry.faults
             return
-        # The first one may be waiting for a person's answer.
+        # The first one may wait for the user's answer.
         if self.has_answered:
             for link in [link for link in self.tries if link.since + PATIENCE < now]:
                 self.drop(link)
@@ -138,7 +137,7 @@ class Near:
             self.spawn(now)
 
     def spawn(self, now: float) -> None:
-        """Spawns a command; where the system refuses one later it is told of, and tried again."""
+        """Spawn a command. If the system refuses a later one, report that, and retry."""
         try:
             link = RunningCommand(self.asked.command, self.session, not self.has_answered)
             link.join(self.loop, lambda: self.hear(link))
@@ -151,7 +150,7 @@ class Near:
         self.next_try = now + self.retry.fails()
 
     def drop(self, link: RunningCommand) -> None:
-        """Has a command end."""
+        """End a command."""
         link.end()
         self.ending.append(link)
         self.tries = [other for other in self.tries if other is not link]
@@ -160,7 +159,7 @@ class Near:
             self.ways.drop_stream()
 
     def drop_tries(self) -> None:
-        """Has the commands end that aren't needed any more."""
+        """End the commands that are no longer needed."""
         for link in list(self.tries):
             self.drop(link)
         if self.is_told:
@@ -168,7 +167,7 @@ class Near:
             say("the other end answers again")
 
     def lost(self, link: RunningCommand) -> None:
-        """Goes on without a command that has ended."""
+        """Continue without a command that has ended."""
         is_first = not self.has_answered
         self.drop(link)
         if is_first:
@@ -179,8 +178,10 @@ class Near:
             say(line)
 
     def refuse(self, link: RunningCommand, fault: BadWords | BadStream) -> None:
-        """Goes on without a command whose other end said what can't be; a first one that did is told of, and ends this, and so does one of
-        too many."""
+        """Continue without a command whose other end sent an invalid message.
+
+        For a first command, or after too many such messages, report the error and end the relay.
+        """
         if not self.has_answered:
             raise fault
         now = time.monotonic()
@@ -191,7 +192,7 @@ class Near:
         self.drop(link)
 
     def look(self) -> None:
-        """End if no front end has been connected for so long."""
+        """End if no front end has been connected for that long."""
         now = time.monotonic()
         if self.asked.alone is None or now < self.looked_at + LOOKS:
             return
@@ -202,7 +203,7 @@ class Near:
             raise Ended(0)
 
     def answered(self, link: RunningCommand, session: str) -> None:
-        """Takes a command as the one that carries, now that its other end has answered for a session."""
+        """Use a command as the stream, now that its other end has answered for a session."""
         if self.session not in ("-", session):
             self.is_over = True
             raise Ended(0)
@@ -224,7 +225,7 @@ class Near:
                 os.dup2(log.fileno(), 2)
 
     def hear(self, link: RunningCommand) -> None:
-        """Takes what came over a command. Whatever the other end says, this one goes on, once it has answered."""
+        """Read frames from a command. After the first answer, no message of the other end can end this process."""
         try:
             frames = link.stream.received()
             if frames is None:
@@ -240,9 +241,9 @@ class Near:
             self.refuse(link, fault)
 
     def take(self, peer: int, text: bytes) -> None:
-        """Takes a frame."""
+        """Take a frame."""
         if peer:
-            # What can't be a datagram is dropped.
+            # An invalid datagram is dropped.
             if is_datagram(text):
                 self.deliver(peer, text)
         elif text in (ENDED, KILLED):
@@ -258,7 +259,7 @@ class Near:
     # ---- connections to the other machine's sockets
 
     def note_forwarding(self, forwards: bool | None) -> None:
-        """Takes note of whether the far end forwards connections: the sockets that stand for those there are here while it does."""
+        """Record that the far end forwards connections, or does not: the local sockets exist while it does."""
         self.forwards = forwards
         if self.sockets and forwards:
             self.sockets.open()
@@ -268,7 +269,7 @@ class Near:
             self.sockets.close()
 
     def hear_windows(self, text: bytes) -> None:
-        """Takes which windows are told: at once, and of what is told soon after another the newest."""
+        """Take a report of windows at once; of several in quick succession, the newest."""
         now = self.loop.clock()
         self.windows_told = text
         if now >= self.windows_at:
@@ -277,13 +278,13 @@ class Near:
             self.loop.at(TOLD_WINDOWS, self.windows_at, self.use_windows)
 
     def use_windows(self) -> None:
-        """Goes by the windows that were told last."""
+        """Apply the last report of windows."""
         self.loop.drop(TOLD_WINDOWS)
         self.windows_at = self.loop.clock() + WINDOWS_EVERY
         self.take_windows(windows_in(self.windows_told))
 
     def take_windows(self, told: dict[int, str]) -> None:
-        """Takes which windows there are. The session is found again by one that is there."""
+        """Take the list of windows. An existing one identifies the session."""
         if not self.windows or not told:
             return
         if not self.peers.has_windows:
@@ -295,36 +296,36 @@ class Near:
                 replace_text(os.path.join(self.asked.dir or "", "session"), f"{self.session}\n")
 
     def part_window(self, number: int) -> None:
-        """Lets the clients go of a window that is gone."""
+        """Drop the clients of a window that is gone."""
         for carrier in [carrier for carrier in self.carriers if self.window_of.get(carrier) == number]:
             self.part(carrier)
         self.peers.drop_window(number)
 
     def carrying(self) -> Streams[Any] | None:
-        """What forwards connections now; None where nothing does."""
+        """Return the forwarding of the transport in use; None if there is none."""
         return self.ways.carrier.streams if self.forwards and self.ways.carrier else None
 
     # ---- the path beside the command
 
     def ask_for_path(self) -> None:
-        """Asks the other end for a path under a new key, where one is wanted; what there was of one before is dropped."""
+        """Request a path under a new key from the other end, if one is wanted, and drop the earlier one."""
         self.ways.drop_path()
         if self.link and is_wanted():
             self.link.stream.tell(0, wish(kept_name(self.asked.dir)))
 
     def take_path(self, path: NearPath | None) -> None:
-        """Takes a path that the other end tells of, where it can be had."""
+        """Use a path that the other end offers, if possible."""
         if path:
             self.ways.take_path(path, self.hear_path)
             path.tell(0, WINDOWS)
 
     def hear_path(self) -> None:
-        """Takes what came over the path."""
+        """Read frames from the path."""
         for peer, text in self.ways.path.received() if self.ways.path else ():
             self.take(peer, text)
 
     def tend_path(self) -> None:
-        """Looks where the other end of the path may be; one that has no numbers left is dropped, and another asked for."""
+        """Look up the other end's addresses. Replace a path that has no counters left."""
         path = self.ways.path
         if path and path.is_spent():
             self.ask_for_path()
@@ -332,7 +333,7 @@ class Near:
             self.finder.look(path)
 
     def leave_path(self) -> None:
-        """Tells the far end that nobody will come any more, or that its own end was heard, and lets the path go."""
+        """Inform the far end that nobody will come any more, or acknowledge its own end, and close the path."""
         path = self.ways.path
         if path and path.answered_at is not None and self.is_over:
             for _ in range(LAST_PACKETS):
@@ -345,7 +346,7 @@ class Near:
     # ---- clients
 
     def deliver(self, peer: int, datagram: bytes) -> None:
-        """Hands a client its datagram, where it is still known."""
+        """Send a client its datagram, if the client is still known."""
         address = self.peers.addresses.get(peer)
         if isinstance(address, Carrier):
             address.send(datagram)
@@ -356,24 +357,24 @@ class Near:
                 pass
 
     def listening(self, folder: str, window: int = 0) -> Listener:
-        """The socket at which clients connect; as many as peers are known, and another waits until one has left."""
+        """Return the socket at which clients connect. Above the limit of peers, another waits until one has left."""
         return Listener(self.loop, os.path.join(folder, "clients"), lambda peer: self.take_client(peer, window),
                         lambda: len(self.carriers) < PEER_LIMIT, lambda fault: say(f"a client waits: {reason(fault)}"))
 
     def take_client(self, peer: socket.socket, window: int = 0) -> None:
-        """Takes a client that came, of a window."""
+        """Accept a client of a window."""
         carrier = Carrier(peer)
         self.carriers.append(carrier)
         self.window_of[carrier] = window
         self.loop.add(carrier, lambda: self.hear_client(carrier), lambda: self.flush_client(carrier), has_more=lambda: carrier.going)
 
     def flush_client(self, carrier: Carrier) -> None:
-        """Writes what a client takes; one that has left is let go."""
+        """Write as much as a client accepts, and drop a disconnected one."""
         if not carrier.flush():
             self.part(carrier)
 
     def hear_client(self, carrier: Carrier) -> None:
-        """Takes what came from a client; one that has left, or says what is no datagram, is let go."""
+        """Read a client's datagrams, and drop the client at end of file or after an invalid one."""
         datagrams = carrier.received()
         if datagrams is None:
             self.part(carrier)
@@ -381,13 +382,13 @@ class Near:
             self.waiting.add(self.peers.number(carrier, self.window_of.get(carrier, 0)), datagram)
 
     def hear_port(self) -> None:
-        """Takes what came at the port."""
+        """Read datagrams at the port."""
         for datagram, address in received(self.port) if self.port else []:
             self.waiting.add(self.peers.number(address), datagram)
         self.peers.drop_silent()
 
     def part(self, carrier: Carrier) -> None:
-        """Lets a client go."""
+        """Drop a client."""
         self.loop.remove(carrier)
         carrier.close()
         self.carriers.remove(carrier)
@@ -396,7 +397,7 @@ class Near:
             self.peers.drop(self.peers.numbers[carrier])
 
     def prepare(self) -> float | None:
-        """Does what is due before a wait, and tells by when something is due again."""
+        """Do the steps due before a wait, and return the moment of the next one."""
         self.tend()
         self.look()
         if self.lasting:
@@ -410,7 +411,7 @@ class Near:
         return min(self.moments(), default=None)
 
     def moments(self) -> list[float]:
-        """When something is due."""
+        """Return the moments of the next steps."""
         found = [self.next_try] if self.is_silent() and (self.has_answered or not self.tries) else []
         found += [] if self.asked.alone is None else [self.looked_at + LOOKS]
         if self.link and not self.ways.rests and not self.link.stream.is_silent(SILENT):
@@ -418,11 +419,11 @@ class Near:
         return found + self.ways.moments()
 
     def turn(self) -> None:
-        """Waits until something can be done, and does it."""
+        """Wait until something is ready, and handle it."""
         self.loop.turn()
 
     def close(self) -> None:
-        """Ends all commands."""
+        """End all commands."""
         self.leave_path()
         for link in [*self.tries, *([self.link] if self.link else [])]:
             self.drop(link)
@@ -437,7 +438,7 @@ class Near:
             self.leave(self.asked.dir)
 
     def leave(self, folder: str) -> None:
-        """Notes in the folder what has ended, and removes what lies there of this end."""
+        """Record the end in the folder, and remove this end's files there."""
         if self.is_over:
             replace_text(os.path.join(folder, "ended"), self.ended)
         pathlib.Path(folder, "session").unlink(missing_ok=True)

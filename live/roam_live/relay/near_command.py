@@ -1,4 +1,4 @@
-"""The near end's commands and clients: a command that runs, what the other end said that can't be, and the numbers of clients."""
+"""The near end's commands and clients: a running command, invalid messages of the other end, and the numbers of clients."""
 from __future__ import annotations
 
 import contextlib
@@ -23,30 +23,30 @@ if TYPE_CHECKING:
 
     from roam_live.relay.common import Address
 
-# Seconds that a command has for its end, and that the other end has to hear by a path that this one leaves.
+# Seconds for a command to end, and for the other end to receive the last message of a path.
 END_WAIT = 1.0
 
-# After the other end said what can't be the next command is spawned no sooner than after so many seconds, twice as many each time up to the
-# most; so many times end the relay; and all are forgotten once it was validated for so long.
+# After an invalid message the next command waits for so many seconds, doubled each time up to the most. So many of them end the relay. All
+# are forgotten after so many validated seconds.
 BROKEN_PAUSE, MOST_PAUSE = 2.0, 60.0
 MOST_BROKEN = 10
 FORGIVEN = 600.0
 
 
 class Peers:
-    """The addresses of clients and their numbers. A number isn't given again before all others were."""
+    """The addresses of clients and their numbers. A number is reused only after all others."""
 
     def __init__(self, forget: Callable[[int], None]) -> None:
         self.numbers: dict[Address | Carrier, int] = {}
         self.addresses: dict[int, Address | Carrier] = {}
         self.moments: dict[int, float] = {}
-        # The last of each window; 0 is the relay's own, which has all numbers while none is known of another.
+        # The last number of each window; 0 is the relay's own, which has all numbers while no other is known.
         self.last: dict[int, int] = {}
         self.has_windows = False
         self.forget = forget
 
     def number(self, address: Address | Carrier, window: int = 0) -> int:
-        """The number of an address, from 1; its high byte is that of its window."""
+        """Return the number of an address, from 1; its high byte is that of its window."""
         if address not in self.numbers:
             while len(self.numbers) >= PEER_LIMIT:
                 self.drop(min(self.moments, key=self.moments.__getitem__))
@@ -58,55 +58,55 @@ class Peers:
         return number
 
     def free(self, window: int) -> Iterator[int]:
-        """The numbers that are free for a window, from the one behind the last on."""
+        """Yield the free numbers of a window, from the one after the last on."""
         first = (window << WINDOW_SHIFT) + 1
         end = first + MOST_IN_WINDOW if window or self.has_windows else 65536
         last = self.last.get(window, first - 1)
         return (number for number in itertools.chain(range(last + 1, end), range(first, last + 1)) if number not in self.addresses)
 
     def use_windows(self) -> None:
-        """Has the relay's own window keep to its numbers: others are forgotten."""
+        """Restrict the relay's own window to its numbers, and forget others."""
         self.has_windows = True
         self.last[0] = min(self.last.get(0, 0), MOST_IN_WINDOW)
         for number in [number for number in self.addresses if number > MOST_IN_WINDOW]:
             self.drop(number)
 
     def drop_window(self, window: int) -> None:
-        """Forgets the peers of a window that is gone."""
+        """Forget the peers of a window that is gone."""
         for number in [number for number in self.addresses if number >> WINDOW_SHIFT == window]:
             self.drop(number)
 
     def drop(self, number: int) -> None:
-        """Forgets a peer."""
+        """Forget a peer."""
         del self.numbers[self.addresses.pop(number)], self.moments[number]
         self.forget(number)
 
     def drop_silent(self) -> None:
-        """Forgets the peers that have said nothing for long."""
+        """Forget the peers that have been silent for long."""
         for number in [number for number, moment in self.moments.items() if moment + FORGOTTEN_AFTER < time.monotonic()]:
             self.drop(number)
 
 
 class BrokenWords:
-    """How often the other end said what can't be."""
+    """The count of invalid messages of the other end."""
 
     def __init__(self) -> None:
         self.count = 0
         self.validated_since: float | None = None
 
     def add(self, now: float) -> float:
-        """Counts one more, and tells when the next command may be spawned."""
+        """Count one more, and return the earliest moment of the next command."""
         self.count += 1
         self.validated_since = None
         pause: float = min(BROKEN_PAUSE * 2 ** (self.count - 1), MOST_PAUSE)
         return now + pause
 
     def are_too_many(self) -> bool:
-        """Whether the relay ends."""
+        """Return True if the relay has to end."""
         return self.count >= MOST_BROKEN
 
     def note(self, is_validated: bool, now: float) -> None:
-        """Takes note of whether something carries what goes: after so long all are forgotten."""
+        """Record the state of the transport: after so many validated seconds, forget all errors."""
         self.validated_since = (self.validated_since if self.validated_since is not None else now) if is_validated else None
         if self.validated_since is not None and now >= self.validated_since + FORGIVEN:
             self.count = 0
@@ -129,17 +129,16 @@ class RunningCommand:
         self.since = time.monotonic()
 
     def join(self, loop: Loop, hears: Callable[[], object]) -> None:
-        """Has a loop carry what goes to the command, pass on what it says, and call where something came."""
+        """Let a loop write to the command, print its messages, and call `hears` for its output."""
         self.loop = loop
         if self.errors is not None:
             loop.add(self.errors, self.pass_errors, hears=lambda: self.errors is not None)
         loop.add(self.stream.target, None, self.stream.flush, has_more=lambda: self.stream.going)
-        # Its end is seen where it is read: it may have said something.
+        # Its end is handled by the reader, since unread output may precede it.
         loop.add(self.stream.source, hears)
 
     def pass_errors(self) -> None:
-        """Says what the command said on its standard error, as far as that isn't too much: at the terminal at first, and in the log later,
-        as this tool does."""
+        """Print the command's standard error up to a limit: at first on the terminal, later in the log."""
         chunk = read(self.errors) if self.errors else None
         if chunk == b"":
             self.errors = None
@@ -150,10 +149,10 @@ class RunningCommand:
                 os.write(2, text.encode())
 
     def end(self) -> None:
-        """Has the command end."""
+        """End the command."""
         self.process.terminate()
         self.pass_errors()
-        # What is left in Python's own buffers is nothing: the descriptors alone were used.
+        # Python's own buffers are empty: only the descriptors were used.
         for end in self.ends:
             if self.loop:
                 self.loop.remove(end)
@@ -161,7 +160,7 @@ class RunningCommand:
         self.errors = None
 
     def status(self) -> int:
-        """Waits for its end, which comes in time, and tells the status."""
+        """Wait for its end, which comes in time, and return the exit status."""
         try:
             return self.process.wait(END_WAIT)
         except subprocess.TimeoutExpired:

@@ -1,5 +1,7 @@
-"""The sockets of a near folder that stand for those of the session on the other machine, and the folders of its windows: each connection
-to `host` is forwarded there, and `panes` is followed there once and passed on to all subscribers here."""
+"""The sockets of a near folder that replace those of the session on the other machine, and the folders of its windows.
+
+Each connection to `host` is forwarded there. `panes` has one subscription there, whose lines go to all subscribers here.
+"""
 from __future__ import annotations
 
 import contextlib
@@ -25,23 +27,23 @@ if TYPE_CHECKING:
 
     from roam_live.relay.forwarding import Streams
 
-    # What forwards connections now; None where nothing does.
+    # Returns the forwarding of the transport in use; None if there is none.
     Forwards = Callable[[], "Streams[Any] | None"]
 
-# So many follow the panes here at most.
+# The most local subscribers to panes.
 MOST_SUBSCRIBERS = 64
 
 PANES = "panes"
 
-# What is asked for there once, for all who ask for it here.
+# The shared subscriptions, requested there once for all subscribers here.
 ASKED_HERE = (METADATA, CLIPBOARD)
 
 
 class ForwardedHost:
     """The socket `host` of a near session, whose connections are forwarded to that of the session on the other machine.
 
-    A connection that arrives while nothing carries it is kept until something does, so that it counts as present during an outage. A
-    connection for which there is no room is closed.
+    A connection that arrives during an outage waits until a transport is there, so that it counts as present meanwhile. A connection for
+    which there is no room is closed.
     """
 
     def __init__(self, folder: str, loop: Loop, forwards: Forwards) -> None:
@@ -51,7 +53,7 @@ class ForwardedHost:
                                  lambda fault: None)
 
     def take(self, peer: socket.socket) -> None:
-        """Forward a new connection, or keep it until something carries it."""
+        """Forward a new connection, or queue it until there is a transport."""
         streams = self.forwards()
         if not streams:
             self.waiting.append(peer)
@@ -59,13 +61,13 @@ class ForwardedHost:
             peer.close()
 
     def wake(self) -> None:
-        """Forward the connections that were kept."""
+        """Forward the queued connections."""
         waiting, self.waiting = self.waiting, []
         for peer in waiting:
             self.take(peer)
 
     def drop_gone(self) -> None:
-        """Close the kept connections whose other end has gone."""
+        """Close the queued connections whose other end has gone."""
         for peer in [peer for peer in self.waiting if is_hung_up(peer)]:
             self.waiting.remove(peer)
             peer.close()
@@ -85,19 +87,19 @@ class ForwardedHost:
 
 
 class PanesPeer(LinePeer):
-    """One who follows the panes here, and what waits for it."""
+    """A local subscriber to panes, and its queue."""
 
     def __init__(self, end: socket.socket) -> None:
         super().__init__(end)
-        # Whether it was told all.
+        # True once it has the whole state.
         self.knows = False
-        # What it asked for that is told here, and what it said of another line; the newest of what it is still to be told of that.
+        # Its subscriptions, and its last other request. Then the newest pending lines for them.
         self.words: list[str] = []
         self.said = b""
         self.news: dict[str, str] = {}
 
     def said_lines(self) -> list[str] | None:
-        """The lines that it said since, where each asks for what is told here, and what follows may do so; else None."""
+        """Return its new lines, if each requests a subscription or may become such a request; else None."""
         *lines, rest = self.said.split(b"\n")
         words = [word.encode() for word in ASKED_HERE]
         if not all(line in words for line in lines) or not any(word.startswith(rest) for word in words):
@@ -106,14 +108,14 @@ class PanesPeer(LinePeer):
         return [line.decode() for line in lines]
 
     def put_news(self) -> None:
-        """Has what it is still to be told wait, once all is taken that waited before."""
+        """Queue its pending lines once it has read all earlier ones."""
         if not self.waiting:
             self.put_answer("".join(f"{line}\n" for line in self.news.values()).encode())
             self.news.clear()
 
 
 class SharedPanes:
-    """The socket `panes` of the near folder: the panes of the other machine, which are followed there once."""
+    """The socket `panes` of the near folder: the panes of the other machine, with a single subscription there."""
 
     def __init__(self, folder: str, loop: Loop, forwards: Forwards, leads: str = "") -> None:
         self.loop, self.forwards, self.name = loop, forwards, leads + PANES
@@ -125,7 +127,7 @@ class SharedPanes:
         self.following.connect()
 
     def opened(self) -> socket.socket:
-        """A connection to the other machine's panes; OSError where nothing carries one now."""
+        """Return a connection to the other machine's panes; OSError if no transport carries one now."""
         streams = self.forwards()
         if not streams:
             raise ConnectionRefusedError("nothing carries it")
@@ -139,16 +141,16 @@ class SharedPanes:
         return ours
 
     def wake(self) -> None:
-        """Follows at once, now that something carries it."""
+        """Subscribe at once, now that there is a transport."""
         if not self.following.peer:
             self.following.faults = 0
             self.loop.drop(self.following.again)
             self.following.connect()
 
-    # ---- what the other machine tells
+    # ---- lines of the other machine
 
     def hear(self, lines: list[str]) -> None:
-        """Tells what was told there; what can't be isn't passed on."""
+        """Pass on its lines; invalid ones are dropped."""
         news = [line for line in lines if self.told.take(line)]
         places, metadata = [line for line in news if not metadata_key(line)], {metadata_key(line): line for line in news
                                                                                if metadata_key(line)}
@@ -158,31 +160,31 @@ class SharedPanes:
                 continue
             peer.news.update({key: line for key, line in metadata.items() if (CLIPBOARD if key == CLIP else METADATA) in peer.words})
             self.tell(peer, places)
-        # It isn't told to who comes later.
+        # Later subscribers do not get it.
         self.told.clip = None
 
     def lose(self) -> None:
-        """Lets all go who follow: where the panes are isn't known now, and who comes again is told what is so then."""
+        """Disconnect all subscribers: the positions are unknown now. Those that reconnect later get the state of that time."""
         self.told = PanesState()
         for peer in list(self.peers):
             self.drop(peer)
 
-    # ---- who follows here
+    # ---- local subscribers
 
     def take(self, end: socket.socket) -> None:
-        """Takes one who came; above the most it is let go."""
+        """Accept a subscriber; above the limit, disconnect it."""
         if len(self.peers) >= MOST_SUBSCRIBERS:
             end.close()
             return
         peer = PanesPeer(end)
         self.peers.append(peer)
-        # What one asks is read once it has all that it was told, so that another can go on from there.
+        # Its requests are read once it has read all its lines, so that another connection can continue from there.
         self.loop.add(end, lambda: self.asked(peer), lambda: self.write(peer), has_more=lambda: peer.waiting,
                       hears=lambda: not peer.waiting)
         self.tell_all(peer)
 
     def tell_all(self, peer: PanesPeer) -> None:
-        """Tells one all that is known, once it is enough."""
+        """Send a peer the whole known state, once it is complete."""
         lines = self.told.lines()
         if lines:
             peer.knows = True
@@ -191,22 +193,24 @@ class SharedPanes:
             self.tell(peer, lines)
 
     def tell(self, peer: PanesPeer, lines: list[str]) -> None:
-        """Tells one lines; who doesn't take what is told of the panes is let go."""
+        """Send lines to one subscriber. Disconnect it if it does not read them."""
         if peer.put(lines):
             peer.put_news()
         else:
             self.drop(peer)
 
     def write(self, peer: PanesPeer) -> None:
-        """Writes what one takes."""
+        """Write as much as a peer accepts."""
         if not peer.write():
             self.drop(peer)
         elif not peer.waiting:
             peer.put_news()
 
     def asked(self, peer: PanesPeer) -> None:
-        """Takes what one says. Where it asks the server for something else than is told here it has a connection of its own there from then
-        on, since it is answered alone."""
+        """Take a subscriber's request.
+
+        For anything other than the shared subscriptions it gets a connection of its own there from then on, since only it gets the answer.
+        """
         chunk = read(peer.end.fileno())
         if chunk is None:
             return
@@ -225,7 +229,7 @@ class SharedPanes:
             peer.end.close()
 
     def ask(self, peer: PanesPeer, word: str) -> None:
-        """Takes note that one asks for something, which is asked for there where nobody did before, and tells what is known of it."""
+        """Record a subscription, request it there unless somebody did before, and send its known state."""
         is_new = word not in peer.words
         if is_new:
             peer.words.append(word)
@@ -235,17 +239,17 @@ class SharedPanes:
             peer.put_news()
 
     def part(self, peer: PanesPeer) -> None:
-        """Tells one no more."""
+        """Stop sending to a peer."""
         self.loop.remove(peer.end)
         self.peers.remove(peer)
 
     def drop(self, peer: PanesPeer) -> None:
-        """Lets one go."""
+        """Disconnect a peer."""
         self.part(peer)
         peer.end.close()
 
     def close(self) -> None:
-        """Removes the socket, and lets all go."""
+        """Remove the socket, and disconnect all."""
         self.listener.close()
         self.following.end()
         for peer in list(self.peers):
@@ -253,19 +257,19 @@ class SharedPanes:
 
 
 class NearSockets:
-    """All of them, while the other end forwards connections."""
+    """All sockets, while the other end forwards connections."""
 
     def __init__(self, folder: str, loop: Loop, forwards: Forwards, leads: str = "") -> None:
         self.folder, self.loop, self.forwards = folder, loop, forwards
-        # What leads their names at the other machine, where they are those of another window than the relay's own.
+        # The prefix of their names at the other machine for a window other than the relay's own.
         self.leads = leads
         self.panes: SharedPanes | None = None
         self.host: ForwardedHost | None = None
-        # What forwarded connections when that was seen last.
+        # The forwarding at the last check.
         self.carrier: Streams[Any] | None = None
 
     def open(self) -> None:
-        """Has the sockets be there; where one can't be had that is told."""
+        """Create the sockets, and report one that fails."""
         if self.panes:
             return
         try:
@@ -276,7 +280,7 @@ class NearSockets:
             say(f"the panes or the pty host cannot be reached from here: {reason(fault)}")
 
     def wake(self) -> None:
-        """Goes on where something else forwards connections than before."""
+        """Handle a change of the forwarding transport."""
         before, self.carrier = self.carrier, self.forwards()
         if self.panes and self.carrier and self.carrier is not before:
             self.panes.wake()
@@ -284,23 +288,23 @@ class NearSockets:
             self.host.wake()
 
     def is_used(self) -> bool:
-        """Return True if a front end is connected, or waits until something carries its connection."""
+        """Return True if a front end is connected, or waits for a transport."""
         return self.host is not None and self.host.is_used()
 
     def close(self) -> None:
-        """Removes the sockets."""
+        """Remove the sockets."""
         for one in (self.host, self.panes):
             if one:
                 one.close()
         self.panes = self.host = None
 
 
-# So many windows are made at once, and then so many a second: each has a folder and two sockets, and the other machine may name others
-# without end.
+# The windows created at once, and then each second. Each has a folder and two sockets, and the other machine may report new ones without
+# end.
 MADE_AT_ONCE = 99
 MADE_EACH_SECOND = 2.0
 
-# The moment at which more may be made.
+# The moment at which more may be created.
 MOMENT = "windows made"
 
 
@@ -315,11 +319,11 @@ class NearWindow:
         self.listener = listens(folder)
         self.sockets = NearSockets(folder, loop, forwards, leads_of(number))
         self.sockets.open()
-        # Who finds it finds the rest.
+        # A process that finds this file finds the rest too.
         replace_text(os.path.join(folder, "session"), f"{name}\n")
 
     def close(self) -> None:
-        """Removes it: its client ends with its stream."""
+        """Remove it: its client ends with its stream."""
         with contextlib.suppress(OSError):
             os.unlink(os.path.join(self.folder, "session"))
         self.listener.close()
@@ -328,19 +332,21 @@ class NearWindow:
 
 
 class NearWindows:
-    """All of them, as the far end tells them. A call makes the socket of a window's clients, one is for what forwards connections, and one
-    for a window that is gone."""
+    """All windows, as the far end reports them.
+
+    Calls create the socket of a window's clients, return the forwarding in use, and report a window that is gone.
+    """
 
     def __init__(self, folder: str, loop: Loop, forwards: Forwards, listens: Callable[[str, int], Listener],
                  parts: Callable[[int], object]) -> None:
         self.folder, self.loop, self.forwards, self.listens, self.parts = folder, loop, forwards, listens, parts
         self.windows: dict[int, NearWindow] = {}
         self.told: dict[int, str] = {}
-        # How many may be made, and since when.
+        # How many may be created, and since when.
         self.room, self.since = float(MADE_AT_ONCE), loop.clock()
 
     def take(self, told: dict[int, str]) -> None:
-        """Takes the windows that there are: those that are gone are removed, and others made."""
+        """Take the list of windows: remove those that are gone, and create new ones."""
         self.told = told
         for number, window in list(self.windows.items()):
             if told.get(number) != window.name:
@@ -350,7 +356,7 @@ class NearWindows:
         self.make_all()
 
     def make_all(self) -> None:
-        """Makes the windows that aren't there, as many as may be made now, and the others later."""
+        """Create the missing windows, as many as permitted now, and the others later."""
         now = self.loop.clock()
         self.room, self.since = min(float(MADE_AT_ONCE), self.room + (now - self.since) * MADE_EACH_SECOND), now
         self.loop.drop(MOMENT)
@@ -364,7 +370,7 @@ class NearWindows:
             self.make(number, name)
 
     def make(self, number: int, name: str) -> None:
-        """Makes a window; where it can't be had that is told."""
+        """Create a window, and report a failure."""
         try:
             self.windows[number] = NearWindow(window_folder(self.folder, number), name, self.loop, self.forwards,
                                               lambda folder: self.listens(folder, number), number)
@@ -372,23 +378,23 @@ class NearWindows:
             say(f"cannot show window {number} here: {reason(fault)}")
 
     def drop(self, number: int) -> None:
-        """Removes a window."""
+        """Remove a window."""
         self.windows.pop(number).close()
         self.parts(number)
 
     def wake(self) -> None:
-        """Goes on where something else forwards connections than before."""
+        """Handle a change of the forwarding transport."""
         for window in self.windows.values():
             window.sockets.wake()
 
     def clean(self) -> None:
-        """Removes what another relay left, as far as that can be read now."""
+        """Remove the files of an earlier relay, as far as they are readable now."""
         with contextlib.suppress(Fault):
             for number in [number for number in numbers_in(windows_folder(self.folder)) if number not in self.windows]:
                 shutil.rmtree(window_folder(self.folder, number), ignore_errors=True)
 
     def close(self) -> None:
-        """Removes all."""
+        """Remove all."""
         self.loop.drop(MOMENT)
         for number in list(self.windows):
             self.drop(number)

@@ -1,6 +1,7 @@
-"""Connections that a relay carries over a path: their bytes as chunks in encrypted packets, of which those that are lost go again, and
-which are put in their order where they come. The first bytes of a connection are the name of its socket and LF, and a chunk without bytes
-is its end.
+"""Forwarded connections over a UDP path: their bytes as chunks in encrypted packets. Lost ones are sent again, and the receiver orders
+them.
+
+The first bytes of a connection are the name of its socket and LF, and a chunk without bytes is its end.
 """
 from __future__ import annotations
 
@@ -15,52 +16,55 @@ TYPE_CHECKING = False
 if TYPE_CHECKING:
     from roam_live.relay.forwarding import Opens
 
-# A connection's bytes, with their place in it; and how many its reader has taken.
+# A connection's bytes, with their offset; and the number consumed by its reader.
 STREAM_KIND, TAKEN_KIND = b"s", b"t"
 STREAM = struct.Struct(">cHQH")
 LONGEST_CHUNK = 1080
 
-# So many chunks of one are on their way at most, from the first that hasn't arrived on.
+# The most chunks of one in flight, from the first unacknowledged one on.
 MOST_CHUNKS = 64
 
-# Numbers of connections that have ended are known again, so many.
+# The most ended connections whose numbers are remembered.
 MOST_ENDED = 1024
 
 
 class PathForwardedConnection(ForwardedConnection):
-    """One end of a connection over a path, whose chunks may be lost and turned round."""
+    """One end of a connection over a path, whose chunks may be lost and reordered."""
 
     def __init__(self, number: int) -> None:
         super().__init__(number)
-        # What went and hasn't arrived, or stands behind what hasn't: bytes, or None of those that have; whether the end is among them.
+        # The sent chunks from the first unacknowledged one on: bytes, or None for acknowledged ones; and a flag for the end among them.
         self.sent: OrderedDict[int, bytes | None] = OrderedDict()
         self.has_sent_end = False
-        # How many bytes were taken, as far as the other end is known to know; what came behind what is lacking; and whether its name came.
+        # The consumed bytes, as far as the other end has confirmed; the chunks after a gap; and a flag for the complete name.
         self.known = 0
         self.parts: dict[int, bytes] = {}
         self.is_named = False
 
     def may_go(self) -> int:
-        """How many bytes go now."""
+        """Return how many bytes can be sent now."""
         return super().may_go() if len(self.sent) < MOST_CHUNKS else 0
 
     def is_end_due(self) -> bool:
-        """Whether its end goes now."""
+        """Return True if its end may be sent now."""
         return self.has_ended and not self.going and not self.has_sent_end and len(self.sent) < MOST_CHUNKS
 
     def arrived(self, offset: int) -> None:
-        """Takes note that a chunk has arrived."""
+        """Record that a chunk has arrived."""
         if offset in self.sent:
             self.sent[offset] = None
         while self.sent and next(iter(self.sent.values())) is None:
             self.sent.popitem(last=False)
 
     def is_said(self) -> bool:
-        """Whether all has arrived, and its end too."""
+        """Return True if everything has arrived, including its end."""
         return self.has_sent_end and not self.sent
 
     def fed(self, offset: int, text: bytes) -> list[bytes]:
-        """Takes a chunk: those that are in their order now. What is behind the end, before what came, or more than may be is dropped."""
+        """Take a chunk, and return those that are now in order.
+
+        Bytes after the end, duplicates, and those beyond the credit are dropped.
+        """
         if not self.came <= offset <= self.taken + CREDIT - len(text) or len(self.parts) >= MOST_CHUNKS:
             return []
         self.parts[offset] = text
@@ -75,7 +79,7 @@ class PathForwardedConnection(ForwardedConnection):
 
 
 class StreamChunk(namedtuple("StreamChunk", "kind number offset")):
-    """A chunk of a connection on its way, by its place, or how many bytes its reader has taken."""
+    """A chunk of a connection in flight, by its offset, or the number of bytes consumed by its reader."""
 
     kind: bytes
     number: int
@@ -83,44 +87,44 @@ class StreamChunk(namedtuple("StreamChunk", "kind number offset")):
 
 
 class PathStreams(Streams[PathForwardedConnection]):
-    """The connections over a path, as chunks: what goes next, what goes again, and what came."""
+    """The connections over a path, as chunks: new ones, repeated ones, and received ones."""
 
     def __init__(self, loop: Loop, opens: Opens | None = None) -> None:
         super().__init__(loop, opens)
-        # Those that have ended: a chunk of one may still come. And what was lost, and goes again.
+        # Ended connections, of which a chunk may still come; and the lost chunks to send again.
         self.ended: OrderedDict[int, None] = OrderedDict()
         self.again: deque[StreamChunk] = deque()
 
     def made(self, number: int) -> PathForwardedConnection:
-        """A connection of a number."""
+        """Return a connection of a number."""
         return PathForwardedConnection(number)
 
-    # ---- what goes
+    # ---- outgoing
 
     def name(self, one: PathForwardedConnection, name: str) -> None:
-        """Tells the other end the name of a connection's socket, by its first bytes."""
+        """Send the other end the name of a connection's socket, as its first bytes."""
         one.going += f"{name}\n".encode()
         one.is_named = True
 
     def end(self, one: PathForwardedConnection) -> None:
-        """Takes note that a socket here has ended; where the other end knows nothing of it yet that is all."""
+        """Record the end of a local socket. If the other end does not know the connection yet, nothing more is needed."""
         super().end(one)
         if not self.opens and not one.went:
             self.forget(one)
 
     def forget(self, one: PathForwardedConnection) -> None:
-        """Lets a connection go, and knows it again."""
+        """Drop a connection, and remember its number."""
         super().forget(one)
         self.ended[one.number] = None
         while len(self.ended) > MOST_ENDED:
             self.ended.popitem(last=False)
 
     def waits(self) -> bool:
-        """Whether something may go."""
+        """Return True if a chunk may be sent."""
         return bool(self.again) or any(one.is_taken_due() or one.may_go() or one.is_end_due() for one in self.all.values())
 
     def next_chunk(self, room: int) -> StreamChunk | None:
-        """What goes next in a packet that has so much room, what was lost first; None where nothing does."""
+        """Return the next chunk for a packet with so much room, lost ones first; None if there is none."""
         while self.again and self.length(self.again[0]) <= room:
             chunk = self.again.popleft()
             if self.length(chunk):
@@ -131,14 +135,14 @@ class PathStreams(Streams[PathForwardedConnection]):
                 return StreamChunk(TAKEN_KIND, one.number, one.told)
             length = min(one.may_go(), room - STREAM.size, LONGEST_CHUNK)
             if length > 0 or one.is_end_due() and room >= STREAM.size:
-                # Its turn is behind the others'.
+                # Its next turn comes after the others'.
                 self.all[one.number] = self.all.pop(one.number)
                 return self.begun_chunk(one, max(0, length))
         return None
 
     @staticmethod
     def begun_chunk(one: PathForwardedConnection, length: int) -> StreamChunk:
-        """A new chunk of so many bytes, or the end."""
+        """Return a new chunk of so many bytes, or the end."""
         offset = one.went
         one.sent[offset] = bytes(one.going[:length])
         del one.going[:length]
@@ -147,7 +151,7 @@ class PathStreams(Streams[PathForwardedConnection]):
         return StreamChunk(STREAM_KIND, one.number, offset)
 
     def text(self, chunk: StreamChunk) -> bytes | None:
-        """The bytes of a chunk that is still wanted; else None."""
+        """Return the bytes of a chunk that is still current; else None."""
         one = self.all.get(chunk.number)
         if not one or one.is_over:
             return None
@@ -156,24 +160,24 @@ class PathStreams(Streams[PathForwardedConnection]):
         return one.sent.get(chunk.offset)
 
     def length(self, chunk: StreamChunk) -> int:
-        """How many bytes a chunk takes in a packet; 0 where it isn't wanted any more."""
+        """Return the bytes that a chunk takes in a packet; 0 if it is obsolete."""
         text = self.text(chunk)
         return 0 if text is None else TAKEN_COUNT.size if chunk.kind == TAKEN_KIND else STREAM.size + len(text)
 
     def frame(self, chunk: StreamChunk) -> bytes:
-        """A chunk that is wanted, as it stands in a packet."""
+        """Return the frame of a chunk in a packet."""
         if chunk.kind == TAKEN_KIND:
             return TAKEN_COUNT.pack(*chunk)
         text = self.text(chunk) or b""
         return STREAM.pack(*chunk, len(text)) + text
 
     def lost(self, chunk: StreamChunk) -> None:
-        """Notes that a chunk is taken for lost."""
+        """Record that a chunk is presumed lost."""
         if self.length(chunk):
             self.again.append(chunk)
 
     def arrived(self, chunk: StreamChunk) -> None:
-        """Notes that a chunk has arrived."""
+        """Record that a chunk has arrived."""
         one = self.all.get(chunk.number)
         if one and chunk.kind == TAKEN_KIND:
             one.known = max(one.known, chunk.offset)
@@ -182,10 +186,10 @@ class PathStreams(Streams[PathForwardedConnection]):
             if one.is_said():
                 self.forget(one)
 
-    # ---- what comes
+    # ---- incoming
 
     def take(self, kind: bytes, number: int, offset: int, text: bytes) -> None:
-        """Takes a frame of a packet; what can't be is dropped."""
+        """Take a frame of a packet; an invalid one is dropped."""
         one = self.all.get(number)
         if kind == TAKEN_KIND:
             with contextlib.suppress(BadStream):
@@ -202,7 +206,7 @@ class PathStreams(Streams[PathForwardedConnection]):
                 self.came_end(one)
 
     def begun_there(self, number: int) -> PathForwardedConnection | None:
-        """A connection that the other end begins, by a chunk of it that came first; above the most it is ended at once."""
+        """Return a connection that the other end begins with its first chunk; above the limit end it at once."""
         if not self.opens or not number or number in self.ended:
             return None
         nameless = next((one for one in self.all.values() if not one.is_named and not one.has_ended), None)
@@ -216,7 +220,7 @@ class PathStreams(Streams[PathForwardedConnection]):
         return one
 
     def took(self, one: PathForwardedConnection, text: bytes) -> None:
-        """Takes bytes that came in their order: the first are the name of the socket."""
+        """Take bytes in order: the first are the name of the socket."""
         one.take(text)
         if one.is_named or one.has_ended:
             return
@@ -228,6 +232,6 @@ class PathStreams(Streams[PathForwardedConnection]):
             self.opened(one, name.decode("ascii", "replace"))
 
     def came_end(self, one: PathForwardedConnection) -> None:
-        """Takes note that a connection has ended at the other end: nothing more of it goes there."""
+        """Record that a connection has ended at the other end: nothing more of it is sent there."""
         one.sent.clear()
         super().came_end(one)

@@ -1,5 +1,7 @@
-"""Asking for an encrypted path beside the command of a relay: the near end asks, and tells its name; the far end makes a key and a port,
-tells them over the command alone, and goes on in a process that outlives it; the near end looks where that may be.
+"""The setup of an encrypted path in addition to a relay's command.
+
+The near end requests one, with its name. The far end makes a key and a port, sends them over the command alone, and continues in a process
+that outlives it. The near end looks up the possible addresses.
 """
 from __future__ import annotations
 
@@ -25,35 +27,35 @@ from roam_live.relay.batches import has_lzma
 from roam_live.relay.frames import ENCRYPTED, WANTS
 from roam_live.relay.udp_path import Path
 
-# What is wanted has this version, and a name of so many bytes.
+# The version of a request, and the length of its name.
 VERSION = 1
 NAME_LENGTH = 8
 
-# What the far end tells: the version, the port and the key; behind them the address to which the command came.
+# The far end's answer: the version, the port and the key; then the address that the command came to.
 AEAD_HEAD = struct.Struct(f">cBH{KEY_LENGTH}s")
 
-# The call by which a process says whether its memory may be written down.
+# The prctl that permits or forbids core dumps and reads of this process's memory.
 PR_SET_DUMPABLE = 4
 
-# How /proc is told to hide nothing.
+# The mount options of a /proc that hides nothing.
 SHOWN = ("hidepid=0", "hidepid=off")
 
-# So often it is asked anew where the other end of a path may be while it isn't heard, and for another path; so many places are called.
+# Seconds between lookups of a silent path's other end, and between requests for another path; and the most addresses to call.
 ASKS_AGAIN = 30.0
 ASKS_FOR_ANOTHER = 1.0
 MOST_PLACES = 16
 
 
 def is_wanted() -> bool:
-    """Whether an encrypted path is wanted, and can be had here."""
+    """Return True if an encrypted path is wanted and possible here."""
     return wants_udp() and has_lzma() and cipher() is not None
 
 
 def hide_memory() -> None:
-    """Keeps the system from writing down this process's memory where it fails, and this user's other programs from reading it.
+    """Protect this process's memory from core files and from the user's other programs.
 
-    Where /proc hides what a user may not read, such a process would be hidden from its own user, who finds its relays there: then it is
-    core files alone that aren't written.
+    If /proc hides unreadable processes, this process would be invisible to its own user, whose tools find relays there. Then only core
+    files are turned off.
     """
     if hides_processes():
         limit_core()
@@ -65,7 +67,7 @@ def hide_memory() -> None:
 
 
 def hides_processes(mounts: str = "/proc/self/mountinfo") -> bool:
-    """Whether /proc is mounted so that processes are hidden from who may not read them."""
+    """Return True if /proc is mounted so that it hides processes that a user may not read."""
     with contextlib.suppress(OSError), open(mounts, encoding="utf-8", errors="replace") as lines:
         options = [option for line in lines if " /proc " in line for option in line.split()[-1].split(",")]
         return any(option.startswith("hidepid=") and option not in SHOWN for option in options)
@@ -73,23 +75,25 @@ def hides_processes(mounts: str = "/proc/self/mountinfo") -> bool:
 
 
 def limit_core() -> None:
-    """Has the system write no core file of this process, or of those that it spawns and that don't ask for one."""
+    """Let the system write no core file of this process, or of its children that don't request one."""
     with contextlib.suppress(OSError, ValueError):
         resource.setrlimit(resource.RLIMIT_CORE, (0, resource.getrlimit(resource.RLIMIT_CORE)[1]))
 
 
 def aead_of(key: bytes, is_near: bool) -> AeadPackets | None:
-    """What seals under a key; None where the library has gone."""
+    """Return the encryption under a key; None if the library is missing."""
     kind = cipher()
     return AeadPackets(kind(key), is_near) if kind else None
 
 
-# ---- the near end asks
+# ---- the near end's request
 
 
 def kept_name(folder: str | None) -> bytes:
-    """The name of the near end of a folder, which is kept there, so that the far end of one that was killed is found again, and ended. It
-    is no secret."""
+    """Return the name of a folder's near end, which is stored there.
+
+    By it the far end of a killed near end is found again and ended. It is no secret.
+    """
     note = pathlib.Path(folder or "", "name")
     with contextlib.suppress(OSError, ValueError):
         name = bytes.fromhex(note.read_text(encoding="ascii")) if folder else b""
@@ -103,21 +107,23 @@ def kept_name(folder: str | None) -> bytes:
 
 
 def wish(name: bytes) -> bytes:
-    """What a near end asks for."""
+    """Return the request of a near end."""
     return WANTS + bytes([VERSION]) + name
 
 
 def name_in(text: bytes) -> str:
-    """The name of the near end that asks; nothing where it asks for what this roam hasn't."""
+    """Return the name in a near end's request; nothing if this roam does not support it."""
     return text[2:].hex() if text[1:2] == bytes([VERSION]) and len(text) == 2 + NAME_LENGTH else ""
 
 
-# ---- the far end makes it
+# ---- the far end's path
 
 
 def made_path(end: socket.socket) -> tuple[Path, bytes] | None:
-    """A path from a socket under a key of its own, and what the near end is told of it; None where the library has gone. The process that
-    makes a key is never copied."""
+    """Return a path on a socket under a new key, and the answer for the near end; None if the library is missing.
+
+    The process that makes a key is never forked afterwards.
+    """
     hide_memory()
     key = random_key()
     aead = aead_of(key, False)
@@ -130,7 +136,7 @@ def made_path(end: socket.socket) -> tuple[Path, bytes] | None:
 
 
 def take_over(folder: str, name: str) -> pathlib.Path | None:
-    """Notes this far end as that of a near end, and ends the one that the same near end had before; the note, where it can be written."""
+    """Record this far end as that of a near end, and end the previous one. Return the note if it can be written."""
     notes = pathlib.Path(folder, "relays")
     note = notes / name
     try:
@@ -147,7 +153,7 @@ def take_over(folder: str, name: str) -> pathlib.Path | None:
 
 
 def noted(note: pathlib.Path) -> int:
-    """The process of a far end that runs, as a file notes it; 0 where none does."""
+    """Return the running far end that a note records; 0 if there is none."""
     with contextlib.suppress(OSError, ValueError):
         process, moment = map(int, note.read_text(encoding="ascii").split())
         return process if is_running(process, moment) else 0
@@ -155,14 +161,14 @@ def noted(note: pathlib.Path) -> int:
 
 
 def end_noted(note: pathlib.Path) -> None:
-    """Has the far end that a file notes end."""
+    """End the far end that a file records."""
     process = noted(note)
     if process in (0, os.getpid()):
         return
     with contextlib.suppress(OSError):
         opened = os.pidfd_open(process)
         try:
-            # Its number may have been given anew before it was opened.
+            # Its pid may have been reused before it was opened.
             if noted(note) == process:
                 signal.pidfd_send_signal(opened, signal.SIGTERM)
         finally:
@@ -170,15 +176,17 @@ def end_noted(note: pathlib.Path) -> None:
 
 
 def forget_note(note: pathlib.Path | None) -> None:
-    """Removes a note of this process."""
+    """Remove a note of this process."""
     if note and noted(note) == os.getpid():
         with contextlib.suppress(OSError):
             note.unlink()
 
 
 def part_from_command(signals: Iterable[int]) -> int | None:
-    """Goes on in a process of its own, which outlives the command: a descriptor that lets the command end once it is closed. None where the
-    system refuses a process more; what went on before does."""
+    """Continue in a new process that outlives the command. Return a descriptor that releases the command once it is closed.
+
+    Return None if the system refuses a new process; then the original one continues.
+    """
     try:
         reader, writer = os.pipe()
     except OSError:
@@ -197,8 +205,10 @@ def part_from_command(signals: Iterable[int]) -> int | None:
 
 
 def hold_command(reader: int, signals: Iterable[int]) -> None:
-    """Holds nothing but what tells that the other process lets the command go, and ends then: what spawned this one takes its end for the
-    command's, and drops what comes for it."""
+    """Keep the command open until the other process releases it, and then end.
+
+    The parent takes the end of this process for the end of the command, and then drops its input.
+    """
     signal.set_wakeup_fd(-1)
     for number in signals:
         signal.signal(number, signal.SIG_DFL)
@@ -210,25 +220,25 @@ def hold_command(reader: int, signals: Iterable[int]) -> None:
 
 
 def close_others(kept: tuple[int, ...]) -> None:
-    """Closes what is open here beside these."""
+    """Close all descriptors except these."""
     for end in [int(name) for name in os.listdir("/proc/self/fd") if int(name) not in kept]:
         with contextlib.suppress(OSError):
             os.close(end)
 
 
 def close_standard() -> None:
-    """Lets standard input, output and error go."""
+    """Close standard input, output and error."""
     nothing = os.open(os.devnull, os.O_RDWR | os.O_CLOEXEC)
     for end in (0, 1, 2):
         os.dup2(nothing, end)
     os.close(nothing)
 
 
-# ---- the near end finds it
+# ---- the near end's path
 
 
 class NearPath(Path):
-    """The near end's path: the port of the other end, and the address to which the command came there."""
+    """The near end's path: the port of the other end, and the address that the command came to there."""
 
     def __init__(self, aead: AeadPackets, end: socket.socket, port: int, address: str) -> None:
         super().__init__(aead, end)
@@ -236,7 +246,7 @@ class NearPath(Path):
 
 
 def address_in(text: bytes) -> str:
-    """The address that the other end tells; nothing where it is none, so that no name is looked for that another machine chose."""
+    """Return the address that the other end reports; nothing if it is none, so that no name chosen by another machine is looked up."""
     word = text.decode("ascii", "replace")
     with contextlib.suppress(ValueError):
         ipaddress.ip_address(word.partition("%")[0])
@@ -245,7 +255,7 @@ def address_in(text: bytes) -> str:
 
 
 def near_path(text: bytes) -> NearPath | None:
-    """The path that the far end tells of; None where this roam hasn't what it has, or it can't be."""
+    """Return the path that the far end offers; None if it is invalid or unsupported here."""
     if len(text) < AEAD_HEAD.size or not is_wanted():
         return None
     _, version, port, key = AEAD_HEAD.unpack_from(text)
@@ -257,8 +267,10 @@ def near_path(text: bytes) -> NearPath | None:
 
 
 class Finder:
-    """Finds where the other end of a path may be: where the command went, and where the other end says that it came to. Names may take
-    long, so this goes on beside all else, one search at a time."""
+    """Looks up the possible addresses of a path's other end: the command's destination, and the address that the other end reports.
+
+    A name lookup may take long, so it runs in parallel, one at a time.
+    """
 
     def __init__(self, host: str) -> None:
         self.host = host
@@ -267,19 +279,19 @@ class Finder:
         self.search: threading.Thread | None = None
 
     def look(self, path: NearPath) -> None:
-        """Begins a search where one is due."""
+        """Begin a lookup if one is due."""
         now = time.monotonic()
         pause = ASKS_AGAIN if path is self.path else ASKS_FOR_ANOTHER
         if path.is_validated() or now < self.asked_at + pause or self.search and self.search.is_alive():
             return
         self.path, self.asked_at = path, now
         self.search = threading.Thread(target=self.find, args=(path,), daemon=True)
-        # Where the system refuses a thread it is tried again.
+        # If the system refuses a thread it is tried again.
         with contextlib.suppress(RuntimeError):
             self.search.start()
 
     def find(self, path: NearPath) -> None:
-        """Has a path know where its other end may be."""
+        """Look up the possible addresses of a path's other end."""
         hosts = [host for host in (self.host, path.address) if host]
         places = dict.fromkeys(place for host in hosts for place in places_of(host, path.port, path.end.family))
         path.places = list(places)[:MOST_PLACES]

@@ -1,8 +1,8 @@
-"""A path between the two ends of a relay: encrypted packets over UDP, from wherever either end is now.
+"""A path between the two ends of a relay: encrypted packets over UDP, from the current address of either end.
 
-A packet's text begins with what of the other end came: the newest counter, how long ago, and which before it. So each end knows which of
-its packets have arrived, how long that takes, how many are lost and how much goes through at a time. What was lost goes again where it is
-still wanted. Nothing is answered that isn't authentic.
+A packet begins with an acknowledgement: the newest received counter, its age, and the ones received before it. So each end knows the
+arrivals, the round-trip time, the losses and the possible rate of its packets. Lost data is sent again if it is still current. Only
+authentic packets are answered.
 """
 from __future__ import annotations
 
@@ -26,36 +26,36 @@ if TYPE_CHECKING:
     from roam_live.common.event_loop import Loop
     from roam_live.relay.aead_packets import Beside, Place
 
-    # What goes in a packet: a chunk of a batch, or of a connection.
+    # A part of a packet: a chunk of a batch, or of a connection.
     AnyChunk = Union[Chunk, StreamChunk]
 
-# Every so manieth packet begins with connections, where batches take all of the others.
+# Each packet of this index begins with connections if batches fill all others.
 TURN_OF_STREAMS = 4
 
-# An end says something each so many seconds, a little later than the cores do, each 3 s: what they say tells as much. What goes anyway
-# asks for an answer where none has come for so long, and after so many seconds it is asked for alone; where for so many nothing that was
-# sent has arrived the path is silent, and sooner where an answer is owed. An end that nobody calls says nothing after so many.
+# The seconds between heartbeats, slightly above the 3 s of the cores, whose messages serve as well. A data packet requests an answer if
+# none has come for so long, and after so many seconds a packet requests one alone. The path is silent if for so many seconds no sent data
+# has arrived, and sooner if an answer is due. An end without calls sends nothing after so many seconds.
 HEARTBEAT, UNANSWERED = 3.5, 4.0
 SILENT, SILENT_ASKED = 7.0, 4.0
 ASLEEP = 60.0
 
-# A silent path is called so often, at first and at last: with another way beside it, or without.
+# The seconds between calls on a silent path, at first and later: with another transport, or without.
 FIRST_CALL = 0.2
 CALLS_BESIDE, CALLS_ALONE = 5.0, 1.0
 MOST_CALLS = 9
 
-# Where more than this part is lost, small chunks go twice, so many seconds apart: what is typed is small.
+# Above this loss rate, small chunks are sent twice, so many seconds apart. Typed input is small.
 LOSSY = 0.01
 SMALL = 320
 APART = 0.020
 
-# What shows nothing new waits so long for what does.
+# Seconds for which an instruction without visible news waits for one with news.
 MOMENT = 0.040
 
-# A new port is taken where so long nothing has come: what stands between may have forgotten the one before.
+# Seconds without packets until a new port is used: a NAT in between may have forgotten the old one.
 HOPS = 10.0
 
-# So many packets are taken at once, for so many seconds; of so many that were taken for lost it is known when they went.
+# The most packets handled at once, and seconds; and the most presumed lost packets whose moments are remembered.
 MOST_AT_ONCE = 256
 TURN = 0.05
 MOST_GONE = 512
@@ -66,10 +66,10 @@ class Path:
 
     def __init__(self, aead: AeadPackets, end: socket.socket, places: Iterable[Place] = ()) -> None:
         self.aead, self.end = aead, end
-        # What calls where something came.
+        # Called for received packets.
         self.joined: tuple[Loop, Callable[[], object]] | None = None
         self.arrivals, self.batches, self.pace, self.trips, self.states = HeardPackets(), Batches(), PathPace(), Trips(), States()
-        # Where the other end may be, where it is, and the address of this end to which it sent.
+        # The candidate addresses of the other end, its current one, and the local address that it used.
         self.places = list(places)
         self.place: Place | None = None
         self.source: Sequence[Beside] = ()
@@ -77,78 +77,80 @@ class Path:
         self.heard_at = self.validated_since = now
         self.answered_at: float | None = None
         self.spoke_at = self.called_at = self.hopped_at = now
-        # Since when an answer is owed to this end; how often it has called; whether it calls again at once; whether it has no other way.
+        # The moment since when an answer is due; the number of calls; a flag for an immediate call; and a flag for a path without an
+        # alternative.
         self.asked_at: float | None = None
         self.calls, self.is_due, self.is_alone = 0, False, False
-        # Whether a packet of the largest size has come, and whether one was asked for.
+        # True if a packet of the largest size has arrived, and True if one was requested.
         self.is_wide = self.has_asked_wide = False
-        # What is on its way, by counters, and the newest of them that arrived; what was taken for lost: told of after all, it took long.
+        # The packets in flight by counter, and the newest arrived one; then the presumed lost packets. A late acknowledgement of one means
+        # that it was slow.
         self.sent: dict[int, SentPacket] = {}
         self.gone: dict[int, SentPacket] = {}
         self.arrived = self.size = 0
-        # What goes: what was lost, what is new, what goes once more, and what waits for something newer.
+        # The outgoing chunks: lost ones, new ones, repeated ones, and instructions that wait for a newer one.
         self.repairs: deque[Chunk] = deque()
         self.fresh: deque[Chunk] = deque()
         self.twice: deque[tuple[float, Chunk]] = deque()
         self.soon: dict[int, tuple[float, list[bytes]]] = {}
-        # The connections that it carries, and how many packets went since they were first in one.
+        # The connections that it carries, and the packets sent since one first contained them.
         self.streams: PathStreams | None = None
         self.since_streams = 0
 
     def fileno(self) -> int:
-        """The descriptor of its socket."""
+        """Return the descriptor of its socket."""
         return self.end.fileno()
 
     def join(self, loop: Loop, hears: Callable[[], object]) -> None:
-        """Has a loop call where something came."""
+        """Let a loop call `hears` for received packets."""
         self.joined = loop, hears
         loop.add(self.end, hears)
 
     def close(self) -> None:
-        """Closes its socket."""
+        """Close its socket."""
         if self.joined:
             self.joined[0].remove(self.end)
         self.end.close()
 
-    # ---- what is known of it
+    # ---- its state
 
     def is_validated(self) -> bool:
-        """Whether what this end sends arrives, and what the other end sends too."""
+        """Return True if packets arrive in both directions."""
         return self.is_wide and time.monotonic() <= self.silent_at()
 
     def silent_at(self) -> float:
-        """When it is silent, where nothing changes before."""
+        """Return the moment at which it becomes silent if nothing changes."""
         if self.answered_at is None:
             return -math.inf
         return min(self.answered_at + SILENT, math.inf if self.asked_at is None else self.asked_at + SILENT_ASKED)
 
     def is_spent(self) -> bool:
-        """Whether it has no numbers left, so that another has to take its place."""
+        """Return True if it has no counters left, so that another has to replace it."""
         return self.aead.is_spent() or self.batches.is_spent()
 
     def is_asleep(self) -> bool:
-        """Whether the other end has said nothing for so long that this one has nobody to speak to."""
+        """Return True if the other end has been silent for so long that this one stops sending."""
         return not self.aead.is_near and time.monotonic() > self.heard_at + ASLEEP
 
     def is_said(self) -> bool:
-        """Whether the other end has all that it was told."""
+        """Return True if the other end has received all messages."""
         return self.states.is_sent and self.batches.is_said(0)
 
     def has_more(self) -> bool:
-        """Whether more is to go than went."""
+        """Return True if more data waits to be sent."""
         return bool(self.fresh or self.repairs or self.is_validated() and self.streams and self.streams.waits())
 
     def may_carry(self) -> bool:
-        """Whether it may carry what waits: all, or, where it is silent, one packet at a time that looks whether it still is."""
+        """Return True if it may carry waiting data: all of it, or on a silent path one packet at a time as a probe."""
         return bool(self.place or self.aead.is_near) and (self.is_validated() or not self.sent)
 
     def late_at(self, counter: int, sent: SentPacket) -> float:
-        """When a packet is taken for lost."""
+        """Return the moment at which a packet is presumed lost."""
         moment: float = sent.moment
         return moment + self.trips.patience(sent.held, counter < self.arrived)
 
     def due_at(self) -> float:
-        """When something is to be done next."""
+        """Return the moment of the next step."""
         if self.is_asleep() or self.is_spent():
             return math.inf
         moments = [self.call_at()]
@@ -162,7 +164,7 @@ class Path:
         return min(moments)
 
     def call_at(self) -> float:
-        """When the other end is called."""
+        """Return the moment of the next call to the other end."""
         if self.is_asleep() or not self.aead.is_near and not self.place:
             return math.inf
         if self.is_due:
@@ -172,14 +174,14 @@ class Path:
         most = CALLS_ALONE if self.is_alone else CALLS_BESIDE
         return self.called_at + (min(most, FIRST_CALL * float(2**self.calls)) if self.aead.is_near else HEARTBEAT)
 
-    # ---- what goes
+    # ---- outgoing
 
     def tell(self, peer: int, text: bytes) -> None:
-        """Tells the other end something of this one, in place of what it was told before of the same."""
+        """Send a message about this end in place of the earlier one of its kind."""
         self.states.tell(text)
 
     def fill(self, waiting: Waiting) -> None:
-        """Takes datagrams that wait, as much as may be on its way, and sends what is due."""
+        """Take as many waiting datagrams as may be in flight, and send due packets."""
         now = time.monotonic()
         self.give_up_late(now)
         if self.is_asleep() or self.is_spent():
@@ -195,7 +197,7 @@ class Path:
             self.call(now)
 
     def begin_next(self, waiting: Waiting, now: float) -> bool:
-        """Begins what goes next; whether there is something."""
+        """Begin the next batch, and return True if there is one."""
         peer, texts = self.taken(waiting, now)
         if not texts:
             return False
@@ -208,12 +210,12 @@ class Path:
         if is_new:
             self.fresh += chunks
         elif not any(set(chunks) & set(sent.chunks) for sent in self.sent.values() if now < sent.moment + self.trips.round()):
-            # What is said again is on its way: it goes again once it should have been told of.
+            # The repeated contents are already in flight. They are sent again once an acknowledgement is overdue.
             self.repairs += chunks
         return True
 
     def taken(self, waiting: Waiting, now: float) -> tuple[int, list[bytes]]:
-        """What goes next, and to whom; what is large only where nothing else is to go."""
+        """Return the next instruction and its peer. A large one comes only if nothing else waits."""
         if not self.states.is_sent and self.batches.may_begin(0):
             self.states.is_sent = True
             return 0, list(self.states.going.values())
@@ -223,7 +225,7 @@ class Path:
         return found if found[1] or due is None else (due, self.soon[due][1])
 
     def flush(self, now: float) -> None:
-        """Sends chunks, as many as may go: those that were lost first."""
+        """Send as many chunks as permitted, lost ones first."""
         while self.may_carry() and self.size + LONGEST_PACKET <= self.pace.window() and self.pace.lets(LONGEST_PACKET, now):
             chunks = self.next_chunks(now)
             if not chunks:
@@ -231,8 +233,8 @@ class Path:
             self.send_packet(now, chunks)
 
     def next_chunks(self, now: float) -> list[AnyChunk]:
-        """The chunks of the next packet: those that were lost, those of batches, and those of connections where there is room, or it is
-        their turn."""
+        """Return the chunks of the next packet: lost ones, those of batches, and those of connections if there is room or it is their turn.
+        """
         chunks: list[AnyChunk] = []
         room = LONGEST_TEXT - HEAD.size - LONGEST_MASK
         self.since_streams += 1
@@ -251,8 +253,10 @@ class Path:
         return chunks
 
     def add_streams(self, chunks: list[AnyChunk], room: int) -> int:
-        """Adds what of connections has room in a packet, and tells what is left of that. They don't look whether a silent path is so
-        still: they would each moment, as long as it is."""
+        """Add the connections' chunks that fit a packet, and return the remaining room.
+
+        They do not probe a silent path, since they would do so constantly.
+        """
         while self.streams and self.is_validated():
             chunk = self.streams.next_chunk(room)
             if not chunk:
@@ -263,13 +267,13 @@ class Path:
         return room
 
     def frame(self, chunk: AnyChunk) -> bytes:
-        """A chunk that is wanted, as it stands in a packet."""
+        """Return the frame of a chunk in a packet."""
         if isinstance(chunk, Chunk):
             return self.batches.frame(chunk)
         return self.streams.frame(chunk) if self.streams else b""
 
     def note_chunk(self, chunk: AnyChunk, has_arrived: bool) -> None:
-        """Notes that a chunk has arrived, or is taken for lost, so that it goes again where it is still wanted."""
+        """Record that a chunk has arrived or is presumed lost. A lost one is sent again if it is still current."""
         if isinstance(chunk, Chunk):
             if has_arrived:
                 self.batches.arrived(chunk)
@@ -279,12 +283,12 @@ class Path:
             (self.streams.arrived if has_arrived else self.streams.lost)(chunk)
 
     def goes_twice(self, chunk: Chunk) -> bool:
-        """Whether a chunk goes once more in a moment, whatever is told of it."""
+        """Return True if a chunk is sent again in a moment, acknowledged or not."""
         batch = self.batches.batch(chunk)
         return bool(batch and not batch.is_once and len(batch.chunks[chunk.index]) <= SMALL and self.trips.lost > LOSSY)
 
     def call(self, now: float) -> None:
-        """Asks the other end for an answer, and then for one of the largest size, since it has to get through."""
+        """Request an answer from the other end, and then one of the largest size, to test that it gets through."""
         self.called_at, self.is_due = now, False
         self.calls = 0 if self.is_validated() else min(self.calls + 1, MOST_CALLS)
         if self.aead.is_near and now > max(self.heard_at, self.hopped_at) + HOPS:
@@ -294,7 +298,7 @@ class Path:
         self.send_packet(now, asks=ASKS if is_wide else ASKS_LARGE)
 
     def hop(self, now: float) -> None:
-        """Goes on from another port."""
+        """Continue on another port."""
         self.hopped_at = now
         other = udp_end()
         if other:
@@ -304,7 +308,7 @@ class Path:
                 self.join(*self.joined)
 
     def send_packet(self, now: float, chunks: Sequence[AnyChunk] = (), asks: bytes = b"") -> None:
-        """Sends a packet. What goes anyway asks for the answer that would have to be asked for soon."""
+        """Send a packet. One with data includes a request for an answer if that would soon be due alone."""
         if self.aead.is_spent():
             return
         batches = [self.batches.batch(chunk) if isinstance(chunk, Chunk) else None for chunk in chunks]
@@ -325,21 +329,21 @@ class Path:
         self.arrivals.were_told(now)
 
     def text(self, now: float, chunks: Sequence[AnyChunk], asks: bytes) -> bytes:
-        """What a packet carries: what came, chunks, which batches came whole, as many as there is room for, and what asks for an answer."""
+        """Return the contents of a packet: an acknowledgement, chunks, as many complete batches as fit, and a request for an answer."""
         text = self.arrivals.head(now) + b"".join(map(self.frame, chunks))
         room = LONGEST_TEXT - len(text) - len(asks)
         text += b"".join(map(self.batches.whole, self.arrivals.peers(now, room // WHOLE.size))) + asks
         return text.ljust(LONGEST_TEXT, b"\0") if asks == ASKS_LARGE else text
 
     def give_up_late(self, now: float) -> None:
-        """Takes packets for lost of which nothing is told; what they carried goes again."""
+        """Presume overdue packets lost, and send their contents again."""
         late = [counter for counter, sent in self.sent.items() if self.late_at(counter, sent) <= now]
         self.give_up(late)
         if late and late[-1] > self.arrived:
             self.trips.tries = min(self.trips.tries + 1, MOST_CALLS)
 
     def give_up(self, counters: Iterable[int]) -> None:
-        """Takes these packets for lost."""
+        """Presume these packets lost."""
         for counter in counters:
             sent = self.gone[counter] = self.sent.pop(counter)
             self.size -= sent.size
@@ -348,16 +352,15 @@ class Path:
                 self.trips.note_lost()
             for chunk in sent.chunks:
                 self.note_chunk(chunk, False)
-            # An answer that was asked for is asked for again.
+            # A requested answer is requested again.
             self.is_due = self.is_due or not sent.chunks and is_validated
         while len(self.gone) > MOST_GONE:
             del self.gone[next(iter(self.gone))]
 
-    # ---- what comes
+    # ---- incoming
 
     def received(self) -> Iterator[tuple[int, bytes]]:
-        """The frames that came, one after another, each a peer and what it carries: what is unpacked may be large, so a frame is made when
-        it is asked for."""
+        """Yield the received frames, each a peer and its contents. Unpacked data may be large, so each frame is made on demand."""
         begun = time.monotonic()
         for _ in range(MOST_AT_ONCE):
             try:
@@ -365,14 +368,14 @@ class Path:
             except BlockingIOError:
                 return
             except OSError:
-                # Where something was sent before nobody has the port.
+                # Nobody has the port of an earlier packet.
                 continue
             yield from self.take(packet, place, told)
             if time.monotonic() > begun + TURN:
                 return
 
     def take(self, packet: bytes, place: Place, told: Iterable[Beside] = ()) -> Iterator[tuple[int, bytes]]:
-        """The frames of a packet, where it is authentic and new."""
+        """Yield the frames of a packet, if it is authentic and new."""
         counter = self.aead.counter_of(packet)
         text = self.aead.decrypted(packet) if counter and self.arrivals.window.is_new(counter) else None
         if text is None or len(text) < HEAD.size:
@@ -380,14 +383,14 @@ class Path:
         now = time.monotonic()
         self.heard_at = now
         self.is_wide = self.is_wide or len(packet) == LONGEST_PACKET
-        # The first that comes is answered by asking for the largest size.
+        # The first answer is followed by a request of the largest size.
         self.is_due = self.is_due or self.aead.is_near and not self.is_wide and not self.has_asked_wide
         was_validated = self.is_validated()
         if not was_validated:
-            # What waited for an answer goes at once, now that somebody is there.
+            # Data that waited for an answer is sent at once, now that the other end is there.
             self.give_up(list(self.sent))
         if counter > self.arrivals.window.newest:
-            # The far end answers from where it was asked; the near end goes from wherever it is now.
+            # The far end answers from the address that was called. The near end sends from its current one.
             self.place, self.source, self.arrivals.newest_at = place, () if self.aead.is_near else came_to(told), now
         self.arrivals.window.note(counter)
         newest, held, length = HEAD.unpack_from(text)
@@ -396,7 +399,7 @@ class Path:
         yield from self.frames(text, begin, counter, now, was_validated)
 
     def note_arrived(self, low: int, held: float, mask: bytes, now: float) -> None:
-        """Takes what the other end tells of what arrived there: the newest counter, by its lowest bits, and which before it."""
+        """Take an acknowledgement: the newest received counter by its lowest bits, and a mask of those before it."""
         newest = self.aead.counter - (self.aead.counter - low & 0xFFFFFFFF)
         if newest <= 0:
             return
@@ -418,7 +421,7 @@ class Path:
                 self.pace.note_round(self.trips.mean or ROUND)
 
     def frames(self, text: bytes, begin: int, counter: int, now: float, was_validated: bool) -> Iterator[tuple[int, bytes]]:
-        """What stands behind the head of a packet, and notes when that has to be told: at once where the path wasn't sound."""
+        """Yield the frames after the head of a packet, and schedule its acknowledgement: at once if the path was not validated."""
         wants, held, asks = False, HELD, b""
         for kind, numbers, chunk in frames_in(text, begin):
             if kind in (CHUNK_KIND, ONCE_KIND):
@@ -438,11 +441,11 @@ class Path:
         if wants:
             self.arrivals.want(counter, now, held if was_validated else 0.0)
         if asks == ASKS_LARGE and not self.aead.is_near:
-            # This asks back, while it isn't known to arrive.
+            # This includes a request in return, until packets are known to arrive.
             self.send_packet(now, asks=ASKS_LARGE)
 
     def take_chunk(self, numbers: tuple[int, ...], chunk: bytes) -> Iterator[tuple[int, bytes]]:
-        """What a chunk brings; of peer 0 what of it is new."""
+        """Yield the contents of a chunk; for peer 0 only the new part."""
         peer, number, index, count, _ = numbers
         for text in self.batches.take(peer, number, index, count, chunk):
             new = text if peer else self.states.news(text)

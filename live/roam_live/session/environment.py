@@ -1,5 +1,8 @@
-"""What an attach brings to a session: the agent of ssh, by a link in the session's folder, and what its environment tells of a display and
-of where the person comes from, which new panes have."""
+"""The environment that an attaching front end passes to a session.
+
+It points a symlink in the session's folder at the user's ssh agent. It also sends the variables of the display and of the ssh connection;
+new panes inherit them.
+"""
 from __future__ import annotations
 
 import os
@@ -23,41 +26,41 @@ if TYPE_CHECKING:
     from roam_live.protocol.session_interface import AnySession
     from roam_live.session.folder import SessionFolder
 
-# The variables whose values are brought, and what one is that isn't set. The longest stands in a line in hexadecimal.
+# The variables whose values are sent, and the word for an unset one. A line contains the longest value in hexadecimal.
 NAMES = ("DISPLAY", "WAYLAND_DISPLAY", "SSH_CONNECTION")
 LONGEST_VALUE = 112
 NONE = "none"
 
-# The word by which a value is brought to the pty host, and that by which it is asked what new panes have, and tells it.
+# The word of a line that sends a value to the pty host, and the word that requests the values of new panes.
 ENVIRONMENT = "environment"
 
-# What names the agent of ssh, and the name of the link to it in a session's folder.
+# The variable of the ssh agent, and the name of its symlink in a session's folder.
 AGENT, LINK = "SSH_AUTH_SOCK", "agent"
 
-# How the tool is called that stands for a server of another machine.
+# The names of the relay tool, which replaces the server of a remote session.
 RELAYS = (b"relay", b"roam-relay")
 
-# A path leads over so many links at most, by the system's own rule.
+# The most links in a path, by the system's own limit.
 MOST_LINKS = 40
 
 
 def tellable(value: str) -> str:
-    """A value where it can be told, as 1 to 112 printable characters of ASCII; else nothing, as of one that isn't set."""
+    """Return a value that can be sent: 1 to 112 printable ASCII characters; nothing for others and for an unset one."""
     return value if len(value) <= LONGEST_VALUE and all(" " <= letter <= "~" for letter in value) else ""
 
 
 def own_values() -> dict[str, str]:
-    """The values of this process's environment; those that aren't set, or can't be told, are nothing."""
+    """Return the values in this process's environment; empty if unset or not sendable."""
     return {name: tellable(os.environ.get(name, "")) for name in NAMES}
 
 
 def word_of(value: str) -> str:
-    """The word that tells a value."""
+    """Return the word that encodes a value."""
     return value.encode("ascii").hex() or NONE
 
 
 def value_in(word: str) -> str | None:
-    """The value that a word tells, nothing where it tells that none is set; None where it tells neither."""
+    """Decode the wire form of a value: "" if the variable is unset, None if the word is invalid."""
     if word == NONE:
         return ""
     if len(word) % 2 or not all(letter in "0123456789abcdef" for letter in word):
@@ -66,18 +69,18 @@ def value_in(word: str) -> str | None:
 
 
 def value_lines(word: str, values: dict[str, str]) -> list[str]:
-    """The lines that tell values behind a word."""
+    """Return lines of a word, a variable and its value."""
     return [f"{word} {name} {word_of(value)}" for name, value in values.items()]
 
 
 class PaneEnvironment:
-    """The values that new panes have: those that were brought last, and what this process's environment has of those that never were."""
+    """The values for new panes: those sent last, else those in this process's environment."""
 
     def __init__(self, values: dict[str, str] | None = None) -> None:
         self.values = own_values() if values is None else values
 
     def take(self, line: str, leads: str = ENVIRONMENT) -> bool:
-        """Takes the value that a line tells behind a word, and tells whether it is such a line."""
+        """Take a value from a line with this word, and return True if the line is one."""
         word, _, rest = line.partition(" ")
         name, _, told = rest.partition(" ")
         value = value_in(told)
@@ -87,11 +90,11 @@ class PaneEnvironment:
         return True
 
     def lines(self) -> list[str]:
-        """The lines that tell them to who asks."""
+        """Return the lines that answer a request for them."""
         return value_lines(ENVIRONMENT, self.values)
 
     def set_values(self) -> dict[str, str]:
-        """Those that are set."""
+        """Return the values that are set."""
         return {name: value for name, value in self.values.items() if value}
 
 
@@ -99,12 +102,12 @@ class PaneEnvironment:
 
 
 def link_of(folder: str | os.PathLike[str]) -> str:
-    """The link to the agent in a session's folder."""
+    """Return the path of the agent symlink in a session's folder."""
     return os.path.join(os.path.abspath(folder), LINK)
 
 
 def is_socket(path: str, is_own: bool) -> bool:
-    """Whether a whole path leads to a socket; to one of this user where that is asked."""
+    """Return True if an absolute path leads to a socket, and to one of this user if `is_own`."""
     try:
         found = os.stat(path)
     except OSError:
@@ -113,7 +116,7 @@ def is_socket(path: str, is_own: bool) -> bool:
 
 
 def leads_over(path: str, link: str) -> bool:
-    """Whether a path leads over this link, which would lead to itself then."""
+    """Return True if a path leads over this link. The link would then lead to itself."""
     for _ in range(MOST_LINKS):
         try:
             if os.path.samestat(os.lstat(path), os.lstat(link)):
@@ -125,8 +128,10 @@ def leads_over(path: str, link: str) -> bool:
 
 
 def renew_agent(folder: str | os.PathLike[str]) -> None:
-    """Has the link in a session's folder lead to the agent that this process's environment names, a socket of this user; where none is, or
-    it can't be, the link stays as it was."""
+    """Point the symlink of a session's folder at the agent in this process's environment, a socket of this user.
+
+    Without such a socket the symlink stays unchanged.
+    """
     path, link = os.environ.get(AGENT, ""), link_of(folder)
     if not is_own_folder(folder) or not is_socket(path, True) or leads_over(path, link):
         return
@@ -142,23 +147,25 @@ def renew_agent(folder: str | os.PathLike[str]) -> None:
 
 
 def begin_agent(folder: str | os.PathLike[str]) -> None:
-    """Has the link lead there where none is: one that is there may be of an attach that came later."""
+    """Create the symlink if it is absent. An existing one may be of a later attach."""
     if not os.path.lexists(link_of(folder)):
         renew_agent(folder)
 
 
 def agent_in(folder: str | os.PathLike[str]) -> str:
-    """What names the agent in a new pane: the link, also where an attach has to bring one still; while there is none, a socket that this
-    process's environment names and no link leads to, as one of another user."""
+    """Return the agent path for a new pane: the symlink, even if its target comes with a later attach.
+
+    While there is no symlink, return the socket in this process's environment that no symlink leads to, such as one of another user.
+    """
     link, own = link_of(folder), os.environ.get(AGENT, "")
     return own if not os.path.lexists(link) and is_socket(own, False) else link
 
 
-# ---- who brings, and who asks
+# ---- sending and requesting
 
 
 def is_relayed(folder: str | os.PathLike[str]) -> bool:
-    """Whether a relay to another machine stands for the server of a folder, as its process's words tell."""
+    """Return True if a near relay replaces the server of a folder, by its process's command line."""
     try:
         with connected_now(os.path.join(folder, "clients")) as peer, open(f"/proc/{SocketPeer.of(peer).process}/cmdline", "rb") as told:
             words = told.read().split(b"\0")
@@ -168,8 +175,10 @@ def is_relayed(folder: str | os.PathLike[str]) -> bool:
 
 
 def environment_lines(session: AnySession, is_read_only: bool) -> list[str]:
-    """Renews the link of a session, and gives the lines by which this terminal brings its values; nothing by one that only watches, or to
-    a session of another machine, to which the far end brings what it has there."""
+    """Renew the agent symlink of a session, and return the lines that send this terminal's values.
+
+    A read-only terminal sends nothing, and neither does one of a remote session. The far end sends the values there.
+    """
     if is_read_only or session.folder is None or session.common is None or session.served != "server" or is_relayed(session.folder):
         return []
     renew_agent(session.common)
@@ -177,7 +186,7 @@ def environment_lines(session: AnySession, is_read_only: bool) -> list[str]:
 
 
 def send_environment(session: SessionFolder) -> None:
-    """Brings what this process has to a session, whose host reads it once it can; one that isn't there yet is spawned with that."""
+    """Send this process's environment to a session, whose host reads it once it can; a host still to be spawned inherits it."""
     lines = environment_lines(session, False)
     with suppress(OSError), connected_now(session.common / "host") as peer:
         peer.send(joined(lines))
@@ -189,7 +198,7 @@ def joined(lines: Iterable[str]) -> bytes:
 
 
 def asked_values(session: SessionFolder) -> dict[str, str]:
-    """The values that new panes of a session have, by its host; Fault tells why they aren't known."""
+    """Return the values that new panes of a session have, from its host; Fault gives the reason if they are unknown."""
     try:
         with connected_in(session.common / "host", ASKED) as peer:
             peer.send(joined([ENVIRONMENT]))
@@ -202,7 +211,7 @@ def asked_values(session: SessionFolder) -> dict[str, str]:
 
 
 def read_environment(peer: socket.socket, end: float) -> PaneEnvironment | None:
-    """What a host that was asked tells until a moment; None where that isn't all."""
+    """Return the values that a host reports before a deadline; None if they are incomplete."""
     told, left, lines = PaneEnvironment(), set(NAMES), LineReader()
     while left and comes(peer, max(0.0, end - time.monotonic())):
         heard = lines.read(peer.fileno())
@@ -213,7 +222,7 @@ def read_environment(peer: socket.socket, end: float) -> PaneEnvironment | None:
 
 
 def shell_lines(session: SessionFolder) -> list[str]:
-    """The lines by which a shell has what new panes of a session have; whatever was brought, it runs nothing else."""
+    """Return the lines that set a shell to the environment of a session's new panes, and that run nothing else, whatever the values are."""
     import shlex
 
     values = asked_values(session)

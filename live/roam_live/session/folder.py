@@ -1,4 +1,4 @@
-"""A folder of a session, or of one of its windows: how the processes there are found, cleaned up after and listed."""
+"""A folder of a session, or of one of its windows: its processes, its clean-up, and its line in lists."""
 from __future__ import annotations
 
 import os
@@ -26,31 +26,31 @@ if TYPE_CHECKING:
     from roam_live.protocol.panes import Places
     from roam_live.session.survey import Survey
 
-# So many seconds it is waited for being told whether there is room for a client, before it is spawned: a person waits for that.
+# Seconds to wait for the number of free clients before a client is spawned. The user waits too.
 ROOM_ASKED = 0.25
 
-# So many seconds the log of a session that has ended stays; and the files of which a process that was killed while it wrote one leaves
-# another, with its number behind the name.
+# Seconds that the log of an ended session stays. Then the files that are written by way of a second file, whose name has a pid at its end;
+# a killed process leaves that one.
 LOG_KEPT = 86400.0
 WRITTEN = ("ended", "state.json", "session")
 
-# From so many clients on `mux ls` tells how many a server knows.
+# From this many clients on, `mux ls` prints the number that a server knows.
 MANY_CLIENTS = 32
 
-# So many columns a name has in `mux ls` at least.
+# The least columns of a name in `mux ls`.
 LEAST_NAME = 12
 
-# So many characters of another build's name are shown.
+# The most characters of another build's name that are shown.
 LONGEST_BUILD = 60
 
-# What `mux ls` says of a session that did not say how many terminals it has.
+# `mux ls` adds this for a session that does not report its terminals.
 NO_ANSWER = ", its pty host does not answer"
 
 SOCKETS = ("clients", "panes", "terminals", "host", *(f"p{pane}" for pane in range(1, 10)))
 
 
 class SessionFolder(Processes):
-    """A folder in which processes listen: of a session, or of a window. What a session is and has its kinds tell."""
+    """A folder with listening processes, of a session or of a window. The subclasses define the rest."""
 
     # The roles of the processes that listen in the folder.
     roles: tuple[str, ...] = ("server", "client")
@@ -58,7 +58,7 @@ class SessionFolder(Processes):
     def __init__(self, folder: str | os.PathLike[str], name: str | None = None, server: int | None = None) -> None:
         super().__init__(folder, server)
         self.name = name or self.folder.name
-        # Whether its processes were found by its sockets.
+        # True if its processes were found by its sockets.
         self.is_found = False
         # The folder of the session, and the number of the window, 0 if it has none.
         self.common = self.folder
@@ -77,7 +77,7 @@ class SessionFolder(Processes):
         raise NotImplementedError
 
     def window(self, number: int | None = None) -> SessionFolder:
-        """Return a window by its number, else the one where somebody was last; Fault if it isn't there."""
+        """Return a window by its number, else the one used last; Fault if it does not exist."""
         raise NotImplementedError
 
     def whole_session(self) -> SessionFolder:
@@ -85,59 +85,63 @@ class SessionFolder(Processes):
         return self
 
     def title(self) -> str:
-        """What it is called as a window; nothing where it has no name."""
+        """Return its name as a window; nothing if it has none."""
         return ""
 
-    # ---- what is known of it
+    # ---- its known state
 
     def id(self) -> str:
-        """The session's id, where it is known."""
+        """Return the session's id, if known."""
         try:
             return (self.folder / "session").read_text(encoding="utf-8").strip()
         except OSError:
             return ""
 
     def places(self, seconds: float = ASKED) -> Places | None:
-        """Where its panes are, asked now; None where nobody tells it in so many seconds, as in a folder that another user made in its
-        place."""
+        """Query the positions of its panes; None without an answer within so many seconds.
+
+        That includes a folder that another user made in its place.
+        """
         return asked_places(self.folder / "panes", seconds) if is_own_folder(self.folder) else None
 
     def is_served(self) -> bool:
-        """Whether a server is there, or a relay to one."""
+        """Return True if a server is there, or a relay to one."""
         return is_listened(self.folder / "clients")
 
     def busy(self) -> dict[int, str] | None:
-        """Return the panes in which something else than a shell runs, with its name; None if that is unknown."""
+        """Return the panes that run a program other than a shell, with its name; None if unknown."""
         return None
 
     def busy_programs(self) -> dict[tuple[int, int], str] | None:
-        """The same by windows and panes; 0 is the one of a session that has no others."""
+        """Return the same by windows and panes; 0 is the window of a session with only one."""
         busy = self.busy()
         return None if busy is None else {(0, pane): name for pane, name in busy.items()}
 
     def ending(self) -> tuple[str, int]:
-        """What is said where the process that serves it has ended, and the status: who ends it on purpose notes so before."""
+        """Return the message and exit status once its serving process has ended. An intended end was recorded before."""
         if self.met and end_words(*self.met) in self.whole_session().ended().splitlines():
             return "[the session has ended]", 0
         return f"[the server was killed or failed, and its session is gone; {self.log} may say why]", 1
 
     def ended(self) -> str:
-        """What is noted of an end: the process that served and when it began; nothing where nothing is."""
+        """Return the record of an end: the serving process and its start time; nothing without one."""
         try:
             return (self.folder / "ended").read_text(encoding="utf-8").strip()
         except (OSError, ValueError):
             return ""
 
     def note_end(self) -> None:
-        """Notes that the process that serves it is about to be ended on purpose, so that who follows it tells no fault."""
+        """Record that its serving process is about to be ended on purpose, so that followers do not report a failure."""
         if self.runs() and self.met:
             note_ends(str(self.common), [end_words(*self.met)])
 
-    # ---- whether it is there
+    # ---- its presence
 
     def find(self) -> bool:
-        """Whether it runs: as is noted, or else as the process tells that answers at its socket. Where the note is lost, as to a cleaner of
-        old files, its processes are known again from then on."""
+        """Return True if it runs, by its note or else by the process that answers at its socket.
+
+        If the note is lost, for example to a cleaner of old files, its processes are known again afterwards.
+        """
         if self.runs():
             return True
         self.demand_read()
@@ -155,46 +159,46 @@ class SessionFolder(Processes):
         return self.runs()
 
     def holder(self) -> int | None:
-        """The process that serves, by the folder that it holds, where neither a note nor a socket is left; None where it holds none."""
+        """Return the serving process from the lock on its folder, for a folder without note and socket; None if it is unlocked."""
         return None
 
     def demand(self) -> None:
-        """Refuses where it doesn't run."""
+        """Raise Fault unless it runs."""
         if not self.find():
             raise Fault(f"no session {self.name} is running; `mux ls` lists sessions")
 
     def note_found(self) -> None:
-        """Notes again what was found by its sockets, where the note is lost; its lock is held."""
+        """Write a lost note again from the processes found at its sockets. The caller has its lock."""
         if self.is_found:
             self.write_note()
 
-    # ---- what belongs to it
+    # ---- its processes
 
     def launch(self, command: Iterable[str] = ()) -> None:
-        """Launches what serves the session, and the pty host, with a command in place of each shell; all or nothing."""
+        """Start the session's serving process and the pty host, with a command in place of each shell; all or nothing."""
         raise NotImplementedError
 
     def demand_ready(self) -> None:
-        """Sees that the pty host is there, where it was spawned just now."""
+        """Check that the pty host runs, if it was spawned just now."""
 
     def demand_host(self) -> None:
-        """Sees that the pty host runs, where it is here."""
+        """Check that the pty host runs, if it is on this machine."""
 
     def spawn_client(self) -> None:
-        """Spawns the client process of this machine's terminals."""
+        """Spawn the client process of this machine's terminals."""
         self.terminals.unlink(missing_ok=True)
         self.state = self.state or {"version": WINDOWS_VERSION}
         self.spawned("client", client_words(self.folder))
 
     def demand_room(self) -> None:
-        """Refuses where the server knows as many clients as it ever does."""
+        """Raise Fault if the server has accepted its last client."""
         places = self.places(ROOM_ASKED)
         if places and places.is_full():
             raise Fault(f"session {self.name} has used its {MOST_CLIENTS} clients and accepts no more; its programs "
                         f"keep running, and `mux kill {self.name}` ends it")
 
     def demand_client(self) -> None:
-        """Sees that the client of this machine's terminals runs, and is ready."""
+        """Check that the client of this machine's terminals runs, and is ready."""
         before = self.logged()
         if not self.has_client():
             self.demand_room()
@@ -202,28 +206,27 @@ class SessionFolder(Processes):
             self.wait_for("client", before, lambda: is_listened(self.terminals))
 
     def has_client(self) -> bool:
-        """Return True if a client process for this machine's terminals is there, as is noted or as its socket tells."""
+        """Return True if a client process for this machine's terminals runs, by its note or its socket."""
         if is_listened(self.terminals):
             return True
         client = self.process("client")
-        # One that runs for long and has no socket left goes on with the terminals that it has, and is found by no other.
+        # One that runs for long without a socket continues with its terminals, and is found by no other.
         return client is not None and (os.path.lexists(self.terminals) or age_of(client) < START_WAIT)
 
     def revive(self) -> None:
-        """Starts the client of the terminals anew, where it has ended, and nobody else does."""
+        """Restart the client process if it has ended, unless somebody else does."""
         with suppress(BlockingIOError), self.locked(may_wait=False):
             if not self.has_client():
                 self.spawn_client()
 
     def revive_host(self) -> bool:
-        """Spawns the pty host anew where it has ended, and is here; tells whether it runs."""
+        """Restart the pty host if it has ended and belongs here, and return True if it runs."""
         return False
 
     # ---- its end
 
     def clean(self) -> None:
-        """Removes what a session that doesn't run any more left, but for its log and the note of its end. Where somebody answers still
-        nothing is removed."""
+        """Remove the files of an ended session except its log and the record of its end. If a process still answers, remove nothing."""
         if self.is_served():
             raise Fault(f"a process answers at {self.folder / 'clients'}; nothing was removed there")
         relays = self.folder / "relays"
@@ -232,31 +235,30 @@ class SessionFolder(Processes):
             path.unlink(missing_ok=True)
 
     def end_all(self) -> None:
-        """Ends its processes."""
+        """End its processes."""
         self.note_end()
         for role in (self.served, *self.roles):
             self.end(role)
 
     def kill(self) -> None:
-        """Ends what is left of the session, and removes it; its lock is held."""
+        """End the rest of the session, and remove it. The caller has its lock."""
         self.end_all()
         self.clean()
 
     def tidy(self) -> None:
-        """Removes what is left of a session that has ended; its lock is held, since one that is being spawned looks like that too."""
+        """Remove the rest of an ended session. The caller has its lock, since a starting session looks the same."""
         if not self.find():
             self.kill()
             with suppress(OSError):
                 self.leave()
 
     def leave(self) -> None:
-        """Remove the folder of an ended session, unless a front end still has to read how it ended. A log that says something stays for a
-        day."""
+        """Remove the folder of an ended session, unless a front end still has to read how it ended. A log with contents stays for a day."""
         front_ends, ended, relays = self.folder / FRONT_ENDS, self.folder / "ended", self.folder / "relays"
         if has_front_ends(self.common) or is_locked(self.folder):
             return
         if self.log.exists() and (front_ends.exists() or ended.exists()):
-            # It has ended just now.
+            # It has just ended.
             os.utime(self.log)
         for path in [ended, front_ends, *filter(is_half_written, self.folder.iterdir())]:
             path.unlink(missing_ok=True)
@@ -269,20 +271,20 @@ class SessionFolder(Processes):
             self.folder.rmdir()
 
     def await_end(self) -> None:
-        """Waits for the end of what ends soon once nothing is served, where there is such a process."""
+        """Wait for a process that ends soon after the server, if there is one."""
 
     def drop_ended(self) -> None:
-        """Cleans up after one that has ended, where nobody launches it anew."""
+        """Clean up after an ended session, unless somebody starts it anew."""
         with suppress(OSError), self.locked(may_wait=False):
             self.tidy()
 
     def close(self) -> None:
-        """Lets it go: its processes stay."""
+        """Release it: its processes stay."""
 
-    # ---- what `mux ls` says
+    # ---- its line in `mux ls`
 
     def is_listed(self) -> bool:
-        """Return True if it runs. One that has ended is cleaned up, unless somebody is launching it anew."""
+        """Return True if it runs. Clean up an ended one, unless somebody is restarting it."""
         if not self.find():
             self.drop_ended()
         return self.runs()
@@ -292,7 +294,7 @@ class SessionFolder(Processes):
         return windows[0]
 
     def line(self, survey: Survey, windows: list[SessionFolder], width: int = 0) -> str:
-        """Return the line of `mux ls`, by what the sockets of its windows answered; the name takes so many columns at least."""
+        """Return the line of `mux ls` from the answers of its windows' sockets. `width` pads the name."""
         places = [survey.places(window.folder) for window in windows]
         shown = survey.places(self.shown_window(windows).folder) if windows else None
         size = "{} by {}".format(*shown.area()) if shown else "-"
@@ -306,12 +308,12 @@ class SessionFolder(Processes):
         return f"{listed(self.name, size, panes, terminals, width)}{many_clients(places)}{more}{lacking}"
 
     def other_build(self) -> str:
-        """Return the build of roam with which its processes began, if that is another than this one; "" otherwise, or if it is unknown."""
+        """Return the build of roam with which its processes started, if it differs from this one; "" otherwise, or if unknown."""
         told = (self.state or {}).get(BUILD)
         return printable(told)[:LONGEST_BUILD] if isinstance(told, str) and told != identity() else ""
 
     def lacking(self) -> str:
-        """What `mux ls` says of the pty host, where that doesn't run."""
+        """Return the remark of `mux ls` on a pty host that does not run."""
         host = self.process("host")
         if host is None:
             return ", its pty host is not running"
@@ -319,20 +321,20 @@ class SessionFolder(Processes):
 
 
 def is_half_written(path: FilePath) -> bool:
-    """Return True if a process that was killed left this file, which has its number behind the name of the one that it wrote."""
+    """Return True if a killed process left this file, whose name has a pid after that of its target."""
     stem, _, suffix = path.name.rpartition(".")
     return stem in WRITTEN and suffix.isdigit()
 
 
 def listed(name: str, size: str, panes: int | None, terminals: int | None, width: int) -> str:
-    """Return the columns of `mux ls` that each session has; what is unknown is None."""
+    """Return the columns of `mux ls` that every session has. None marks an unknown value."""
     width = max(width, LEAST_NAME)
     has = "? panes" if panes is None else "1 pane" if panes == 1 else f"{panes} panes"
     return f"{name:{width}} {size:12} {has:8} {'?' if terminals is None else terminals} terminal{'' if terminals == 1 else 's'}"
 
 
 def many_clients(found: Iterable[Places | None]) -> str:
-    """What `mux ls` says of how many clients a server has had, where they are many; from some on no new one of another machine is taken."""
+    """Return the remark of `mux ls` on a server with many clients. Near its limit, it accepts no new client of another machine."""
     places = max((one for one in found if one), key=lambda one: one.clients, default=None)
     if not places or places.clients <= MANY_CLIENTS:
         return ""

@@ -1,4 +1,4 @@
-"""Which programs run in a session's panes, and where."""
+"""The programs that run in a session's panes, and their working folders."""
 from __future__ import annotations
 
 import os
@@ -12,13 +12,13 @@ TYPE_CHECKING = False
 if TYPE_CHECKING:
     from collections.abc import Iterable, Iterator
 
-# What a pane may lose without a question.
+# Programs that a pane may lose without a confirmation.
 SHELLS = {"sh", "ash", "bash", "dash", "zsh", "fish", "ksh", "mksh", "csh", "tcsh", "nu", "xonsh", "elvish", "rc", "es"}
 
-# What tells a program in a pane which pane that is: the folder of its window, and its number there.
+# The variable that identifies a program's pane: its window's folder, and its number there.
 PANE = "ROAM_PANE"
 
-# Where a process's state, process group, session and foreground process group are in /proc/PID/stat, counted from 0 behind its name.
+# The positions of a process's state, process group, session and foreground process group in /proc/PID/stat, from 0 after its name.
 STATE, GROUP, SESSION, FOREGROUND = 0, 2, 3, 5
 
 # A question names at most so many jobs of a pane.
@@ -26,14 +26,16 @@ MOST_NAMED = 3
 
 
 def busy_panes(host: int, folder: str = "") -> dict[int, str] | None:
-    """The panes in which another program than a shell has the terminal, and its name, by the process that keeps the shells: of one
-    window, where its folder is named. None where the system doesn't tell, or tells of such a program and not in which pane it is."""
+    """Return the panes in which a program other than a shell has the terminal, and its name.
+
+    The pty host's pid selects them, and a folder a single window. None if the system hides them, or hides the pane of such a program.
+    """
     busy = busy_programs(host)
     return None if busy is None else {pane: name for (where, pane), name in busy.items() if folder in ("", where)}
 
 
 def busy_programs(host: int) -> dict[tuple[str, int], str] | None:
-    """The same of all windows, by their folders and the panes there."""
+    """Return the same for all windows, by their folders and panes."""
     try:
         own = FilePath(f"/proc/{host}/task/{host}/children").read_text(encoding="utf-8").split()
     except OSError:
@@ -46,7 +48,7 @@ def busy_programs(host: int) -> dict[tuple[str, int], str] | None:
             if pane is None:
                 return None
             found[pane] = names
-    # What is to become a pane's command isn't that yet, and other processes are none.
+    # A child that is about to execute a pane's command has no pane yet, and neither do other processes.
     found.pop(NOWHERE, None)
     return found
 
@@ -100,20 +102,22 @@ def is_behind(group: list[Process]) -> bool:
 
 
 def job_name(group: list[Process]) -> str:
-    """Name a process group by its leader, else by another of its processes, and say what it does if it isn't in front."""
+    """Name a process group by its leader or else another of its processes, and add its state unless it is in front."""
     name = name_of(next((process.number for process in group if process.number == process.group), group[0].number))
     if not is_behind(group):
         return name
     return f"{name} (stopped)" if all(process.state in "Tt" for process in group) else f"{name} (background)"
 
 
-# The pane of a process that is in none.
+# The pane of a process outside panes.
 NOWHERE = "", 0
 
 
 def pane_of(process: str) -> tuple[str, int] | None:
-    """The pane of a process, and the folder of its window, by its environment: nowhere where that names none, or the process has ended, and
-    None where it can't be read."""
+    """Return a process's window folder and pane from its environment.
+
+    Return NOWHERE if none is set or the process has ended, and None if the environment is unreadable.
+    """
     try:
         words = FilePath(f"/proc/{process}/environ").read_bytes().split(b"\0")
     except PermissionError:
@@ -125,18 +129,18 @@ def pane_of(process: str) -> tuple[str, int] | None:
 
 
 def pane_in(value: str) -> tuple[str, int]:
-    """The folder and the pane that a value of the environment names; nowhere where it names none."""
+    """Return the folder and the pane in a value of the environment; NOWHERE if it has none."""
     folder, _, pane = value.rpartition(":")
     return (folder, int(pane)) if pane.isascii() and pane.isdigit() and len(pane) == 1 and pane != "0" else NOWHERE
 
 
 def own_pane() -> tuple[str, int]:
-    """The pane in which this process runs, and the folder of its window; nowhere where it runs in none."""
+    """Return the window folder and pane of this process; NOWHERE if it runs outside panes."""
     return pane_in(os.environ.get(PANE, ""))
 
 
 def foreground(process: str) -> str:
-    """The printable name of the program that has the terminal of a process, as far as one is known; none where that process has ended."""
+    """Return the printable name of the foreground program on a process's terminal, as far as known; empty if the process has ended."""
     try:
         words = FilePath(f"/proc/{process}/stat").read_text(encoding="utf-8", errors="replace").rpartition(")")[2].split()
         state, group = words[0], words[FOREGROUND]
@@ -148,18 +152,18 @@ def foreground(process: str) -> str:
 
 
 def name_of(group: int | str) -> str:
-    """The printable name of the program that leads a process group."""
+    """Return the printable name of a process group's leading program."""
     try:
         name = FilePath(f"/proc/{group}/comm").read_bytes()[:-1].decode("utf-8", "replace")
     except OSError:
         # The first of several programs may have ended.
         name = ""
-    # A program may have given itself any name, also none.
+    # A program may have given itself any name, even an empty one.
     return printable(name) or "a program"
 
 
 def group_in_front(terminal: int) -> int | None:
-    """The process group that has a pseudo-terminal, by its other end; None where none has."""
+    """Return the foreground process group of a pseudo-terminal, from its master; None if it has none."""
     try:
         return os.tcgetpgrp(terminal) or None
     except OSError:
@@ -167,7 +171,7 @@ def group_in_front(terminal: int) -> int | None:
 
 
 def working_folder(processes: Iterable[int | None]) -> str:
-    """The working folder of the first of these processes of which it can be read and is there still; nothing where there is none."""
+    """Return the first readable working folder of these processes that still exists; nothing if there is none."""
     for process in processes:
         with suppress(OSError):
             folder = os.readlink(f"/proc/{process}/cwd")
@@ -177,15 +181,15 @@ def working_folder(processes: Iterable[int | None]) -> str:
 
 
 def is_shell(name: str) -> bool:
-    """Whether a program of this name is a shell."""
+    """Return True if a program of this name is a shell."""
     return name.lstrip("-") in SHELLS | {os.path.basename(os.environ.get("SHELL", ""))}
 
 
 def told(busy: dict[int, str]) -> str:
-    """Which programs run in which panes, in words."""
+    """Return the programs and their panes in words."""
     return " and ".join(f"{name} in pane {pane}" for pane, name in sorted(busy.items()))
 
 
 def told_in_windows(busy: dict[tuple[int, int], str]) -> str:
-    """Which programs run in which panes of which windows, in words."""
+    """Return the programs with their panes and windows in words."""
     return " and ".join(f"{name} in pane {pane} of window {window}" for (window, pane), name in sorted(busy.items()))

@@ -1,6 +1,6 @@
 """The lock that keeps a session's folder until all its front ends have read how the session ended.
 
-Each front end holds a shared lock on the file `front_ends`; the kernel releases it with the process.
+Each front end has a shared lock on the file `front_ends`. The kernel releases it with the process.
 """
 from __future__ import annotations
 
@@ -34,7 +34,7 @@ class FrontEndLock:
 
 
 def opened(folder: str | os.PathLike[str]) -> int | None:
-    """Return the open file that a front end locks; None if it can't be had, which is said."""
+    """Return the open file that a front end locks; None, with a message, if it fails to open."""
     if not os.path.isdir(folder):
         raise Fault(f"{folder} is not a directory")
     if not is_own_folder(folder):
@@ -50,7 +50,7 @@ def opened(folder: str | os.PathLike[str]) -> int | None:
 
 
 def has_front_ends(folder: str | os.PathLike[str]) -> bool:
-    """Return True if a front end keeps a session's folder, or that can't be known."""
+    """Return True if a front end keeps a session's folder, or if that is unknown."""
     try:
         end = os.open(os.path.join(folder, FRONT_ENDS), os.O_RDONLY | os.O_CLOEXEC | os.O_NOFOLLOW)
     except FileNotFoundError:

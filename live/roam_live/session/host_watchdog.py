@@ -1,4 +1,4 @@
-"""Sees the end of the pty host, and has it spawned anew; and tells whoever types where it is stopped."""
+"""Watches the pty host: restarts it after it ends, and warns users who type while it is stopped."""
 from __future__ import annotations
 
 import os
@@ -15,28 +15,27 @@ if TYPE_CHECKING:
 
     from roam_live.protocol.session_interface import HostedSession
 
-# So many seconds after its end the pty host is spawned anew: by the first it is known whether that is the session's end.
+# The pauses before an ended pty host is restarted. The first one shows if the session itself has ended.
 PAUSES = (0.3, 1, 2, 4, 8, 15)
 
-# So many seconds after something was typed it is looked whether it is stopped, and again while it is: whoever types is to know why nothing
-# comes of that.
+# Seconds from typed input to the check for a stopped host, and between later checks. A user who types needs the reason for the silence.
 LOOKS = 4.0
 LOOKED = "host is stopped"
 STOPPED = "the pty host is stopped; input waits for it"
 
 
 class HostWatchdog:
-    """The pty host of a session, where that is known: a call for each line that a person is to know."""
+    """The pty host of a session, if known. A call takes each line for the user."""
 
     def __init__(self, session: HostedSession, loop: Loop, tells: Callable[[str], object] = lambda line: None) -> None:
         self.session, self.loop, self.tells = session, loop, tells
         self.file: int | None = None
-        # How often in a row it ended soon, or couldn't be spawned.
+        # The number of early ends, or failed starts, in a row.
         self.retry = Retry(PAUSES)
         self.follow()
 
     def follow(self) -> None:
-        """Follows the process that runs now."""
+        """Watch the current process."""
         process = self.session.process("host")
         if process:
             self.file = opened_process(process)
@@ -44,30 +43,30 @@ class HostWatchdog:
         self.retry.begins(time.monotonic())
 
     def wait(self) -> float:
-        """Has it tried after a pause, which grows with each fault, and tells that pause."""
+        """Schedule a retry after a pause that grows with each failure, and return that pause."""
         pause = self.retry.fails()
         self.loop.later("host", pause, self.revive)
         return pause
 
     def stop(self) -> None:
-        """Spawns nothing any more, and looks at nothing."""
+        """Stop restarting and checking."""
         self.loop.drop("host")
         self.loop.drop(LOOKED)
 
     def typed(self) -> None:
-        """Takes note that something was typed."""
+        """Record that something was typed."""
         if LOOKED not in self.loop.due:
             self.loop.later(LOOKED, LOOKS, self.look)
 
     def look(self) -> None:
-        """Tells that it is stopped, where that is so, for as long as it is."""
+        """Report that the host is stopped, for as long as it is."""
         process = self.session.process("host")
         if process and is_stopped(process):
             self.tells(STOPPED)
             self.loop.later(LOOKED, LOOKS, self.look)
 
     def revive(self) -> None:
-        """Has the shells spawned anew."""
+        """Restart the pty host."""
         try:
             if self.session.revive_host():
                 self.follow()
@@ -77,11 +76,11 @@ class HostWatchdog:
             why = reason(fault).removeprefix(f"session {self.session.name}: ")
             self.tells(f"the shells have ended: {why}; next try in {self.wait()} s")
             return
-        # Another spawns them just now, or the session has ended.
+        # Another process is restarting it, or the session has ended.
         self.loop.later("host", PAUSES[1], self.revive)
 
     def ended(self) -> None:
-        """Takes note of an end, and tells of one that came soon after the start."""
+        """Record an end, and report one that came soon after the start."""
         if self.file is not None:
             self.loop.remove(self.file)
             os.close(self.file)

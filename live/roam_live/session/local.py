@@ -21,15 +21,15 @@ TYPE_CHECKING = False
 if TYPE_CHECKING:
     from collections.abc import Iterable
 
-# The window with which a session begins.
+# The first window of a session.
 FIRST = 1
 
-# So many seconds it is waited for what keeps a session, where nothing is left that it keeps.
+# Seconds to wait for the pty host once it has nothing left to serve.
 END_SOON = 1.0
 
 
 class LocalSession(SessionFolder):
-    """A session: its note has the pty host, which has the rest."""
+    """A session: its note has the pty host, which manages the rest."""
 
     served = "host"
     roles = ("host",)
@@ -42,26 +42,26 @@ class LocalSession(SessionFolder):
 
     @classmethod
     def named(cls, name: str) -> LocalSession:
-        """That of a name."""
+        """Return the session of a name."""
         check_name(name)
         return cls(base() / name)
 
     # ---- its windows
 
     def all_windows(self) -> list[Window]:
-        """The windows of which there are folders, in order, whether they run or not."""
+        """Return the windows with a folder, in order, running or not."""
         return [self.window_of(number) for number in numbers_in(str(self.folder_of_windows))]
 
     def window_of(self, number: int, server: int | None = None) -> Window:
-        """Return the window of a number, whether it is there or not."""
+        """Return the window of a number, existing or not."""
         return Window(self.folder_of_windows / str(number), server, self, number)
 
     def windows(self) -> list[SessionFolder]:
-        """The windows that run, in order."""
+        """Return the running windows, in order."""
         return [window for window in self.all_windows() if window.find() and not window.is_spare()]
 
     def window(self, number: int | None = None) -> SessionFolder:
-        """A window by its number, else the one where somebody was last; Fault where it isn't there."""
+        """Return a window by its number, else the one used last; Fault if it does not exist."""
         if number is not None:
             named = self.window_of(number) if number in numbers_in(str(self.folder_of_windows)) else None
             if not named or not named.find() or named.is_spare():
@@ -76,19 +76,22 @@ class LocalSession(SessionFolder):
         return next((window for window in there if window.number == last), there[0])
 
     def last(self) -> int:
-        """The window where somebody was last, as far as that is noted."""
+        """Return the number of the window used last, as far as it is recorded."""
         with suppress(OSError, ValueError):
             return int((self.folder_of_windows / "last").read_text(encoding="ascii")[:9])
         return 0
 
-    # ---- whether it is there
+    # ---- its presence
 
     def runs(self, role: str | None = None) -> bool:
-        """Whether the process of a role runs; where none is named, whether a window does, or the pty host."""
+        """Return True if the process of a role runs; without a role, if a window or the pty host does."""
         return super().runs(role) or role is None and any(window.runs() for window in self.all_windows())
 
     def find(self) -> bool:
-        """Whether it runs: as is noted, or else as the processes tell that answer at its sockets, which are known again from then on."""
+        """Return True if it runs, by its note or else by the processes that answer at its sockets.
+
+        Those are known again afterwards.
+        """
         if self.process(self.served):
             return True
         self.demand_read()
@@ -103,61 +106,61 @@ class LocalSession(SessionFolder):
         return bool(self.windows())
 
     def holder(self) -> int | None:
-        """The pty host, by the folder that it holds."""
+        """Return the pty host from the lock on its folder."""
         return holder_of(self.folder)
 
     def is_ready(self) -> bool:
-        """Whether a window is there, with the pty host."""
+        """Return True if a window and the pty host run."""
         return is_listened(self.folder / "host") and bool(self.windows())
 
-    # ---- what belongs to it
+    # ---- its processes
 
     def launch(self, command: Iterable[str] = ()) -> None:
-        """Launches the pty host, and the server of the first, with a command in place of each shell; all or nothing."""
+        """Start the pty host, and the first window's server, with a command in place of each shell; all or nothing."""
         self.clean()
         self.state = {"version": WINDOWS_VERSION, "command": list(command)}
         window = self.window_of(FIRST)
         window.name = self.name
         with self.whole():
-            # It takes longest, and waits for the server of the first window, which is spawned meanwhile.
+            # It takes longest, and waits for the server of the first window, which is spawned in parallel.
             self.spawn_host(["--first"])
             window.spawn_server()
 
     def demand_ready(self) -> None:
-        """Waits until the pty host has one."""
+        """Wait until the pty host has a window."""
         # A command that ends at once may have ended it already.
         self.wait_for("host", self.logged(), lambda: self.is_ready() or self.own["host"].poll() == 0)
 
     def spawn_host(self, more: Iterable[str] = ()) -> None:
-        """Spawns the pty host."""
+        """Spawn the pty host."""
         self.state = {**(self.state or {"version": WINDOWS_VERSION, "command": []}), BUILD: identity()}
         self.spawned("host", host_words(self.folder, self.state.get("command", ()), more))
 
     def demand_host(self) -> None:
-        """Sees that the pty host runs, and one of them is there."""
+        """Check that the pty host runs, and that there is a window."""
         if not self.runs("host"):
             before = self.logged()
             self.spawn_host()
             self.wait_for("host", before, self.is_ready)
 
     def demand_client(self) -> None:
-        """Sees that the client of the window runs where somebody was last, while there is one."""
+        """Check that the client process of the window used last runs, if there is a window."""
         if self.windows():
             self.window().demand_client()
 
     def revive_host(self) -> bool:
-        """Spawns the pty host anew where it has ended, and takes them over; tells whether it runs."""
+        """Restart the pty host if it has ended, and return True if it runs. It adopts the windows."""
         with suppress(BlockingIOError), self.locked(may_wait=False):
             if not self.runs("host") and self.find():
                 self.spawn_host()
         return self.runs("host")
 
     def busy(self) -> dict[int, str] | None:
-        """What runs in the panes of its windows is told by these."""
+        """Return None: each window reports its own panes."""
         return {}
 
     def busy_programs(self) -> dict[tuple[int, int], str] | None:
-        """The windows and panes in which another program than a shell runs, and its name; None where that isn't known."""
+        """Return the windows and panes that run a program other than a shell, with its name; None if unknown."""
         from roam_live.session.foreground import busy_programs
 
         host = self.process("host")
@@ -168,22 +171,22 @@ class LocalSession(SessionFolder):
     # ---- its end
 
     def undo(self) -> None:
-        """End what was spawned, with what that has spawned, and let what it left go."""
+        """End the spawned processes with their children, and remove their files."""
         self.end_all()
         super().undo()
 
     def await_end(self) -> None:
-        """Waits for the pty host, which ends soon once there are none."""
+        """Wait for the pty host, which ends soon without windows."""
         end = time.monotonic() + END_SOON
         while self.runs(self.served) and not self.windows() and time.monotonic() < end:
             time.sleep(0.01)
 
     def note_end(self) -> None:
-        """Notes that its windows' servers are about to be ended on purpose."""
+        """Record that its windows' servers are about to be ended on purpose."""
         note_ends(str(self.folder), [end_words(*window.met) for window in self.all_windows() if window.runs() and window.met])
 
     def end_all(self) -> None:
-        """Ends the host, which ends the windows, and those that it left."""
+        """End the host, which ends the windows, and then any that remain."""
         self.note_end()
         scrollback_processes = self.scrollback_processes()
         self.end(self.served)
@@ -192,7 +195,7 @@ class LocalSession(SessionFolder):
         end_left(scrollback_processes)
 
     def clean(self) -> None:
-        """Removes what a session that doesn't run any more left, but for its log and the note of its end."""
+        """Remove the files of an ended session except its log and the record of its end."""
         for window in self.all_windows():
             window.clean()
         (self.folder_of_windows / "last").unlink(missing_ok=True)
@@ -200,16 +203,16 @@ class LocalSession(SessionFolder):
             self.folder_of_windows.rmdir()
         super().clean()
 
-    # ---- what `mux ls` says
+    # ---- its line in `mux ls`
 
     def shown_window(self, windows: list[SessionFolder]) -> SessionFolder:
-        """Return the window where somebody was last."""
+        """Return the window used last."""
         last = self.last()
         return next((window for window in windows if window.number == last), windows[0])
 
 
 class Window(SessionFolder):
-    """A window: its server and its client, as they are noted in its folder.
+    """A window: its server and client process, from the note in its folder.
 
     One of a session has the session's lock, log and pty host. One whose server was started by hand has no session and the number 0; its pty
     host listens in its own folder and is never spawned here.
@@ -225,15 +228,15 @@ class Window(SessionFolder):
             self.roles = ("server", "host", "client")
 
     def whole_session(self) -> SessionFolder:
-        """The session of which this is a window, or itself."""
+        """Return the session of this window, or itself."""
         return self.session or self
 
     def windows(self) -> list[SessionFolder]:
-        """The windows of its session that run."""
+        """Return the running windows of its session."""
         return self.session.windows() if self.session else [self]
 
     def window(self, number: int | None = None) -> SessionFolder:
-        """A window of its session by its number, else this one."""
+        """Return a window of its session by its number, else this one."""
         if number in (None, self.number or 1):
             return self
         if not self.session:
@@ -241,7 +244,7 @@ class Window(SessionFolder):
         return self.session.window(number)
 
     def spawn_server(self) -> None:
-        """Spawns the server, in the window's folder, which is made."""
+        """Create the window's folder, and spawn the server in it."""
         for folder in (self.folder.parent, self.folder):
             folder.mkdir(mode=0o700, exist_ok=True)
         self.state = {"version": WINDOWS_VERSION}
@@ -254,76 +257,76 @@ class Window(SessionFolder):
             raise
 
     def is_spare(self) -> bool:
-        """Whether its server only stands ready, and it is no window: the mark in its folder may be lost, as to a cleaner of old files."""
+        """Return True if its server is only a spare and not a window. The mark in its folder may be lost to a cleaner of old files."""
         if (self.folder / SPARE).exists():
             return True
         is_joined = (self.state or {}).get(JOINED) or os.path.lexists(self.terminals)
         return not is_joined and is_spare_server(self.process("server"))
 
     def title(self) -> str:
-        """What it is called; nothing where it has no name."""
+        """Return its name; nothing if it has none."""
         try:
             return name_in((self.folder / "name").read_text(encoding="utf-8")[:512].strip()) or ""
         except (OSError, ValueError):
             return ""
 
-    # ---- what is known of it
+    # ---- its known state
 
     def process(self, role: str) -> int | None:
-        """The process of a role; None where none runs."""
+        """Return the process of a role; None if none runs."""
         if role == "host" and self.session:
             self.session.read()
             return self.session.process(role)
         return super().process(role)
 
     def busy(self) -> dict[int, str] | None:
-        """Return the panes in which something else than a shell runs, with its name; None if nothing tells which pty host it has."""
+        """Return the panes that run a program other than a shell, with its name; None if its pty host is unknown."""
         from roam_live.session.foreground import busy_panes
 
         host = self.process("host")
         if self.session:
             return busy_panes(host, str(self.folder)) if host else {}
         if host is None and not self.is_found and (self.served in (self.state or {}) or "host" in (self.state or {})):
-            # What kept its shells has ended.
+            # Its pty host has ended.
             return {}
         with suppress(Fault):
             host = self.listener(ROLES["host"].socket) if host is None else host
         return None if host is None else busy_panes(host)
 
-    # ---- what belongs to it
+    # ---- its processes
 
     def taken_lock(self, may_wait: bool) -> int:
-        """The session's lock, once this process has it."""
+        """Take and return the session's lock."""
         return self.session.taken_lock(may_wait) if self.session else super().taken_lock(may_wait)
 
     def launch(self, command: Iterable[str] = ()) -> None:
-        """Refuses: the pty host opens them."""
+        """Refuse: the pty host opens windows."""
         raise Fault(f"session {self.whole_session().name}: only its pty host opens windows")
 
     def demand_client(self) -> None:
-        """Sees that the client of this machine's terminals runs, and is ready; what was found by its sockets is noted again."""
+        """Check that this machine's client process is ready, and record again the processes found by its sockets."""
         self.note_found()
         super().demand_client()
 
     def demand_host(self) -> None:
-        """Sees that the pty host runs."""
+        """Check that the pty host runs."""
         if self.session:
             self.session.read()
             self.session.demand_host()
 
     def revive_host(self) -> bool:
-        """Spawns the pty host anew, where it has ended; tells whether it runs."""
+        """Restart the pty host if it has ended, and return True if it runs."""
         return self.session is not None and self.session.revive_host()
 
     def end_all(self) -> None:
-        """Ends its processes."""
+        """End its processes."""
         if not self.session:
             self.note_end()
         for role in self.roles:
             self.end(role)
 
     def clean(self) -> None:
-        """Removes what it left, with its folder."""
+        """Remove its files, with its folder."""
         super().clean()
         for name in ("name", SPARE):
             (self.folder / name).unlink(missing_ok=True)
@@ -333,7 +336,7 @@ class Window(SessionFolder):
 
 
 def command_of(host: int | None, folder: FilePath) -> list[str]:
-    """The command that a process keeps in each pane of a folder's session; none where it is the shell, or isn't known."""
+    """Return the command that a pty host runs in each pane of a folder's session; empty for the shell, or if unknown."""
     try:
         words = FilePath(f"/proc/{host}/cmdline").read_bytes().split(b"\0")[:-1]
         return [os.fsdecode(word) for word in words[words.index(os.fsencode(folder)) + 1 :]]

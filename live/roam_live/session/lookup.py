@@ -1,4 +1,4 @@
-"""Finds sessions by name or folder, and removes what ended ones left."""
+"""Finds sessions by name or folder, and removes the rest of ended ones."""
 from __future__ import annotations
 
 import os
@@ -18,7 +18,7 @@ if TYPE_CHECKING:
 
 
 def session_named(name: str) -> SessionFolder:
-    """The session of a name: one of this machine, or what stands here for one of another."""
+    """Return the session of a name: one of this machine, or the local end of a remote one."""
     if not is_near_name(name):
         session = LocalSession.named(name)
         if is_by_hand(session.folder):
@@ -37,18 +37,18 @@ def is_by_hand(folder: FilePath) -> bool:
 
 
 def sessions_here() -> list[SessionFolder]:
-    """The sessions of which there are folders, by name: those of other machines behind those of this one."""
+    """Return the sessions with a folder, by name: local ones first, then remote ones."""
     folders = sorted(path for path in base().iterdir() if path.is_dir() and len(str(path / "terminals")) <= LONGEST_PATH)
     own: list[SessionFolder] = []
     for path in folders:
-        # One whose path is too long for its windows' sockets can't be one.
+        # A name whose path is too long for its windows' sockets belongs to no session.
         with suppress(Fault):
             own += [LocalSession(path)] if is_name(path.name) and not is_by_hand(path) else []
     return own + [RemoteSession(path) for path in folders if is_near_name(path.name)]
 
 
 def sweep() -> None:
-    """Cleans up after the sessions of this machine that ended while nobody was there who did."""
+    """Clean up after local sessions that ended without anybody to do it."""
     for session in sessions_here():
         with suppress(Fault):
             if session.served != RemoteSession.served and not session.find():
@@ -56,7 +56,7 @@ def sweep() -> None:
 
 
 def window_in(folder: str | os.PathLike[str], server: int | None = None) -> Window:
-    """What is served in a folder: a window of a session, where it is that of one, or one that was started by hand."""
+    """Return the window in a folder: one of a session, or one that was started by hand."""
     path = FilePath(os.path.abspath(folder))
     if path.parent.name == WINDOWS and is_number(path.name) and is_name(path.parent.parent.name):
         return LocalSession(path.parent.parent).window_of(int(path.name), server)

@@ -1,5 +1,4 @@
-"""Names of sessions, the folder that has the folders of all, the folders of a session's windows, and the notes of processes there that are
-ended on purpose."""
+"""Names of sessions, the folder that contains their folders, the folders of their windows, and the records of intended ends."""
 from __future__ import annotations
 
 import os
@@ -14,20 +13,23 @@ from roam_live.common.text import decimal_in
 
 LONGEST_NAME = 32
 
-# What stands here for a session of another machine: ssh, the host, the session, and a number where ssh is called in another way.
+# The local name of a remote session: ssh, the host, the session, and a number if ssh is run in another way.
 NEAR_NAME = LazyPattern(r"ssh:[A-Za-z0-9_.@-]{1,128}:[A-Za-z0-9_-]{1,32}(:[0-9a-f]{8})?")
 
-# A socket's path has at most so many bytes.
+# The most bytes of a socket's path.
 LONGEST_PATH = 107
 
 
-# Where sessions lie if XDG_RUNTIME_DIR names no folder.
+# Sessions are here if XDG_RUNTIME_DIR names no folder.
 TMP = "/tmp"
 
 
 def runtime_folder() -> FilePath | None:
-    """The folder that XDG_RUNTIME_DIR offers; one of another user, as after `su`, is told of and not used, and one that others may write,
-    who could put another in the place of what lies there, is refused."""
+    """Return the folder of XDG_RUNTIME_DIR.
+
+    One of another user, as after `su`, is reported and not used. One that others may write is refused, since they could replace its
+    contents.
+    """
     chosen = os.environ.get("XDG_RUNTIME_DIR")
     if not chosen:
         return None
@@ -39,22 +41,22 @@ def runtime_folder() -> FilePath | None:
     return None
 
 
-# The folder of the user's sessions, once it was looked at.
+# The folder of the user's sessions, once it was checked.
 bases: list[FilePath] = []
 
 
 def base() -> FilePath:
-    """The folder of the user's sessions, which is made where it isn't there, and refused where others may enter it."""
+    """Return the folder of the user's sessions. Create it if absent; refuse it if others may enter it."""
     if not bases:
         bases.append(made_base())
     return bases[0]
 
 
 def made_base() -> FilePath:
-    """Make the folder of the user's sessions unless it is there, and return it; Fault if others may enter it."""
+    """Create the folder of the user's sessions if necessary, and return it; Fault if others may enter it."""
     path = runtime_folder() or FilePath(f"{TMP}/roam-{os.getuid()}")
     try:
-        # What is there and no folder is refused below, as what it is.
+        # Anything there except a folder is refused below, with its real cause.
         with suppress(FileExistsError):
             path.mkdir(mode=0o700)
         found = os.lstat(path)
@@ -71,49 +73,49 @@ def is_name(word: str) -> bool:
 
 
 def is_near_name(word: str) -> bool:
-    """Return True if a word names what stands here for a session of another machine."""
+    """Return True if a word is the local name of a remote session."""
     return word.startswith("ssh:") and NEAR_NAME.fullmatch(word) is not None
 
 
 def check_name(name: str) -> None:
-    """Refuses what can't name a session."""
+    """Refuse an invalid session name."""
     if not is_name(name):
         raise Fault(f"{name!r} is not a valid name: use at most 32 letters, digits, - and _")
 
 
-# What lies in a window's folder while its server only stands ready.
+# This file marks a window's folder while its server is only a spare.
 SPARE = "spare"
 
-# What is noted of a window's processes once it is one, so that it is known where that mark was lost.
+# This key in a window's note replaces a lost mark once the spare has become a window.
 JOINED = "joined"
 
-# What the environment of such a server has, also once it is a window's.
+# The environment of a spare server has this variable, also after it has become a window's.
 SPARE_VARIABLE = "ROAM_SPARE"
 
-# In a window's folder: which client processes of other machines its server knows.
+# A file in a window's folder: the client processes of other machines that its server knows.
 REMOTE_CLIENTS = "remote_clients"
 
-# In the note of a session: the build of roam whose pty host or relay was started last.
+# The key in a session's note for the build of roam that last started its pty host or relay.
 BUILD = "build"
 
-# What a note of such a session is like.
+# The format version of such a session's note.
 WINDOWS_VERSION = 4
 
-# The folder in a session's in which those of its windows lie, and what names one.
+# The folder of window folders in a session's folder, and the numbers that name them.
 WINDOWS = "w"
 HIGHEST_NUMBER = 99
 
-# So many of those that were ended on purpose are noted.
+# The most intended ends that are recorded.
 MOST_ENDED = 128
 
 
 def windows_folder(common: str) -> str:
-    """The folder in which those of a session's windows lie."""
+    """Return the folder that contains the folders of a session's windows."""
     return os.path.join(common, WINDOWS)
 
 
 def window_folder(common: str, number: int) -> str:
-    """The folder of a window."""
+    """Return the folder of a window."""
     return os.path.join(windows_folder(common), str(number))
 
 
@@ -123,7 +125,7 @@ def is_number(word: str) -> bool:
 
 
 def numbers_in(folder: str) -> list[int]:
-    """The windows of which there are folders, in order; Fault where it can't be told."""
+    """Return the numbers of the window folders, in order; Fault if they are unreadable."""
     try:
         return sorted(int(name) for name in os.listdir(folder) if is_number(name))
     except OSError as fault:
@@ -133,7 +135,7 @@ def numbers_in(folder: str) -> list[int]:
 
 
 def is_spare_server(server: int | None) -> bool:
-    """Whether a server was spawned to stand ready for a window."""
+    """Return True if a server was spawned as a spare for a window."""
     with suppress(OSError):
         with open(f"/proc/{server}/environ", "rb") as words:
             return f"{SPARE_VARIABLE}=1".encode() in words.read().split(b"\0")
@@ -141,7 +143,7 @@ def is_spare_server(server: int | None) -> bool:
 
 
 def note_ends(common: str, lines: list[str]) -> None:
-    """Notes in a session's folder that processes are ended on purpose, before they are: the last of them stay."""
+    """Record in a session's folder that processes are about to be ended on purpose, up to the limit."""
     if not lines:
         return
     path = os.path.join(common, "ended")

@@ -1,4 +1,4 @@
-"""A session whose server has a UDP port of loopback, where somebody knows its id: no folder keeps others out there."""
+"""A session whose server has a UDP port of loopback. Anybody who knows its id can connect, since no folder protects it."""
 from __future__ import annotations
 
 import shutil
@@ -10,12 +10,12 @@ from roam_live.common.file_path import FilePath
 from roam_live.protocol.server_address import Home
 
 
-# So many seconds the client has for its end.
+# Seconds for the client to end.
 END_WAIT = 1.0
 
 
 class PortSession:
-    """A session whose server has a UDP port: a terminal has a client of its own there, and a folder that is told has the rest."""
+    """A session whose server has a UDP port. Each terminal spawns its own client, and a named folder has the other sockets."""
 
     served = "server"
     number = 0
@@ -32,54 +32,54 @@ class PortSession:
         return str(self.home)
 
     def windows(self) -> list[PortSession]:
-        """Which of its windows run isn't told at a port."""
+        """Return an empty list: a port does not report which windows run."""
         return [self]
 
     def window(self, number: int | None = None) -> PortSession:
-        """It alone is known."""
+        """Return itself: no other window is known."""
         if number is not None:
             raise Fault(f"there is only one window {self}")
         return self
 
     def read(self) -> None:
-        """Nothing is noted of it."""
+        """Do nothing: there is no note of it."""
 
     def process(self, role: str) -> int | None:
-        """No process but the client is known."""
+        """Return the client process, the only one known."""
         return self.client.pid if role == "client" and self.client and self.client.poll() is None else None
 
     def runs(self, role: str | None = None) -> bool:
-        """Whether the process of a role runs."""
+        """Return True if the process of a role runs."""
         return self.process(role or self.served) is not None
 
     def is_served(self) -> bool:
-        """Whether somebody has the port. Where nobody has, the client isn't needed any more: it can't know by itself."""
+        """Return True if a process has the port. Without one the client is useless, which it does not notice itself."""
         is_there = self.home.is_served()
         if not is_there and self.client and self.runs("client"):
             self.client.terminate()
         return is_there
 
     def busy(self) -> dict[int, str] | None:
-        """What runs in its panes isn't known here."""
+        """Return None: the programs in its panes are unknown here."""
         return None
 
     def revive_host(self) -> bool:
-        """The pty host isn't known here, and nothing is spawned."""
+        """Return False: the pty host is unknown here, and nothing is spawned."""
         return False
 
     def revive(self, earlier: int | None = None) -> None:
-        """Starts the client, where it doesn't run."""
+        """Spawn the client process if it does not run."""
         if not self.runs("client"):
             self.terminals.unlink(missing_ok=True)
             words = self.home.attach_words(["--terminals", str(self.terminals)])
             self.client = subprocess.Popen(words, stdin=subprocess.DEVNULL, stdout=subprocess.DEVNULL, stderr=subprocess.DEVNULL)
 
     def ending(self) -> tuple[str, int]:
-        """What is said where the session has ended, and the status."""
+        """Return the message and exit status after the session's end."""
         return "[the session has ended]", 0
 
     def close(self) -> None:
-        """Ends the client, by force where it doesn't end in time, as where it was stopped."""
+        """End the client process, by force if it is late, for example because it is stopped."""
         if self.client:
             self.client.terminate()
             try:

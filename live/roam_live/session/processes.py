@@ -1,4 +1,4 @@
-"""The processes that belong to a session: who keeps them has a note of each in the session's folder, and a log of what they say."""
+"""The processes of a session. The folder has a note of each, and a log of their output."""
 from __future__ import annotations
 
 import fcntl
@@ -22,32 +22,32 @@ if TYPE_CHECKING:
     from collections.abc import Callable
     from typing import IO, Any
 
-    # What JSON has of a note, of which `is_note` says what may be one.
+    # A note as JSON; `is_note` checks its form.
     State = dict[str, Any]
 
-# How long a process has for what it brings, and how long for its end: longer than a host takes, which waits a second and a half for the
-# ends of windows, and then a second for those who write rows down.
+# Seconds for a process to become ready, and to end. A host needs a second and a half for the ends of windows, and then a second for row
+# readers.
 START_WAIT = 10.0
 END_WAIT = 3.0
 
-# So many seconds a process has for its end whose other end has gone.
+# Seconds for a process to end after its peer is gone.
 LEFT_WAIT = 0.5
 
-# So many seconds who listens at a socket of the folder has for taking a connection, by which it is known.
+# Seconds for the listener of a socket to accept the connection that identifies it.
 ASK_WAIT = 0.5
 
-# No note has so many characters: one has the command of the panes, which the system bounds.
+# A note has fewer characters: it contains the panes' command, whose length the system limits.
 MOST_NOTE = 1 << 24
 
-# What a client process says where its server has ended.
+# The last line of a client process whose server has ended.
 ENDED = b"[the server has ended]"
 
-# So much of what a process said that wasn't there in time is told at most.
+# A message quotes this much of the output of a process that was not ready in time.
 SAID_MOST = 500
 
 
 def is_note(state: object) -> bool:
-    """Whether this may be a note: words, with each process and the moment at which it began."""
+    """Return True if this has the form of a note: words, each with a process and its start time."""
     if not isinstance(state, dict):
         return False
     noted = [state[role] for role in NOTED if role in state]
@@ -55,7 +55,7 @@ def is_note(state: object) -> bool:
 
 
 def noted_in(path: str | os.PathLike[str]) -> State | None:
-    """Return what a file notes of processes; None if that isn't whole. OSError if it can't be read."""
+    """Return the note in a file; None if it is incomplete, OSError if it is unreadable."""
     try:
         state = read_json(FilePath(path).read_text()[:MOST_NOTE])
     except (ValueError, RecursionError):
@@ -64,14 +64,14 @@ def noted_in(path: str | os.PathLike[str]) -> State | None:
 
 
 def signal_now(process: int, number: int) -> None:
-    """Signals a process, which takes that now: one that was stopped goes on."""
+    """Send a signal to a process, which handles it now: a stopped one is continued."""
     with suppress(ProcessLookupError):
         os.kill(process, number)
         os.kill(process, signal.SIGCONT)
 
 
 def children_of(process: int) -> list[int]:
-    """The processes that one has spawned and that are there; none where the system doesn't tell."""
+    """Return the living children of a process; none if the system hides them."""
     try:
         return [int(child) for child in FilePath(f"/proc/{process}/task/{process}/children").read_text(encoding="ascii").split()]
     except (OSError, ValueError):
@@ -79,7 +79,7 @@ def children_of(process: int) -> list[int]:
 
 
 def is_scrollback_process(process: int) -> bool:
-    """Whether a process is a scrollback process."""
+    """Return True if a process is a scrollback process."""
     try:
         words = FilePath(f"/proc/{process}/cmdline").read_bytes().split(b"\0")
     except OSError:
@@ -88,7 +88,7 @@ def is_scrollback_process(process: int) -> bool:
 
 
 def end_left(left: list[tuple[int, int | None]]) -> None:
-    """Ends processes that ended by themselves, had nobody stopped them: by force where they don't in time."""
+    """End processes that would end by themselves unless stopped; by force if they are late."""
     for number in (signal.SIGCONT, signal.SIGTERM, signal.SIGKILL):
         end = time.monotonic() + LEFT_WAIT
         left = [(process, moment) for process, moment in left if is_running(process, moment)]
@@ -99,7 +99,7 @@ def end_left(left: list[tuple[int, int | None]]) -> None:
 
 
 class HeldLock:
-    """Holds the lock of a session in a `with`; what is noted of its processes is read anew."""
+    """Holds the lock of a session in a `with`, and reloads the note of its processes."""
 
     def __init__(self, processes: Processes, may_wait: bool) -> None:
         self.processes, self.may_wait = processes, may_wait
@@ -117,13 +117,13 @@ class HeldLock:
 
 
 class WholeOrNothing:
-    """Undoes what a `with` spawned if that raises something."""
+    """Ends the processes that a `with` spawned if the `with` raises an exception."""
 
     def __init__(self, processes: Processes) -> None:
         self.processes = processes
 
     def __enter__(self) -> None:
-        """Begin."""
+        """Do nothing."""
 
     def __exit__(self, kind: object, *fault: object) -> None:
         if kind:
@@ -131,9 +131,9 @@ class WholeOrNothing:
 
 
 class Processes:
-    """What belongs to a session, by roles, as it is noted in its folder."""
+    """The processes of a session by role, from the note in its folder."""
 
-    # What it is called, where that is known.
+    # Its name, if known.
     name: str
 
     # The process whose end is the session's.
@@ -141,21 +141,21 @@ class Processes:
 
     def __init__(self, folder: str | os.PathLike[str], server: int | None = None) -> None:
         self.folder = FilePath(folder)
-        # A server that was spawned by hand, where it is known.
+        # A server that was spawned by hand, if known.
         self.by_hand = server
         self.note = self.folder / "state.json"
         self.log = self.folder / "log"
-        # The processes that this one spawned, which it takes note of once they have ended.
+        # The processes that this one spawned and reaps.
         self.own: dict[str, subprocess.Popen[bytes]] = {}
-        # The process that serves, and when it began, as it ran when it was last looked at.
+        # The serving process and its start time, as of the last check.
         self.met: tuple[int, int | None] | None = (server, begun(server)) if server else None
-        # What is noted; and why the note couldn't be read, where one may be there.
+        # The note, and the reason if an existing one was unreadable.
         self.state: State | None = None
         self.unread = ""
         self.read()
 
     def read(self) -> None:
-        """Reads what was noted of it: nothing where the note isn't whole."""
+        """Reload the note: nothing if it is incomplete."""
         self.unread, self.state = "", None
         try:
             self.state = noted_in(self.note)
@@ -163,12 +163,12 @@ class Processes:
             self.unread = "" if is_absent(fault) else reason(fault)
 
     def demand_read(self) -> None:
-        """Refuses where the note couldn't be read: what isn't known may be there."""
+        """Raise Fault if the note was unreadable: unknown processes may run."""
         if self.unread:
             raise Fault(f"cannot read {self.note}: {self.unread}; nothing was changed there")
 
     def process(self, role: str) -> int | None:
-        """The process of a role; None where none runs."""
+        """Return the process of a role; None if none runs."""
         if role == "server" and self.by_hand:
             return self.by_hand
         own = self.own.get(role)
@@ -185,11 +185,11 @@ class Processes:
         return process
 
     def runs(self, role: str | None = None) -> bool:
-        """Whether the process of a role runs, that which serves where none is named."""
+        """Return True if the process of a role runs; by default the serving one."""
         return self.process(role or self.served) is not None
 
     def listener(self, name: str) -> int | None:
-        """The process that listens at a socket of the folder; None where nobody of this user does."""
+        """Return the process that listens at a socket of the folder; None if nobody of this user does."""
         path = self.folder / name
         try:
             with connected_in(path, ASK_WAIT) as end:
@@ -207,12 +207,13 @@ class Processes:
     # ---- the lock
 
     def locked(self, may_wait: bool = True) -> HeldLock:
-        """Make its folder, and keep others from starting what belongs to it, in a `with`. BlockingIOError tells of another if that may not
-        wait."""
+        """Make its folder, and prevent others from spawning its processes, in a `with`; BlockingIOError if it is locked and `may_wait` is
+        False.
+        """
         return HeldLock(self, may_wait)
 
     def taken_lock(self, may_wait: bool) -> int:
-        """The lock, once this process has it: that of the folder that is there by then, since the one before may have been removed."""
+        """Take and return the lock of the current folder, since an earlier one may have been removed."""
         while True:
             lock = self.opened_lock()
             try:
@@ -225,24 +226,24 @@ class Processes:
             os.close(lock)
 
     def opened_lock(self) -> int:
-        """The lock's file, which is made where it isn't there; a folder of another user is refused."""
+        """Open the lock's file, and create it if absent. A folder of another user is refused."""
         while True:
             self.folder.mkdir(mode=0o700, exist_ok=True)
             if not is_own_folder(self.folder):
                 raise Fault(f"{self.folder} is not a directory of yours")
-            # Who removes the folder may do so just now.
+            # Another process may remove the folder just now.
             with suppress(FileNotFoundError):
                 return os.open(self.folder / "lock", os.O_RDWR | os.O_CREAT | os.O_CLOEXEC | os.O_NOFOLLOW, 0o600)
 
     def is_lock(self, lock: int) -> bool:
-        """Whether an open file is the lock that others find."""
+        """Return True if an open file is still the lock at its path."""
         try:
             return os.path.samestat(os.fstat(lock), os.lstat(self.folder / "lock"))
         except OSError:
             return False
 
     def wait_for_lock(self, lock: int, may_wait: bool) -> None:
-        """Waits until nobody else spawns what belongs to it; what takes long, as an ssh that asks for a password, is told of."""
+        """Wait until nobody else spawns its processes. Report a long wait, such as for an ssh that asks for a password."""
         end = time.monotonic() + SAID_AFTER
         while True:
             try:
@@ -257,13 +258,15 @@ class Processes:
         say(f"waiting for another process that starts parts of {self.folder}")
         fcntl.flock(lock, fcntl.LOCK_EX)
 
-    # ---- what is spawned
+    # ---- spawning
 
     def spawned(self, role: str, words: list[str], parts: Callable[[], None] = os.setsid,
                 is_heard: bool = False) -> subprocess.Popen[bytes]:
-        """A process that stays when this terminal goes, by a call that parts it; what it says is in the log, or is heard at first: its
-        output by this process, and its errors where this one's go. It notes itself before it runs the words, so that it is found however
-        this one ends."""
+        """Spawn a process that outlives this terminal; `parts` detaches it.
+
+        Its output goes to the log. With `is_heard`, this process reads the output, and errors go to standard error. The process records
+        itself before it executes the words, so that it is found even if this process dies.
+        """
         import subprocess
 
         def begin() -> None:
@@ -288,18 +291,18 @@ class Processes:
         return process
 
     def write_note(self, state: State | None = None) -> None:
-        """Write the note: what is known, or this."""
+        """Write the known state, or this one, to the note."""
         import json
 
         replace_text(self.note, json.dumps(self.state if state is None else state))
 
     def note_own(self, role: str) -> None:
-        """Notes this process as the one of a role."""
+        """Record this process as the one of a role."""
         state = {**(self.state or {}), role: [os.getpid(), begun(os.getpid())]}
         self.write_note(state)
 
     def unnoted(self) -> str:
-        """Why the note can't be written, as far as that is so still."""
+        """Return the reason that the note is unwritable, if it still is."""
         try:
             self.write_note()
         except OSError as fault:
@@ -307,7 +310,7 @@ class Processes:
         return ""
 
     def said(self, before: int) -> str:
-        """What was logged since it had so many bytes, in one line."""
+        """Return the log's text after so many bytes, in one line."""
         try:
             with open(self.log, "rb") as log:
                 log.seek(before)
@@ -317,17 +320,17 @@ class Processes:
         return "; ".join(line.strip() for line in text.splitlines() if line.strip())[:SAID_MOST]
 
     def logged(self) -> int:
-        """How many bytes the log has."""
+        """Return the size of the log in bytes."""
         return self.log.stat().st_size if self.log.exists() else 0
 
     def tells(self) -> bool:
-        """Whether its log tells more than that client processes ended with their server."""
+        """Return True if its log contains more than the ends of client processes with their server."""
         with suppress(FileNotFoundError), open(self.log, "rb") as log:
             return any(line.strip() not in (b"", ENDED) for line in log)
         return False
 
     def wait_for(self, role: str, before: int, test: Callable[[], bool]) -> None:
-        """Waits until what a process that was spawned brings is there; one that doesn't bring it is ended."""
+        """Wait until a spawned process is ready, and end it if it is late."""
         process = self.own[role]
         end = time.monotonic() + START_WAIT
         while time.monotonic() < end:
@@ -343,7 +346,7 @@ class Processes:
     # ---- ends
 
     def end(self, role: str) -> None:
-        """Ends the process of this role, by force where it doesn't end in time."""
+        """End the process of this role, by force if it is late."""
         for number in (signal.SIGTERM, signal.SIGKILL):
             process = self.process(role)
             if process is None:
@@ -354,16 +357,16 @@ class Processes:
                 time.sleep(0.01)
 
     def scrollback_processes(self) -> list[tuple[int, int | None]]:
-        """The scrollback processes that the pty host has spawned, and when they began: nothing else notes them."""
+        """Return the scrollback processes that the pty host has spawned, and their start times: no note has them."""
         host = self.process("host")
         return [(one, begun(one)) for one in children_of(host) if is_scrollback_process(one)] if host else []
 
     def whole(self) -> WholeOrNothing:
-        """Have all of what is spawned in a `with` be there, or nothing of it."""
+        """Return a context for a `with` that spawns all of its processes or none."""
         return WholeOrNothing(self)
 
     def undo(self) -> None:
-        """End what was spawned, of which something could not be; what it left goes, and the folder if its log tells nothing."""
+        """End the spawned processes of a failed start; remove their files, and the folder if its log is empty."""
         for role in list(self.own):
             self.end(role)
         with suppress(Fault, OSError):
@@ -371,10 +374,10 @@ class Processes:
             self.forget()
 
     def clean(self) -> None:
-        """Removes what processes that don't run any more left."""
+        """Remove the files of processes that have ended."""
 
     def forget(self) -> None:
-        """Removes the folder of one that doesn't run, where its log tells nothing; its lock is held."""
+        """Remove the folder of an ended session if its log is empty. The caller has its lock."""
         with suppress(OSError):
             if not self.logged():
                 for name in ("log", "lock", FRONT_ENDS):

@@ -1,4 +1,4 @@
-"""Sessions of other machines: a relay stands in for the server."""
+"""Sessions of other machines: a local relay replaces the server."""
 from __future__ import annotations
 
 import os
@@ -17,12 +17,12 @@ TYPE_CHECKING = False
 if TYPE_CHECKING:
     from collections.abc import Iterable
 
-# So many seconds after the last terminal left a relay ends.
+# Seconds after its last terminal until a relay ends.
 ALONE = 3600
 
 
 class RemoteSession(SessionFolder):
-    """A session of another machine, or a window of it: a relay stands here for its server.
+    """A session of another machine, or a window of it. A local relay replaces its server.
 
     Each window has its sockets in a folder of its own; the lock, the log and the relay are the session's.
     """
@@ -38,23 +38,25 @@ class RemoteSession(SessionFolder):
             self.common, self.log = session.folder, session.log
 
     def whole_session(self) -> RemoteSession:
-        """The session of which this is a window, or itself."""
+        """Return the session of this window, or itself."""
         return self.session or self
 
     def holder(self) -> int | None:
-        """The relay, by the folder that it holds."""
+        """Return the relay from the lock on its folder."""
         return holder_of(self.folder)
 
     # ---- its windows
 
     def windows(self) -> list[SessionFolder]:
-        """The windows that are told here, in order; itself where none is, as of a session there that was begun by hand."""
+        """Return the windows reported by the far end, in order; itself without a report, as for a session started there by hand."""
         whole, folder = self.whole_session(), self.common / WINDOWS
         numbers = [number for number in numbers_in(str(folder)) if (folder / str(number) / "session").exists()]
         return [RemoteSession(folder / str(number), f"{whole.name}:{number}", whole, number) for number in numbers] or [whole]
 
     def window(self, number: int | None = None) -> SessionFolder:
-        """A window by its number; else this one, or that of its own session's id, which the relay's own window has, or the first."""
+        """Return a window by its number; else this one, or the one with the session's own id, which the relay's own window has, or the
+        first.
+        """
         if self.session and number in (None, self.number):
             return self
         there = self.windows()
@@ -70,8 +72,10 @@ class RemoteSession(SessionFolder):
         return window.id() == self.id()
 
     def await_windows(self, number: int | None, seconds: float) -> None:
-        """Waits until the other machine tells its windows, that of a number too where one is named, or for so long: one that was begun by
-        hand there tells none."""
+        """Wait until the far end reports its windows, and the one of a number if set, or until the time is up.
+
+        A session started there by hand never reports any.
+        """
         end = time.monotonic() + seconds
         while time.monotonic() < end:
             there = [window.number for window in self.windows()]
@@ -83,31 +87,33 @@ class RemoteSession(SessionFolder):
         """Return the window that is the relay's own."""
         return next((window for window in windows if self.is_own(window)), windows[0])
 
-    # ---- what is known of it, and belongs to it
+    # ---- its known state and its processes
 
     def process(self, role: str) -> int | None:
-        """The process of a role: the relay is the session's."""
+        """Return the process of a role: the relay is the session's."""
         return self.session.process(role) if self.session and role == self.served else super().process(role)
 
     def find(self) -> bool:
-        """Whether it is there."""
+        """Return True if it runs."""
         return self.session.find() and (self.folder / "session").exists() if self.session else super().find()
 
     def taken_lock(self, may_wait: bool) -> int:
-        """The session's lock, once this process has it."""
+        """Take and return the session's lock."""
         return self.session.taken_lock(may_wait) if self.session else super().taken_lock(may_wait)
 
     def lacking(self) -> str:
-        """Says nothing of the shells, which the other machine keeps."""
+        """Return nothing about the shells, which belong to the other machine."""
         return ""
 
     def launch(self, command: Iterable[str] = ()) -> None:
-        """Refuses: how ssh is called isn't known."""
+        """Refuse: the ssh command is unknown."""
         raise Fault(f"no relay to {self.whole_session().name} is running; `mux ssh` starts one")
 
     def launch_relay(self, command: list[str], host: str = "") -> int:
-        """Starts a relay over a command, which may ask at this terminal until it has answered, and by UDP to a host, where one is named;
-        tells the status of one that didn't answer, and leaves no folder then."""
+        """Start a relay over a command, and over UDP to a host if one is named. The command may use this terminal until it has answered.
+
+        Return its exit status if it did not answer; then no folder remains.
+        """
         self.clean()
         (self.folder / "ended").unlink(missing_ok=True)
         self.state = {"version": WINDOWS_VERSION, BUILD: identity()}
@@ -126,7 +132,7 @@ class RemoteSession(SessionFolder):
     # ---- its end
 
     def ending(self) -> tuple[str, int]:
-        """What is said where the relay has ended, and the status."""
+        """Return the message and exit status after the relay's end."""
         if self.session:
             return self.session.ending()
         if self.met and end_words(*self.met) in self.ended().splitlines():
@@ -138,14 +144,14 @@ class RemoteSession(SessionFolder):
         return f"[the relay has ended; see {self.log}]", 1
 
     def end_all(self) -> None:
-        """Ends the relay, and the client processes of all windows."""
+        """End the relay, and the client processes of all windows."""
         windows = [window for window in self.windows() if window is not self]
         super().end_all()
         for window in windows:
             window.end("client")
 
     def clean(self) -> None:
-        """Removes what a relay that doesn't run any more left, with its windows."""
+        """Remove the files of a relay that has ended, with its windows."""
         import shutil
 
         super().clean()
@@ -153,14 +159,14 @@ class RemoteSession(SessionFolder):
 
 
 def in_front() -> None:
-    """Makes this process a group of its own, which a terminal that hangs up leaves alone, and has that read what is typed."""
+    """Make this process a process group in the foreground, out of reach of a terminal's hangup."""
     os.setpgid(0, 0)
     signal.signal(signal.SIGTSTP, signal.SIG_IGN)
     take_front(os.getpgrp())
 
 
 def take_front(group: int) -> None:
-    """Has a process group read what is typed at this process's terminal, where it has one."""
+    """Make a process group the foreground one of this process's terminal, if it has one."""
     before = signal.signal(signal.SIGTTOU, signal.SIG_IGN)
     with suppress(OSError):
         own = os.open("/dev/tty", os.O_RDWR | os.O_CLOEXEC)

@@ -1,4 +1,4 @@
-"""The processes of a session by roles: what each is called, where it listens, who starts it, when it ends, and the words that run it."""
+"""The processes of a session by role: names, sockets, starters, ends, and command lines."""
 from __future__ import annotations
 
 import os
@@ -14,7 +14,7 @@ if TYPE_CHECKING:
 
 
 class ProcessRole(NamedFields):
-    """A role: its word in notes, its name in messages, its socket, and in words who starts it and when it ends."""
+    """A role: its word in notes, its name in messages, its socket, its starter, and the moment of its end."""
 
     name: str
     said: str
@@ -34,7 +34,7 @@ ROLES = {role.name: role for role in (
 # The roles of a window's processes.
 SERVER, CLIENT = "server", "client"
 
-# The roles of which a note may tell.
+# The roles that a note may contain.
 NOTED = ("server", "relay", "host", "client")
 
 

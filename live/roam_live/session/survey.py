@@ -1,4 +1,4 @@
-"""Asks many sockets of sessions side by side: where panes are, and how many terminals are attached."""
+"""Queries many sockets of sessions in parallel for pane positions and the number of attached terminals."""
 from __future__ import annotations
 
 import os
@@ -22,12 +22,12 @@ if TYPE_CHECKING:
 # Seconds for all answers together.
 ANSWERS = 0.3
 
-# The last line of the answer to `clients` is this and a number.
+# The start of the last line in the answer to `clients`, before a number.
 COUNT, MOST_COUNT = f"{led(SESSION, CLIENTS)} ", 9999
 
 
 class PanesQuestion:
-    """Asks the socket `panes` of a folder where the panes are."""
+    """A query for the pane positions at the socket `panes` of a folder."""
 
     words = b""
 
@@ -42,7 +42,7 @@ class PanesQuestion:
 
 
 class ClientsQuestion:
-    """Asks the socket `host` of a folder how many terminals are at the session."""
+    """A query for the number of terminals at the socket `host` of a folder."""
 
     words = f"{led(SESSION, CLIENTS)}\n".encode()
 
@@ -57,14 +57,14 @@ class ClientsQuestion:
 
 
 class Asking:
-    """A connection by which a question is asked."""
+    """A connection for a query."""
 
     def __init__(self, question: PanesQuestion | ClientsQuestion) -> None:
         self.question, self.lines = question, LineReader()
         self.peer: socket.socket = connected_now(question.path)
 
     def ask(self) -> bool:
-        """Send the question, and return True if that worked."""
+        """Send the query, and return True if that worked."""
         try:
             self.peer.send(self.question.words)
         except OSError:
@@ -72,13 +72,13 @@ class Asking:
         return True
 
     def hear(self) -> bool:
-        """Take what was answered, and return True if nothing more is needed."""
+        """Read the answer so far, and return True if it is complete."""
         lines = self.lines.read(self.peer.fileno())
         return lines is None or any([self.question.take(line) for line in lines])
 
 
 class Survey:
-    """The answers of many sessions' sockets, all asked side by side within `seconds`."""
+    """The answers of many sessions' sockets, queried in parallel within `seconds`."""
 
     def __init__(self, panes: list[str], hosts: list[str], seconds: float = ANSWERS) -> None:
         self.panes = {folder: PanesQuestion(folder) for folder in panes}
@@ -97,7 +97,7 @@ class Survey:
 
     @staticmethod
     def wait(asked: dict[int, Asking], end: float) -> None:
-        """Ask, and take the answers that come until a moment."""
+        """Send queries, and take the answers that come before a deadline."""
         poll = select.poll()
         waits = [number for number, asking in asked.items() if asking.ask()]
         for number in waits:
@@ -112,18 +112,18 @@ class Survey:
                 return
 
     def places(self, folder: str | os.PathLike[str]) -> Places | None:
-        """Return where the panes of a folder are; None if its server did not answer."""
+        """Return the pane positions of a folder; None if its server did not answer."""
         question = self.panes.get(str(folder))
         return question.told.places() if question else None
 
     def terminals(self, folder: str | os.PathLike[str]) -> int | None:
-        """Return how many terminals are at the session of a folder; None if its pty host did not answer."""
+        """Return the number of terminals at the session of a folder; None if its pty host did not answer."""
         question = self.hosts.get(str(folder))
         return question.count if question else None
 
 
 def surveyed(sessions: list[tuple[SessionFolder, list[SessionFolder]]]) -> list[str]:
-    """Return the lines of `mux ls` for sessions that run, each with its windows. Their sockets are asked side by side."""
+    """Return the lines of `mux ls` for running sessions, each with its windows. Their sockets are queried in parallel."""
     survey = Survey([str(window.folder) for _, windows in sessions for window in windows],
                     [str(session.folder) for session, _ in sessions])
     width = max((len(session.name) for session, _ in sessions), default=0)

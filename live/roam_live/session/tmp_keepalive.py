@@ -1,4 +1,4 @@
-"""What has to last of a session's folder: a cleaner of old files, as some systems have for /tmp, takes what nobody used for days."""
+"""Protects a session's folder from cleaners of old files, which on some systems remove from /tmp files unused for days."""
 from __future__ import annotations
 
 import errno
@@ -13,19 +13,19 @@ TYPE_CHECKING = False
 if TYPE_CHECKING:
     from collections.abc import Callable, Iterator
 
-# So many seconds after it was used last what lies in the folder is used again, and so often it is looked whether that is due: by the
-# clock of the day, which goes on while the machine sleeps.
+# The folder's files are marked as used again this many seconds after the last mark, and the check repeats as often. It uses the wall clock,
+# which continues while the machine sleeps.
 USED_EACH = 21600.0
 LOOKS = 60.0
 
 
 def identity(file: os.stat_result) -> tuple[int, int]:
-    """What tells one file from all others."""
+    """Return the identity of a file, device and inode."""
     return file.st_dev, file.st_ino
 
 
 class Lasting:
-    """The folder of a session, for a process that stays as long as the session does."""
+    """The folder of a session, for a process that lives as long as the session."""
 
     def __init__(self, folder: str, clock: Callable[[], float] = time.time):
         self.folder, self.clock = folder, clock
@@ -33,30 +33,30 @@ class Lasting:
         self.session: bytes | None = None
         self.used_at = float("-inf")
         self.due = time.monotonic()
-        # Whether it is to be held, and by which descriptor it is: that of a window is below one that is.
+        # A flag for a folder to lock, and the lock's descriptor. A window's folder is inside one that is locked.
         self.holds, self.held = os.path.basename(os.path.dirname(os.path.abspath(folder))) != WINDOWS, -1
 
     def found(self) -> tuple[int, int] | None:
-        """Which folder is there; None where none is."""
+        """Return the identity of the folder; None if it is absent."""
         try:
             return identity(os.stat(self.folder))
         except OSError:
             return None
 
     def demand(self) -> None:
-        """Refuses, by an OSError, where the folder was removed, or another took its place: what lies there is another session's."""
+        """Raise OSError if the folder was removed or replaced: its files then belong to another session."""
         if self.own is None or self.found() != self.own:
             raise FileNotFoundError(errno.ENOENT, "the session's folder was removed", self.folder)
 
     def turn(self) -> bool:
-        """Look after the folder if that is due, and return True if it was."""
+        """Check the folder if that is due, and return True if so."""
         if time.monotonic() < self.due:
             return False
         self.due = time.monotonic() + LOOKS
         return self.look()
 
     def look(self) -> bool:
-        """Look after the folder, and return True, unless it was removed or another took its place: that one is left alone."""
+        """Check the folder, and return True unless it was removed or replaced: a replacement is left alone."""
         try:
             self.demand()
         except OSError:
@@ -71,9 +71,11 @@ class Lasting:
         return True
 
     def hold(self) -> None:
-        """Has this process hold the folder, by a lock of its own: cleaners as systemd-tmpfiles pass over a folder that is held, with all
-        below it; and who finds neither notes nor sockets there finds this process. Where another holds it now that is tried again with each
-        look."""
+        """Lock the folder for this process.
+
+        Cleaners such as systemd-tmpfiles skip a locked folder with all its contents. Without notes and sockets the lock also identifies
+        this process. If another process has the lock, each check tries again.
+        """
         if self.held >= 0 and identity(os.fstat(self.held)) == self.own:
             return
         self.let_go()
@@ -87,17 +89,17 @@ class Lasting:
                     os.close(end)
 
     def let_go(self) -> None:
-        """Holds it no more."""
+        """Release it."""
         if self.held >= 0:
             os.close(self.held)
             self.held = -1
 
     def is_missing(self, name: str) -> bool:
-        """Whether a file isn't there."""
+        """Return True if a file is absent."""
         return not os.path.lexists(os.path.join(self.folder, name))
 
     def keep_session(self) -> None:
-        """Writes the session's id again, which this user alone may read, where its file is gone: no process tells it."""
+        """Restore the file of the session's id if it is gone, readable by this user alone. No process reports the id."""
         path = os.path.join(self.folder, "session")
         with suppress(OSError):
             if not self.is_missing("session"):
@@ -110,13 +112,13 @@ class Lasting:
                 os.replace(new, path)
 
     def use(self) -> None:
-        """Marks all that lies in the folder as used now."""
+        """Mark all files of the folder as used now."""
         for path in self.paths():
             with suppress(OSError):
                 os.utime(path, follow_symlinks=False)
 
     def paths(self) -> Iterator[str]:
-        """Yield the folder, what lies there, the notes of far ends, and windows with what lies in their folders."""
+        """Yield the folder, its contents, the notes of far ends, and the folders of windows with their contents."""
         yield self.folder
         windows = os.path.join(self.folder, WINDOWS)
         for folder in (self.folder, os.path.join(self.folder, "relays"), windows):
@@ -128,7 +130,7 @@ class Lasting:
 
 
 def entries_in(folder: str) -> list[str]:
-    """The paths of what lies in a folder; none where it can't be read, or is none."""
+    """Return the paths in a folder; none if it is unreadable or no folder."""
     try:
         return [entry.path for entry in os.scandir(folder)]
     except OSError:

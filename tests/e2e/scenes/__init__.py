@@ -1,1 +1,1 @@
-"""What a person does and sees, scene by scene: each has a session and a folder of its own."""
+"""The actions and the view of a user, scene by scene. Each scene has a session and a folder of its own."""

@@ -1,4 +1,4 @@
-"""What programs say beside their screens: texts for the clipboard, and what of hostile control strings comes to a terminal."""
+"""Output of programs beside their screens: clipboard texts, and the effect of hostile control strings on a terminal."""
 import base64
 import random
 import re
@@ -13,8 +13,8 @@ from scenes.machines import ssh_words
 ON = {"ROAM_CLIPBOARD": "on"}
 CLIP = b"\x1b]52;c;%s\x07"
 
-# A program that writes a file's bytes to its pane, cut anywhere, and notes all that it is sent until nothing came for a second. What they
-# left is reset then, and a title said, which RIS among them may have taken back.
+# A program that writes a file's bytes to its pane, cut anywhere, and records its input until nothing comes for a second. Then it resets the
+# pane, and sets a title, which RIS among the bytes may have removed.
 WRITES = """\
 import os, random, select, sys, termios, tty
 text, noted = open(sys.argv[1], "rb").read(), b""
@@ -32,8 +32,8 @@ os.write(1, b"\\030\\033\\\\\\033c\\033]2;left\\007")
 termios.tcsetattr(0, termios.TCSAFLUSH, before)
 """
 
-# What a terminal may be written: what paints, the last row's frame, titles, shapes, texts for the clipboard, the modes it is asked for, and
-# what asks it for its colours.
+# The permitted output to a terminal: painting, the last row's frame, titles, shapes, clipboard texts, requested modes, and the colour
+# queries.
 WRITTEN = re.compile(
     r"[^\x00-\x1f\x7f-\x9f]|[\r\n\x07\x08\x0f]|\x1b(?:[78=>M]|\(B|\[(?:[0-9;]*[HmKJrABCDLMPXSTGd@b]|\??(?:25|7|1049|2004|1|5|6|4|20)[hl]"
     r"|\?100[0236][hl]|[0-6] q|2[23];2t|\?4m|>4;2m|>4m)|\]2;[^\x00-\x1f\x7f-\x9f]{0,200}\x07|\]52;c;[A-Za-z0-9+/]*=?=?\x07"
@@ -41,7 +41,7 @@ WRITTEN = re.compile(
 
 
 def writes(folder, outer, text):
-    """Has a program in a shell's pane write these bytes, and tells what it was sent."""
+    """Let a program in a shell's pane write these bytes, and return its input."""
     script, path, noted = (folder / name for name in ("writes", "text", "noted"))
     script.write_text(WRITES, encoding="utf-8")
     path.write_bytes(text)
@@ -52,7 +52,7 @@ def writes(folder, outer, text):
 
 
 def odd_in(written):
-    """The first of what was written that nothing of ours writes; nothing where there is none."""
+    """Return the first unexpected part of the output; nothing if there is none."""
     text, place = written.decode("utf-8", "surrogateescape"), 0
     while place < len(text):
         found = WRITTEN.match(text, place)
@@ -64,7 +64,7 @@ def odd_in(written):
 
 @scene
 def beside_hostile(folder):
-    """Of control strings by chance nothing comes to a terminal but titles, shapes, modes of the mouse and texts."""
+    """Random control strings affect a terminal only by titles, shapes, modes of the mouse and texts."""
     outer = Outer(tool("mux", SESSION), environment=ON)
     outer.shows("$ ")
     chance = random.Random(7)
@@ -81,7 +81,7 @@ def beside_hostile(folder):
 
 
 def tells_clips(folder):
-    """Whether the server of a session's folder tells texts for the clipboard."""
+    """Return True if the server of a session's folder reports clipboard texts."""
     with socket.socket(socket.AF_UNIX) as peer:
         peer.connect(str(folder / "panes"))
         peer.sendall(f"{CLIPBOARD}\n".encode())
@@ -90,20 +90,20 @@ def tells_clips(folder):
 
 
 def sets(outer, text):
-    """Has a shell in the pane in focus set the clipboard."""
+    """Let a shell in the focused pane set the clipboard."""
     outer.type(b"printf '\\033]52;c;%s\\007'\r" % base64.b64encode(text))
     # Once a second at most.
     time.sleep(1.2)
 
 
 def has_set(outer, text):
-    """Whether a terminal's clipboard was set to a text."""
+    """Return True if a terminal's clipboard was set to a text."""
     return CLIP % base64.b64encode(text) in outer.written
 
 
 @scene
 def clipboard(folder):
-    """A program sets the clipboard of the terminal whose last key went to it, where that was chosen, and of no other."""
+    """A program sets the clipboard of the terminal whose last key went to it, if that is enabled, and no other one."""
     outer = Outer(tool("mux", SESSION), environment=ON)
     outer.shows("$ ")
     if not tells_clips(terminals_of(SESSION).parent):
@@ -134,11 +134,11 @@ def clipboard(folder):
 
 @scene
 def clipboard_far(folder):
-    """A program of another machine's session sets the clipboard here."""
+    """A program of a remote session sets the clipboard here."""
     outer = Outer(ssh_words(folder, folder / "far", folder / "asked"), environment=ON)
     outer.shows("$ ")
     if tells_clips(folder / "far/roam/other/w/1"):
-        # Another way may carry all from now on, and who follows the panes begins anew.
+        # Another transport may take over now, and subscribers of panes reconnect.
         time.sleep(3)
         sets(outer, b"from afar")
         check("a text of another machine", comes(lambda: has_set(outer, b"from afar")), bytes(outer.written[-200:]))

@@ -1,4 +1,4 @@
-"""What an attach brings: an agent of ssh that serves older shells, and values that new panes have."""
+"""The environment from an attach: an ssh agent that serves older shells, and values for new panes."""
 import os
 import socket
 import subprocess
@@ -11,7 +11,7 @@ HOSTILE = "a'b $(echo no)`id`"
 
 
 def agents(folder):
-    """Two sockets that stand for agents, and their paths."""
+    """Return two sockets in place of agents, and their paths."""
     made = [socket.socket(socket.AF_UNIX) for _ in range(2)]
     paths = [str(folder / name) for name in ("one", "two")]
     for end, path in zip(made, paths):
@@ -21,15 +21,16 @@ def agents(folder):
 
 
 def readlink(outer, wanted):
-    """Whether the agent of the shell in focus is at this path."""
+    """Return True if the agent of the focused shell is at this path."""
     outer.type(b'clear; readlink "$SSH_AUTH_SOCK"\r')
     return outer.shows(f"{wanted} ") or outer.rows()
 
 
 @scene
 def forwards_environment(folder):
-    """A later attach's agent serves an older shell; new panes have its values, and `mux env` tells them to a shell; who watches brings
-    nothing."""
+    """A later attach's agent serves an older shell; new panes have its values, and `mux env` prints them for a shell; a read-only attach
+    sends nothing.
+    """
     ends, (one, two) = agents(folder)
     first = Outer(tool("mux", "other"), environment={**NOTHING, "SSH_AUTH_SOCK": one, "DISPLAY": ":71"})
     check("a session is launched with an agent", first.shows("$ ") and readlink(first, one) is True, first.rows)
@@ -60,7 +61,7 @@ def forwards_environment(folder):
 
 @scene
 def forwards_environment_far(folder):
-    """`mux ssh` brings what sshd set at the other machine, each time that ssh is spawned."""
+    """`mux ssh` sends the environment that sshd set at the other machine, each time that ssh is spawned."""
     ends, (one, two) = agents(folder)
     far, sets, stand_in = folder / "far", folder / "sets", folder / "ssh"
     far.mkdir(mode=0o700)

@@ -1,4 +1,4 @@
-"""Copy mode: one terminal's own view of a pane's scrollback rows, while all else goes on."""
+"""Copy mode: one terminal's own view of a pane's scrollback rows, while everything else continues."""
 import base64
 import os
 import subprocess
@@ -14,7 +14,7 @@ VI, EMACS = {"VISUAL": "vi"}, {"VISUAL": "emacs"}
 
 
 def begins(environment=None, text="seq 3000"):
-    """A terminal on a session with many rows in its pane."""
+    """Return a terminal on a session with many rows in its pane."""
     outer = Outer(tool("mux", SESSION), environment=environment or VI)
     outer.shows("$ ")
     outer.type(f"clear; {text}\r".encode())
@@ -24,23 +24,23 @@ def begins(environment=None, text="seq 3000"):
 
 
 def stays(outer, rows, seconds=0.5):
-    """Whether a terminal shows the same rows for a while, but for its last."""
+    """Return True if a terminal shows the same rows for a while, except for its last."""
     return not comes(lambda: outer.rows()[:-1] != rows[:-1], seconds)
 
 
 def counts(rows):
-    """Whether rows are numbers, each one more than the one before."""
+    """Return True if rows are consecutive numbers."""
     numbers = [row.strip() for row in rows]
     return all(number.isdigit() for number in numbers) and all(int(one) + 1 == int(other) for one, other in zip(numbers, numbers[1:]))
 
 
 def buffers():
-    """What `mux buffer list` says."""
+    """Return the output of `mux buffer list`."""
     return said("buffer", "list", SESSION)[1].splitlines()
 
 
 def clip(outer, begin):
-    """The text that was set on the clipboard since so many bytes were written; None where none was."""
+    """Return the text set on the clipboard after so many bytes of output; None if there is none."""
     text = bytes(outer.written[begin:])
     at = text.rfind(CLIP_BEGIN)
     end = text.find(CLIP_END, at) if at >= 0 else -1
@@ -49,7 +49,7 @@ def clip(outer, begin):
 
 @scene
 def copy_private(folder):
-    """Two terminals, of which one is in copy mode: the other's screen doesn't move, and what goes on comes there alone."""
+    """Two terminals, one of them in copy mode: the other's screen doesn't move, and new output appears only there."""
     one = begins()
     other = Outer(tool("mux", SESSION))
     other.shows("3000")
@@ -75,7 +75,7 @@ def copy_private(folder):
 
 @scene
 def copy_all(folder):
-    """All scrollback rows are there: the first, the last, what is searched for, and what is copied of them, which is pasted."""
+    """All scrollback rows are there: the first, the last, a search result, and a copy of them, which is pasted."""
     outer = begins(VI, "seq 20000")
     outer.type(b"\x02[gjj")
     is_first = comes(lambda: outer.rows()[0].strip().isdigit() and int(outer.rows()[0]) < 15000)
@@ -106,14 +106,14 @@ def copy_all(folder):
 
 @scene
 def copy_meanwhile(folder):
-    """While it is open the pane shows the other screen, is cleared, reset and resized: its rows stay, laid out for each size."""
+    """While it is open the pane shows the alternate screen, is cleared, reset and resized: its rows stay, laid out for each size."""
     outer = begins()
     other = Outer(tool("mux", SESSION))
     other.shows("3000")
     outer.type(b"\x02[")
     outer.status("[0/")
     outer.type(b"500k")
-    # Of what is painted the first row may come before the others.
+    # The first row may be painted before the others.
     check("rows of before are shown", outer.shows("2501") and comes(lambda: counts(outer.rows()[:-1])), outer.rows)
     shown = outer.rows()
     for name, command, text in (("the other screen", "printf '\\033[?1049hoth''er'; sleep 2; printf '\\033[?1049l'", "other"),
@@ -139,7 +139,7 @@ def copy_meanwhile(folder):
 
 @scene
 def copy_mouse(folder):
-    """The wheel opens it and closes it, what is dragged over is copied, and so is a word by a double click."""
+    """The wheel opens and closes it, a drag copies, and so does a double click on a word."""
     outer = begins({**VI, "ROAM_MOUSE": "on"})
     points(outer, (64, 5, 5))
     check("a notch opens it three rows up", outer.status("[3/"), outer.rows)
@@ -157,7 +157,7 @@ def copy_mouse(folder):
 
 @scene
 def copy_host(folder):
-    """The host is stopped, and goes: the view that all share scrolls in place of copy mode, and one that is open is closed."""
+    """The host is stopped, and ends: the shared view scrolls in place of copy mode, and an open one is closed."""
     outer = begins()
     host = noted(SESSION)["host"][0]
     outer.type(b"\x02[g")
@@ -181,26 +181,26 @@ def copy_host(folder):
 
 @scene
 def copy_as_tmux(folder):
-    """The keys of tests/stress/try_copy, typed at a terminal into a session: what is copied is what is copied of the same rows alone."""
+    """The keys of tests/stress/try_copy, typed at a terminal into a session, copy the same text as from the same rows alone."""
     path = folder / "text"
     path.write_text(TEXT, encoding="utf-8")
     for table, environment in (("vi", VI), ("emacs", EMACS)):
         outer = Outer(tool("mux", SESSION), (13, 40), {**environment, "ROAM_PREFIX": "C-]"})
         outer.shows("$ ")
-        # A C-c that comes to the pane is neither echoed nor its end.
+        # The pane neither echoes C-c nor ends by it.
         outer.type(f"stty -echo; trap '' INT; clear; cat {path}; exec sleep 1000\r".encode())
         outer.shows("last line")
         time.sleep(0.5)
         last = ""
         for name, keys in CASES[table].items():
             wanted, begin = copied_by_roam(keys, table == "vi", (12, 40)), len(outer.written)
-            # What is copied behind another text is known by that.
+            # A text appended to another one is recognized by that.
             wanted = last + wanted if wanted and name == "A" else wanted
             outer.type(b"\x1d[")
             outer.status("[0/")
             for group in keys:
                 outer.type(group)
-                # An escape that is read with what stands behind it is another key.
+                # An escape read together with its successor is another key.
                 time.sleep(0.3 if group == b"\x1b" else 0.04)
             comes(lambda begin=begin: clip(outer, begin) is not None, WAIT if wanted else 0.2)
             found = clip(outer, begin)
@@ -214,10 +214,10 @@ def copy_as_tmux(folder):
 
 @scene
 def copy_far(folder):
-    """Copy mode in a session of another machine: its rows come over the way between, and what is copied is kept there."""
+    """Copy mode in a remote session: its rows come over the transport, and the copy is stored there."""
     outer = Outer(ssh_words(folder, folder / "far", folder / "asked"), environment=VI)
     outer.shows("$ ")
-    # Where the panes are is told a moment later.
+    # The positions of the panes are reported a moment later.
     outer.status("[1]")
     outer.type(b"clear; seq 3000\r")
     outer.shows("3000")

@@ -1,4 +1,4 @@
-"""What ends, is killed, is stopped or can't be had: shells, starts, sessions, descriptors."""
+"""Processes and resources that end, are killed, are stopped or are missing: shells, starts, sessions, descriptors."""
 import contextlib
 import fcntl
 import os
@@ -45,7 +45,7 @@ def killed(folder):
 
 @scene
 def jobs(folder):
-    """A shell with a stopped editor, or a program in the background, isn't closed without a question, which names it."""
+    """A shell with a stopped editor, or a program in the background, closes only after a question, which names it."""
     outer = Outer(tool("mux", "other"))
     outer.shows("$ ")
     outer.type(b"\x02%")
@@ -82,15 +82,15 @@ class Frozen:
         os.close(slave)
 
     def is_full(self):
-        """Whether its terminal takes nothing more."""
+        """Return True if its terminal accepts nothing more."""
         return struct.unpack("i", fcntl.ioctl(self.master, termios.FIONREAD, bytes(4)))[0] >= 4095
 
     def ends(self, seconds):
-        """Whether it ends in so many seconds."""
+        """Return True if it ends within so many seconds."""
         return comes(lambda: self.process.poll() is not None, seconds)
 
     def close(self):
-        """Lets it go."""
+        """Release it."""
         self.process.kill()
         self.process.wait()
         os.close(self.master)
@@ -98,7 +98,7 @@ class Frozen:
 
 @scene
 def frozen(folder):
-    """A terminal that takes nothing is left by a signal, and from elsewhere, and what was typed there comes."""
+    """A terminal that accepts nothing is released by a signal, and from elsewhere, and its input arrives."""
     outer = Outer(tool("mux", "other"), (40, 120))
     outer.shows("$ ")
     ways = {"SIGTERM": signal.SIGTERM, "SIGHUP": signal.SIGHUP, "SIGINT": signal.SIGINT, "C-b D elsewhere": None}
@@ -121,9 +121,9 @@ def frozen(folder):
 
 @scene
 def moved(folder):
-    """A front end goes on where its files are moved away: copy mode, a command and the settings are there."""
+    """A front end continues after its files are moved away: copy mode, a command and the settings work."""
     shutil.copytree(LIVE, folder / "tree/live", ignore=shutil.ignore_patterns("__pycache__"))
-    # Python may write the bundles that a front end keeps open.
+    # Python may write the bundles that a front end has open.
     outer = Outer([str(folder / "tree/live/mux"), "other"], environment={"PYTHONDONTWRITEBYTECODE": ""})
     outer.shows("$ ")
     outer.type(b"seq 1 50\r")
@@ -159,7 +159,7 @@ def stopped_killed(folder):
 
 @scene
 def silent(folder):
-    """A server that doesn't answer is told of, the person can leave, and what was typed comes once it answers."""
+    """A server that doesn't answer is reported, the user can leave, and the input arrives once it answers."""
     outer = Outer(tool("mux", "other"))
     outer.shows("$ ")
     server = noted("other")["server"][0]
@@ -177,25 +177,25 @@ def silent(folder):
 
 
 def family(process):
-    """A process and all that it and those have started."""
+    """Return a process and all its descendants."""
     return {process}.union(*(family(child) for child in children(process)))
 
 
 def processor_time(processes):
-    """The seconds of processor that processes have used."""
+    """Return the processor seconds of processes."""
     texts = [pathlib.Path(f"/proc/{process}/stat").read_text(encoding="utf-8").rpartition(")")[2].split() for process in processes]
     return sum(int(text[11]) + int(text[12]) for text in texts) / os.sysconf("SC_CLK_TCK")
 
 
 def wakeups(processes):
-    """How often processes have slept and been woken."""
+    """Return the number of wakeups of processes."""
     texts = [pathlib.Path(f"/proc/{process}/status").read_text(encoding="utf-8") for process in processes]
     return sum(int(line.split()[1]) for text in texts for line in text.splitlines() if line.startswith("voluntary_ctxt_switches"))
 
 
 @scene
 def idle(folder):
-    """Nine panes in which nothing happens take next to nothing."""
+    """Nine idle panes take almost no processor time."""
     outer = Outer(tool("mux", "other"))
     outer.status("[1]")
     for pane, way in zip(range(2, 10), '%""%""%""'):
@@ -219,7 +219,7 @@ def idle(folder):
 
 @contextlib.contextmanager
 def limited(process, kind, most):
-    """Keeps a process to so much of a resource."""
+    """Limit a resource of a process."""
     before = resource.prlimit(process, kind)
     resource.prlimit(process, kind, (most, before[1]))
     try:
@@ -229,14 +229,14 @@ def limited(process, kind, most):
 
 
 def first_free(process):
-    """The first descriptor that a process hasn't open: with no more than these it has none but those that it closes itself."""
+    """Return the first unused descriptor of a process: with this limit it gets no new one except those that it closes itself."""
     taken = {int(path.name) for path in pathlib.Path(f"/proc/{process}/fd").iterdir()}
     return next(number for number in range(len(taken) + 1) if number not in taken)
 
 
 @scene
 def refused(folder):
-    """What the system refuses costs a pane its shell, or the list of panes some time, and the other panes nothing."""
+    """A refusal of the system costs a pane its shell, or delays the list of panes, and affects no other pane."""
     outer = Outer(tool("mux", "other"))
     outer.shows("$ ")
     host = noted("other")["host"][0]
@@ -260,13 +260,13 @@ def refused(folder):
 
 
 def not_started(outer, host):
-    """A pane whose shell can't be spawned says so; it can be closed, and tries again at a key."""
+    """A pane whose shell fails to start shows that; it can be closed, and a key retries."""
     for keys in (b"\x02x", b"x"):
         with limited(host, resource.RLIMIT_NOFILE, first_free(host)):
             outer.type(b'\x02"')
             check("a pane whose shell cannot be started says so", outer.shows("[not run: "), outer.rows)
         outer.type(keys)
-        # So soon there is a descriptor again by which a pane says what it hasn't.
+        # A descriptor is free again by then, by which a pane shows the failure.
         time.sleep(1)
         if keys == b"x":
             check("and a key there tries again", comes(lambda: any(row[40:].startswith("$ ") for row in outer.rows()[12:])), outer.rows)
@@ -278,7 +278,7 @@ def not_started(outer, host):
 
 @scene
 def bad_shell(folder):
-    """A SHELL that isn't there is told of in the pane, and /bin/sh is there instead."""
+    """A missing SHELL is reported in the pane, and /bin/sh runs instead."""
     outer = Outer(tool("mux", "other"), environment={"SHELL": "/nonexistent"})
     check("a bad SHELL is told of", outer.shows("/nonexistent: No such file or directory; this is /bin/sh"), outer.rows)
     outer.type(b"echo =$SHELL=\r")
@@ -288,7 +288,7 @@ def bad_shell(folder):
 
 @scene
 def host(folder):
-    """What kept the shells is spawned again, and no new shell runs what was typed meanwhile."""
+    """The pty host is restarted, and no new shell runs the input typed meanwhile."""
     outer = Outer(tool("mux", "other"))
     outer.shows("$ ")
     host = noted("other")["host"][0]
@@ -306,7 +306,7 @@ def host(folder):
 
 @scene
 def kill(folder):
-    """`mux kill` asks where something else than a shell runs."""
+    """`mux kill` asks if a program other than a shell runs."""
     outer = Outer(tool("mux", "other"))
     outer.shows("$ ")
     outer.type(b"sleep 100\r")
@@ -321,7 +321,7 @@ def kill(folder):
 
 @scene
 def many(folder):
-    """Many `mux ls` beside front ends that come and go, and terminals that hang up at any moment: nothing comes that nobody foresaw."""
+    """Many `mux ls` beside front ends that come and go, and terminals that hang up at any moment, cause no unexpected error."""
     first = Outer(tool("mux", "other"))
     first.shows("$ ")
     runs, front_ends = [], []
@@ -343,12 +343,12 @@ def many(folder):
 
 
 def unforeseen(texts):
-    """Those of the texts that tools wrote in which something is told that nobody foresaw."""
+    """Return the texts of tools that report an unexpected error."""
     return [text for text in texts if b"Traceback" in text or b" failed: " in text]
 
 
 def hung_up(path):
-    """What front ends say whose terminals hang up, each a bit later than the one before."""
+    """Return the messages of front ends whose terminals hang up, each a bit later than the one before."""
     with open(path, "ab") as said:
         for number in range(HANG_UPS):
             master, slave = pty.openpty()
@@ -364,7 +364,7 @@ def hung_up(path):
 
 
 def stopped():
-    """A front end that is stopped and continued from elsewhere, behind a shell, is there again with fg."""
+    """A front end that is stopped and continued from elsewhere, behind a shell, is back with fg."""
     if not shutil.which("bash"):
         return
     outer = Outer(["bash", "--norc", "--noprofile", "-i"])
@@ -384,7 +384,7 @@ def stopped():
 
 
 def processes_of(path):
-    """The processes whose words name a folder, or one of a window in it."""
+    """Return the processes whose arguments name a folder, or one of a window in it."""
     found = []
     for process in pathlib.Path("/proc").glob("[0-9]*"):
         with contextlib.suppress(OSError):
@@ -395,7 +395,7 @@ def processes_of(path):
 
 @scene
 def killed_starts(folder):
-    """A client that is killed at any moment: what it began is found, and ended."""
+    """A client killed at any moment: the rest of its start is found, and ended."""
     served = str(folder_of("other"))
     left = []
     for number in range(KILLED_STARTS):

@@ -11,7 +11,7 @@ from scenes.installed import install
 TOP = LIVE.parent
 GUIDE, MAN = TOP / "docs/guide", TOP / "docs/man"
 
-# What isn't run, and why.
+# Commands that aren't run, and the reasons.
 NOT_RUN = {
     "apt install python3-cryptography": "it changes the machine",
     "loginctl enable-linger": "it needs systemd's logind",
@@ -19,10 +19,10 @@ NOT_RUN = {
     "roam mux ssh -p 2222 -J gate HOST": "the command that stands for ssh here knows no jump host",
 }
 
-# So many seconds a command has at a terminal: one that begins a session over ssh starts a dozen processes.
+# Seconds for a command at a terminal: one that starts a session over ssh starts a dozen processes.
 LONG = 45.0
 
-# What stands for ssh, and for another command of it: its options are passed over up to the host, and the words run there in another home.
+# A replacement of ssh, and of another ssh command: it skips the options up to the host, and runs the words here in another home.
 SSH = """#!/bin/sh
 while :; do
     case $1 in HOST | host | user@HOST | user@host) break ;; esac
@@ -32,25 +32,25 @@ shift
 cd "{home}" && XDG_RUNTIME_DIR={far} exec sh -c "$*"
 """
 
-# A command within a line of a page: whole ones, and not a name alone.
+# A command inside a line of a page: a whole one, and not just a name.
 INLINE = re.compile(r"`((?:ROAM_[A-Z]+=\S+ )?(?:roam mux|roam|mux|roam-mux|ssh HOST|apt|loginctl|eval|tput|reset)(?: [^`]+)?)`")
 
 
 def commands_of(text):
-    """The commands of a page: the lines of its blocks of sh, and those within its lines."""
+    """Return the commands of a page: the lines of its blocks of sh, and those inside its lines."""
     lines = [line.strip() for block in re.findall(r"```sh\n(.*?)```", text, re.S) for line in block.strip().split("\n")]
     return lines + INLINE.findall(re.sub(r"```.*?```", "", text, flags=re.S))
 
 
 def examples_of(page):
-    """The lines of a man page's EXAMPLES."""
+    """Return the lines of a man page's EXAMPLES."""
     text = re.search(r"^\.SH EXAMPLES\n(.*?)^\.SH", page, re.M | re.S)[1]
     blocks = re.findall(r"^\.nf\n(.*?)^\.fi", text, re.M | re.S)
     return [line.strip().replace("\\-", "-").replace("\\e", "\\") for block in blocks for line in block.strip().split("\n")]
 
 
 class Home:
-    """An installed roam, a home and a folder to work in, for a user who has nothing else."""
+    """An installed roam, a home and a working folder, for a user with nothing else."""
 
     def __init__(self, folder):
         self.folder, self.home, self.bin = folder, folder / "home", folder / "bin"
@@ -74,30 +74,30 @@ class Home:
         self.environment = {**known, "PATH": path, "HOME": str(self.home), "TMPDIR": str(folder / "tmp")}
 
     def run(self, command):
-        """The status of a command without a terminal, and what it prints."""
+        """Return the status and the output of a command without a terminal."""
         ran = subprocess.run(["sh", "-c", command], cwd=self.home, env=self.environment, stdin=subprocess.DEVNULL, stdout=subprocess.PIPE,
                              stderr=subprocess.STDOUT, timeout=60, check=False)
         return ran.returncode, ran.stdout.decode("utf-8", "replace")
 
     def terminal(self, command, size=(24, 80)):
-        """A terminal on which a command runs."""
+        """Return a terminal on which a command runs."""
         return Outer(["sh", "-c", f"cd {self.home} || exit\n{command}"], size=size, environment=self.environment)
 
 
 class Commands:
-    """The commands of the pages: each is run once, in the order of the tables below, and is crossed out."""
+    """The commands of the pages: each is run once, in the order of the tables below, and marked as done."""
 
     def __init__(self, home, wanted):
         self.home, self.wanted, self.ran = home, wanted, []
 
     def does(self, command, text="", status=0):
-        """Runs a command without a terminal, and checks its status and a text."""
+        """Run a command without a terminal, and check its status and a text."""
         self.ran.append(command)
         found = self.home.run(command)
         check(command, found[0] == status and text in found[1], found)
 
     def shows(self, command, text="[1]", leaves=b"\x02d"):
-        """Runs a command at a terminal, and checks that a text comes to be shown; then it is left."""
+        """Run a command at a terminal, check that a text appears, and leave."""
         self.ran.append(command)
         outer = self.home.terminal(command)
         check(command, outer.shows(text, LONG), outer.rows)
@@ -105,7 +105,7 @@ class Commands:
         check(f"{command}: it is left", outer.ends(), outer.rows)
 
     def types(self, outer, command, text):
-        """Types a command at a shell, and checks what comes."""
+        """Type a command at a shell, and check the output."""
         self.ran.append(command)
         outer.type(b"clear\r")
         comes(lambda: outer.rows()[0].rstrip() == "$")
@@ -113,13 +113,13 @@ class Commands:
         check(command, outer.shows(text), outer.rows)
 
     def lacking(self):
-        """The commands that weren't run and are no part of one that was."""
+        """Return the commands that weren't run and are no part of one that was."""
         done = "\n".join(self.ran)
         return sorted(command for command in self.wanted if command not in done and command not in NOT_RUN)
 
 
 def first_steps(all_):
-    """What Getting started names, and how it is chosen what a terminal does."""
+    """Test the commands of Getting started, and the settings of a terminal."""
     all_.shows("roam mux", "[main] [1]")
     all_.does("roam mux ls", "main")
     all_.shows("roam mux watch main")
@@ -145,7 +145,7 @@ def first_steps(all_):
 
 
 def scripts(all_):
-    """What Scripting and Copy mode name."""
+    """Test the commands of Scripting and Copy mode."""
     all_.does("roam mux new -d work")
     all_.does("roam mux send work 'make test' Enter")
     all_.does("roam mux capture work", "make test")
@@ -188,7 +188,7 @@ def scripts(all_):
 
 
 def in_a_pane(all_):
-    """What the pages have a user type at a shell of a session."""
+    """Test the commands that the pages show at a shell of a session."""
     outer = all_.home.terminal("roam mux new work")
     outer.shows("[1]")
     outer.type(b"\x02%")
@@ -205,7 +205,7 @@ def in_a_pane(all_):
 
 
 def from_tmux(all_):
-    """What Coming from tmux names."""
+    """Test the commands of Coming from tmux."""
     all_.does("mux new -d work")
     all_.does("mux ls", "work")
     all_.shows("mux attach work")
@@ -235,7 +235,7 @@ def from_tmux(all_):
 
 
 def other_machine(all_):
-    """What Remote sessions and Coming from mosh name."""
+    """Test the commands of Remote sessions and Coming from mosh."""
     all_.does("ssh HOST roam-mux ls", "no session is running")
     for options in ("HOST", "HOST work:2", "user@HOST work", "host", "-A host", "-p 2222 host", "--predict always host",
                     "--predict never host",
@@ -250,7 +250,7 @@ def other_machine(all_):
 
 
 def man_pages(all_):
-    """The examples of the man pages."""
+    """Test the examples of the man pages."""
     all_.shows("mux new work")
     all_.shows("mux attach work")
     all_.does("mux send work 'ls -l' Enter")
@@ -271,7 +271,7 @@ def man_pages(all_):
 
 
 def end_all(home):
-    """Ends what may be left, here and in the other home."""
+    """End all remaining processes, here and in the other home."""
     for run in (home.environment["XDG_RUNTIME_DIR"], str(home.folder / "far"), str(home.home / ".roam")):
         base = pathlib.Path(run, "roam")
         for path in sorted(base.iterdir()) if base.is_dir() else ():
@@ -281,7 +281,7 @@ def end_all(home):
 
 @scene
 def guide_commands(folder):
-    """Each command of the guide's pages and of the man pages' examples does what its page says."""
+    """Each command of the guide's pages and of the man pages' examples behaves as its page says."""
     home = Home(folder)
     pages = {path.name: path.read_text(encoding="utf-8") for path in sorted(GUIDE.glob("*.md"))}
     wanted = {command for text in pages.values() for command in commands_of(text)}
@@ -300,7 +300,7 @@ def guide_commands(folder):
 
 
 def settings(home, pages):
-    """Each block of settings of the pages is one without a fault."""
+    """Each block of settings of the pages is valid."""
     file = home.home / ".config/roam/roam.conf"
     file.parent.mkdir(parents=True, exist_ok=True)
     fenced = [found for text in pages for found in re.findall(r"^```(\w*)\n(.*?)^```", text, re.M | re.S)]

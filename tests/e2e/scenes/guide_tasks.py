@@ -13,40 +13,40 @@ VI = "set -g mode-keys vi\n"
 
 
 class Tasks:
-    """A user at a terminal, who does one task after the other."""
+    """A user at a terminal with one task after the other."""
 
     def __init__(self, home):
         self.home, self.number, self.outer = home, 0, None
 
     def attach(self, command="roam mux work", size=(24, 80)):
-        """Attaches at a new terminal, which has the keys from now on."""
+        """Attach at a new terminal, which gets the keys from now on."""
         self.outer = self.home.terminal(command, size)
         self.outer.shows("[1]")
         comes(lambda: self.outer.rows()[0].startswith("$"))
         return self.outer
 
     def settings(self, text):
-        """Writes the settings file."""
+        """Write the settings file."""
         file = self.home.home / ".config/roam/roam.conf"
         file.parent.mkdir(parents=True, exist_ok=True)
         file.write_text(text, encoding="utf-8")
 
     def keys(self, *keys):
-        """Types keys, each behind the prefix."""
+        """Type keys, each after the prefix."""
         for key in keys:
             self.outer.type(PREFIX + key)
 
     def line(self, text):
-        """Types a line at a shell."""
+        """Type a line at a shell."""
         self.outer.type(text.encode() + b"\r")
 
     def done(self, task, holds, seen=""):
-        """Checks a task."""
+        """Check a task."""
         self.number += 1
         check(f"{self.number}. {task}", holds, seen or self.outer.rows)
 
     def clipboard(self, text):
-        """Whether the terminal's clipboard comes to be set to a text."""
+        """Return True if the terminal's clipboard is set to a text in time."""
         wanted = b"\x1b]52;c;" + base64.b64encode(text.encode())
         return comes(lambda: wanted in self.outer.written)
 
@@ -87,7 +87,7 @@ def panes_and_windows(tasks):
 
 
 def several_terminals(tasks):
-    """Sizes, watching, and detaching others."""
+    """Test sizes, read-only terminals, and detaching others."""
     first = tasks.outer
     small = tasks.attach("roam mux work", (12, 40))
     part = small.shows("C-b r fits")
@@ -151,7 +151,7 @@ def copying(tasks):
 
 
 def own_settings(tasks):
-    """Settings; Coming from tmux."""
+    """Test Settings, and Coming from tmux."""
     (tasks.home.home / ".tmux.conf").write_text("set -g prefix C-a\nbind | split-window -h\nset -g base-index 1\n", encoding="utf-8")
     tasks.home.run("mkdir -p ~/.config/roam; cp ~/.tmux.conf ~/.config/roam/roam.conf")
     told = tasks.home.run("roam mux settings")
@@ -170,13 +170,13 @@ def own_settings(tasks):
 
 
 def scripted(tasks):
-    """Scripting."""
+    """Test Scripting."""
     told = tasks.home.run("roam mux new -d build sh -c 'make; echo \"status $?\"; sleep 5' && roam mux log build")
     tasks.done("script a build and wait for its end", told[0] == 0 and "built" in told[1] and told[1].rstrip().endswith("status 0"), told)
 
 
 def colours(tasks):
-    """Troubleshooting: colours."""
+    """Test colours in Troubleshooting."""
     tasks.attach("roam mux colours")
     tasks.line("clear; echo $TERM $COLORTERM; tput colors; printf '\\033[38;2;255;100;0m orange \\033[m\\n'")
     seen = tasks.outer.shows("tmux-256color truecolor") and tasks.outer.shows("256")
@@ -199,7 +199,7 @@ def remote(tasks):
 
 
 def survives(tasks):
-    """What survives what."""
+    """Test which parts survive which failures."""
     tasks.attach()
     folder = os.path.join(tasks.home.environment["XDG_RUNTIME_DIR"], "roam/work")
     shells = subprocess.run(["sh", "-c", f"grep -o '\"client\": .[0-9]*' {folder}/w/1/state.json | grep -o '[0-9]*$'"],
@@ -216,7 +216,7 @@ def survives(tasks):
 
 @scene
 def guide_tasks(folder):
-    """Twenty tasks, by the guide alone."""
+    """Twenty tasks, with the guide alone."""
     home = Home(folder)
     tasks = Tasks(home)
     try:

@@ -1,4 +1,4 @@
-"""roam where it is installed: what goes on while it is upgraded and removed, and what is said as somebody attaches for the first time."""
+"""An installed roam: its life through an upgrade and a removal, and its messages on a first attach."""
 import os
 import shutil
 import subprocess
@@ -9,12 +9,12 @@ from roam_live.common.process import program
 # The commit of the build that is installed over the first one.
 NEWER = "feedfeedfeed"
 
-# An installed roam has bundles of its modules, which Python isn't told to leave alone here.
+# An installed roam has bundles of its modules, so Python may write bytecode here.
 BUNDLES = {"PYTHONDONTWRITEBYTECODE": ""}
 
 
 def install(prefix, commit=""):
-    """Installs the tree below a prefix, as another build if a commit is named."""
+    """Install the tree below a prefix, as another build if a commit is named."""
     words = [str(LIVE.parent / "tools/package"), "install", "--program", PROGRAM or program(), str(prefix)]
     subprocess.run(words, check=True)
     info = prefix / "lib/roam/build_info"
@@ -24,14 +24,14 @@ def install(prefix, commit=""):
 
 
 def run(prefix, *words):
-    """What the installed `roam mux` prints: its status, standard output and errors."""
+    """Return the status, standard output and errors of the installed `roam mux`."""
     ran = subprocess.run([str(prefix / "bin/roam"), "mux", *words], stdin=subprocess.DEVNULL, stdout=subprocess.PIPE, stderr=subprocess.PIPE,
                          check=False)
     return ran.returncode, ran.stdout.decode(), ran.stderr.decode()
 
 
 def goes_on(outer, number):
-    """Checks that an attached terminal has a shell, a split, copy mode and no fault."""
+    """Check that an attached terminal has a shell, a split, copy mode and no error."""
     outer.type(f"echo goes''on{number}\r".encode())
     check(f"{number}: what is typed is shown", outer.shows(f"goeson{number}"), outer.rows)
     outer.type(b"\x02%")
@@ -46,7 +46,7 @@ def goes_on(outer, number):
 
 @scene
 def installed(folder):
-    """A session and its terminal go on while roam is upgraded and removed; a session of another build is named."""
+    """A session and its terminal continue while roam is upgraded and removed; a session of another build is named."""
     os.environ.pop("ROAM", None)
     prefix = folder / "prefix"
     install(prefix)
@@ -82,7 +82,7 @@ def installed(folder):
 
 @scene
 def first_start(folder):
-    """What is wrong with a locale, or stands round the terminal, is said as somebody attaches; a terminal that can't be used is refused."""
+    """An attach warns of a wrong locale, or of a surrounding multiplexer, and refuses an unusable terminal."""
     said("new", "-d", SESSION)
     for known, line in (({"LC_ALL": "C"}, "locale C has no UTF-8"), ({"TMUX": "/tmp/tmux-0/default,1,0"}, "inside tmux: C-b C-b reaches this one")):
         outer = Outer(tool("mux", SESSION), environment=known)

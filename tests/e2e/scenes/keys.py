@@ -1,17 +1,17 @@
-"""Keys that go to all panes of a window, and keys that a terminal tells with all that is held."""
+"""Keys to all panes of a window, and extended keys of a terminal."""
 import os
 import signal
 
 from tried import SESSION, Outer, check, comes, scene, tool
 
-# A command that keeps all that is typed in a pane, and one before which modifyOtherKeys is asked for.
+# A command that records all input in a pane, and one that first requests modifyOtherKeys.
 KEEPS = "stty raw -echo; echo ke''eps; cat >{}\r"
 ASKS = "printf '\\033[>4;2m'; "
 CTRL_TAB, CTRL_A = b"\x1b[27;5;9~", b"\x1b[27;5;97~"
 
 
 def panes_with(folder, outer, begins):
-    """Has a pane for each of these words in front of the command that keeps what is typed there; tells the files."""
+    """Create a pane for each of these words in front of the command that records input there, and return the files."""
     paths = [folder / f"typed{number}" for number in range(len(begins))]
     for number, (path, begin) in enumerate(zip(paths, begins)):
         outer.type(b'\x02"' if number else b"")
@@ -21,18 +21,18 @@ def panes_with(folder, outer, begins):
 
 
 def have(paths, text, seconds=30.0):
-    """Whether all of these files come to have a text."""
+    """Return True if all of these files get a text in time."""
     return comes(lambda: all(path.read_bytes() == text for path in paths), seconds)
 
 
 def all_of(paths):
-    """What the files have."""
+    """Return the contents of the files."""
     return [path.read_bytes()[-200:] for path in paths]
 
 
 @scene
 def all_panes(folder):
-    """Keys and pastes go to all panes once that is switched, by a command or a key of a person's own, and to the one in focus else."""
+    """Keys and pastes go to all panes once that is switched on, by a command or a user's own key, and otherwise to the focused one."""
     outer = Outer(tool("mux", SESSION))
     check("a session has a pane", outer.status("[1]"), outer.rows)
     paths = panes_with(folder, outer, ["", "", ""])
@@ -65,8 +65,7 @@ def all_panes(folder):
 
 @scene
 def extended(folder):
-    """A terminal is asked to tell keys with all that is held, programs that asked for that have them so, and it tells keys as before
-    then."""
+    """A terminal is asked for extended keys, programs that requested them get them, and its setting is restored."""
     outer = Outer(tool("mux", SESSION))
     check("a session has a pane", outer.status("[1]"), outer.rows)
     check("the terminal is asked", outer.written.find(b"\x1b[?4m\x1b[>4;2m\x1b[?1049h") >= 0, bytes(outer.written[:200]))

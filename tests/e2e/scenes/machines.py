@@ -1,4 +1,4 @@
-"""Sessions of other machines, by relays and by a command that stands for ssh; and one that `mux` doesn't keep."""
+"""Sessions of other machines, by relays and by a replacement of ssh; and one without `mux`."""
 import json
 import os
 import pathlib
@@ -17,7 +17,7 @@ from roam_live.relay.frames import HEADER, greeting
 
 @scene
 def relay(folder):
-    """Clients go on through a relay whose far end is killed or says nothing, and it ends as it is told."""
+    """Clients continue through a relay whose far end is killed or silent, and it ends on request."""
     outer = Outer(tool("mux", "other"))
     outer.shows("$ ")
     served = window_of("other")
@@ -31,7 +31,7 @@ def relay(folder):
     front_ends = [Outer(tool("attach", *more, str(near))) for more in ([], ["--watch"])]
     outer.type(b"clear; echo thr''ough\r")
     check("two front ends are shown the session through it", all(one.shows("through") for one in front_ends), front_ends[1].rows)
-    # A bell is reported once, to those who follow the panes by then.
+    # A bell is reported once, to the subscribers of that moment.
     outer.type(b"printf '\\033='\r")
     check("and told how its keypad is", all(comes(lambda one=one: b"\x1b=" in one.written) for one in front_ends), front_ends[1].rows)
     outer.type(b"printf '\\a'\r")
@@ -50,7 +50,7 @@ def relay(folder):
 
 
 def far_with_clients(words, session, names):
-    """A far end to which a near end brings client processes of these names, each with the first datagram of one."""
+    """Run a far end with a near end that brings client processes of these names, each with the first datagram of one."""
     head = struct.Struct(">2sBBQQQQHHHQQH")
     packer = zlib.compressobj()
     frames = [HEADER.pack(head.size, name) + head.pack(b"RM", 2, 2, session, name, 1, 1, 0, 1, 18, 0, 1, 0) for name in names]
@@ -62,15 +62,16 @@ def far_with_clients(words, session, names):
 
 @scene
 def far_clients(folder):
-    """Two connections that bring forty new client processes each have two of them known by the server, and another after ten seconds; one
-    that it knows comes again over another connection."""
+    """Two connections with forty new client processes each: the server accepts two of them, and another after ten seconds; a known one
+    returns over another connection.
+    """
     subprocess.run(tool("mux", "new", "-d", "other"), check=True)
     served = window_of("other")
     session = int((served / "session").read_text(encoding="utf-8"), 16)
     words = tool("relay", "--far", "--server", str(noted("other")["server"][0]), "--dir", str(served), "-")
 
     def clients():
-        """How many clients the server knows."""
+        """Return the number of clients that the server knows."""
         return asked_places(served / "panes", 5).clients
 
     before = clients()
@@ -94,14 +95,14 @@ def far_clients(folder):
 
 
 def relay_ends(front_ends, relay, near, far):
-    """Clients leave a relay, and it ends for a signal, alone, and with the session."""
+    """Clients leave a relay, and it ends by a signal, alone, and with the session."""
     for front_end in front_ends:
         front_end.type(b"\x02d")
         check("a front end leaves", front_end.ends() and front_end.is_restored(), front_end.rows)
     relay.terminate()
     check("SIGTERM ends relay with status 143", comes(lambda: relay.poll() == 143), relay.returncode)
     check("and leaves no socket", not (near / "clients").exists() and not (near / "session").exists(), list(near.iterdir()))
-    # A front end may take seconds for coming up.
+    # A front end may take seconds to start.
     alone = subprocess.Popen(tool("relay", "--alone", "8", "--dir", str(near), "-", *far), stdout=subprocess.PIPE)
     alone.stdout.readline()
     front_end = Outer(tool("attach", str(near)))
@@ -118,7 +119,7 @@ def relay_ends(front_ends, relay, near, far):
 
 @scene
 def by_hand(folder):
-    """`attach` without mux: a server that is killed is told of, and what comes at its port again is shown."""
+    """`attach` without mux: a killed server is reported, and a new one at its port is shown."""
     own = folder / "own"
     own.mkdir()
     words = [PROGRAM, "serve", "--dir", str(own), "--session", "5e55", "--port"]
@@ -149,7 +150,7 @@ def by_hand(folder):
 
 
 def ssh_words(folder, far, asked):
-    """The words of a `mux ssh` to a session of another folder, by a command that stands for ssh and notes what it is asked."""
+    """Return the arguments of a `mux ssh` to a session of another folder, by a replacement of ssh that records its calls."""
     stand_in = folder / "ssh"
     says = 'if [ "$1" = -G ]; then echo hostname 127.0.0.1; exit; fi'
     stand_in.write_text(f'#!/bin/sh\necho "$*" >> {asked}\n{says}\nshift 3\nexec sh -c "$*"\n', encoding="utf-8")
@@ -160,7 +161,7 @@ def ssh_words(folder, far, asked):
 
 
 def is_asked(outer):
-    """Whether C-b x asks whether pane 2 is closed: for a moment after another way carries all it isn't known which is in focus."""
+    """Return True if C-b x asks to close pane 2: for a moment after a change of transport the focus is unknown."""
     outer.type(b"\x02x")
     holds = outer.status("close the program in pane 2? y closes it", 2)
     outer.type(b"" if holds else b"n")
@@ -169,7 +170,7 @@ def is_asked(outer):
 
 @scene
 def far_windows(folder):
-    """`mux ssh` shows the windows of a session of another machine, over one relay: a window is named, opened, gone to and shut there."""
+    """`mux ssh` shows the windows of a remote session over one relay: a window is named, opened, visited and closed there."""
     far = folder / "far"
     words, there = ssh_words(folder, far, folder / "asked"), {**os.environ, "XDG_RUNTIME_DIR": str(far)}
     for more in (("new", "-d", "other"), ("new-window", "other"), ("new-window", "other"), ("send", "other:2", "echo sec''ond", "Enter")):
@@ -194,7 +195,7 @@ def far_windows(folder):
     check("a window that is shut gives way to the one before", outer.shows("again"), outer.rows)
     for number in (1, 2):
         subprocess.run(tool("mux", "kill", "-f", f"other:{number}"), env=there, check=True)
-    # What is typed before that is told here was typed in the window that is gone.
+    # Input before that report was typed in the window that is gone.
     check("also where it was the relay's own", outer.status("[1] 3:"), outer.rows)
     outer.type(b"echo la''st\r")
     check("and the one before takes what is typed", outer.shows("last"), outer.rows)
@@ -206,13 +207,13 @@ def far_windows(folder):
 
 
 def asked_commands(path):
-    """The commands that were run over what stands for ssh."""
+    """Return the commands that ran over the replacement of ssh."""
     return [line for line in path.read_text(encoding="utf-8").splitlines() if " -G " not in f" {line} "]
 
 
 @scene
 def far(folder):
-    """`mux ssh` shows a session of another folder; what it started stays, and is found again."""
+    """`mux ssh` shows a session of another folder; the processes that it started stay, and are found again."""
     far, asked = folder / "far", folder / "asked"
     words = ssh_words(folder, far, asked)
     outer = Outer(words)
@@ -244,7 +245,7 @@ def far(folder):
 
 
 def far_ends(far):
-    """The far ends of a session of another folder, as they note themselves, or as the relay here spawned them."""
+    """Return the far ends of a session of another folder, by their own notes, or as children of the relay here."""
     noted_there = [note.read_text(encoding="utf-8").split()[0] for note in far.glob("roam/other/w/1/relays/*")]
     here = next(pathlib.Path(os.environ["XDG_RUNTIME_DIR"], "roam").glob("ssh:*"))
     return [int(word) for word in noted_there] or children(json.loads((here / "state.json").read_text(encoding="utf-8"))["relay"][0])
@@ -252,8 +253,7 @@ def far_ends(far):
 
 @scene
 def carried(folder):
-    """Where the panes of another machine's session are, the focus and bells come from its own sockets; cut and joined again they do so
-    again."""
+    """The positions of a remote session's panes, the focus and bells come from its own sockets; after a cut they come again."""
     far = folder / "far"
     words = ssh_words(folder, far, folder / "asked")
     outer, beside = Outer(words), Outer(words)
@@ -267,7 +267,7 @@ def carried(folder):
         check(f"{number}: ls here counts the panes there", comes(lambda: listed()[4:6] == ["3", "panes"]), listed)
         outer.type(b"\x02\x1b[D")
         check(f"{number}: an arrow goes by where they are", outer.status("[1] 2  3"), outer.rows)
-        # Where another way carries all from now on a bell may find nobody for a moment.
+        # After a change of transport a bell may find nobody for a moment.
         time.sleep(3)
         outer.type(b"clear; printf '\\a\\033='\r")
         rings = comes(lambda number=number: all(one.written.count(b"\x07") >= number for one in (outer, beside)))
@@ -292,20 +292,20 @@ def carried(folder):
 
 
 def fits(outer):
-    """Whether the last row of a terminal comes to tell the key that fits the session to it, behind the windows."""
+    """Return True if the last row of a terminal shows the key that fits the session to it, after the windows."""
     return comes(lambda: outer.last_row().startswith("[1] 1:") and outer.rows()[-1].rstrip().endswith("C-b r fits"))
 
 
 @scene
 def far_sizes(folder):
-    """A session of another machine that was just started has this terminal's size; later none is made smaller."""
+    """A remote session that was just started takes this terminal's size; later none is made smaller."""
     folder = folder / "sizes"
     folder.mkdir()
     words = ssh_words(folder, folder / "far", folder / "asked")
     first = Outer(words, size=(12, 40))
     is_new = first.shows("$ ") and first.status("[1]") and not first.shows("too small", 0.1)
     check("a new session there has this terminal's size", is_new, first.rows)
-    # The shell is told by what notes where its pane is.
+    # The shell learns its pane from the recorded environment.
     comes(lambda: listed()[1:4] == ["11", "by", "40"])
     first.type(b"stty size\r")
     check("and its shell knows it", first.shows("11 40"), first.rows)
@@ -324,15 +324,14 @@ def far_sizes(folder):
 
 @scene
 def far_alone(folder):
-    """A lone terminal of another machine's session that is drawn smaller has that follow; beside a second one, here or there, it
-    doesn't."""
+    """A remote session follows the smaller size of a lone terminal; with a second one, here or there, it doesn't."""
     folder = folder / "alone"
     folder.mkdir()
     far = folder / "far"
     words = ssh_words(folder, far, folder / "asked")
     outer = Outer(words)
     outer.shows("$ ")
-    # For two seconds a new session goes by each size.
+    # For two seconds a new session takes each size.
     time.sleep(3)
     outer.resize(20, 60)
     check("a lone terminal that is drawn smaller has the session there follow", comes(lambda: listed()[1:4] == ["19", "by", "60"]), listed)

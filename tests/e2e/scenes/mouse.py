@@ -1,4 +1,4 @@
-"""The mouse: what programs in panes are sent of it, and what roam makes of it."""
+"""The mouse: the reports to programs in panes, and roam's own actions."""
 import os
 import time
 
@@ -8,7 +8,7 @@ from roam_live.input.extended_keys import given_back
 from roam_live.input.mouse_reports import ASKED, OFF
 from scenes.machines import ssh_words
 
-# A program that sets modes, and notes all that it is sent in hexadecimal digits; q ends it, which it notes too.
+# A program that sets modes, and records all its input in hexadecimal digits; q ends it, and is recorded too.
 NOTES = """\
 import os, sys, termios, tty
 modes, path = sys.argv[1:]
@@ -29,7 +29,7 @@ open(path + ".ended", "w").close()
 
 
 class Noting:
-    """Such a program in the pane in focus of a terminal."""
+    """Such a program in the focused pane of a terminal."""
 
     made = 0
 
@@ -42,28 +42,28 @@ class Noting:
         outer.shows(f"at {self.path.name}")
 
     def noted(self):
-        """What it was sent so far."""
+        """Return its input so far."""
         return bytes.fromhex(self.path.read_text(encoding="utf-8")) if self.path.exists() else b""
 
     def gets(self, text):
-        """Whether it comes to have been sent this and nothing else."""
+        """Return True if its input is this and nothing else in time."""
         comes(lambda: len(self.noted()) >= len(text))
         time.sleep(0.2)
         return self.noted() == text
 
     def quit(self):
-        """Ends it."""
+        """End it."""
         self.outer.type(b"q")
         comes(self.path.with_name(f"{self.path.name}.ended").exists)
 
 
 def report(button, row, col, is_release=False):
-    """A report of the outer terminal."""
+    """Return a report of the outer terminal."""
     return f"\x1b[<{button};{col};{row}{'m' if is_release else 'M'}".encode()
 
 
 def points(outer, *reports):
-    """Has the mouse report, once all is told that was shown, and each slowly enough for motion."""
+    """Report mouse events, once everything visible was reported, and slowly enough for motion."""
     time.sleep(0.2)
     for one in reports:
         outer.type(report(*one))
@@ -71,12 +71,12 @@ def points(outer, *reports):
 
 
 def asks(outer, text, begin):
-    """Whether the terminal comes to be asked this, behind a place."""
+    """Return True if the terminal gets this request after a position of the output."""
     return comes(lambda: text in bytes(outer.written[begin:]))
 
 
-# A press in the right one of two panes, motion with the button held, out of it, letting go, motion without, the wheel; and by mode what of
-# it comes to the program there. It begins at column 41.
+# A press in the right one of two panes, motion with the button pressed, out of it, a release, motion without a button, the wheel; and by
+# mode the reports to the program there. It begins at column 41.
 POINTED = ((0, 3, 45), (32, 4, 45), (32, 5, 20), (0, 5, 21, True), (35, 6, 46), (65, 7, 80))
 COMES = {
     "1000,1006": b"\x1b[<0;5;3M\x1b[<0;1;5m\x1b[<65;40;7M",
@@ -88,7 +88,7 @@ COMES = {
 
 @scene
 def mouse_reports(folder):
-    """The program in the right one of two panes is sent the reports that it asked for, counted from its corner, and its neighbour none."""
+    """The program in the right one of two panes gets the reports that it requested, counted from its corner, and its neighbour none."""
     outer = Outer(tool("mux", SESSION))
     outer.shows("$ ")
     outer.type(b"\x02%")
@@ -114,7 +114,7 @@ def mouse_reports(folder):
 
 @scene
 def mouse_thinned(folder):
-    """Of motion a program is told each 20 ms at most, and the place where it ends; of the wheel it is told each notch."""
+    """A program gets motion every 20 ms at most, and the final position; and each notch of the wheel."""
     outer = Outer(tool("mux", SESSION))
     outer.shows("$ ")
     program = Noting(folder, outer, "1003,1006")
@@ -138,7 +138,7 @@ def mouse_thinned(folder):
 
 @scene
 def mouse_leaves(folder):
-    """Where a front end leaves, is stopped or told to end the terminal reports nothing any more."""
+    """If a front end leaves, is stopped or is ended, the terminal reports nothing any more."""
     first = Outer(tool("mux", SESSION))
     first.shows("$ ")
     Noting(folder, first, "1003,1006")
@@ -163,13 +163,13 @@ def mouse_leaves(folder):
 
 
 def click(outer, row, col):
-    """Clicks at a place."""
+    """Click at a position."""
     points(outer, (0, row, col), (0, row, col, True))
 
 
 @scene
 def mouse_of_roam(folder):
-    """With C-b m a click focuses a pane, the wheel scrolls a shell's and sends arrows on the other screen, and a border is dragged."""
+    """With C-b m a click focuses a pane, the wheel scrolls a shell's and sends arrows on the alternate screen, and a border is dragged."""
     outer = three_panes(environment=KEEPS_NONE)
     outer.type(b"\x02m")
     check("C-b m tells that roam has the mouse", outer.status("roam has the mouse: click, wheel, drag; C-b m gives it back"), outer.rows)
@@ -185,7 +185,7 @@ def mouse_of_roam(folder):
     check("and comes back to the newest", outer.shows("200 ") and outer.status("[1] 2  3 "), outer.rows)
     outer.type(b"clear; seq 300 | less\r")
     outer.shows(":")
-    # That it shows the other screen is told a moment later.
+    # The alternate screen is reported a moment later.
     time.sleep(0.3)
     points(outer, *[(65, 5, 5)] * 3)
     check("on the other screen it is three arrows", comes(lambda: outer.rows()[0].startswith("10 ")), outer.rows)
@@ -203,7 +203,7 @@ def mouse_of_roam(folder):
 
 
 def dragged(outer):
-    """The border between the first pane and the others is dragged, and that between these; the focus stays."""
+    """Drag the border between the first pane and the others, and the one between these; the focus stays."""
     points(outer, (0, 5, 40), (32, 5, 45), (32, 6, 50), (32, 7, 60), (0, 7, 60, True))
     check("a border is dragged to the right", outer.stands(5, 59, "\u2502") and not outer.stands(5, 39, "\u2502", 0), outer.rows)
     points(outer, (0, 12, 70), (32, 8, 70), (0, 8, 70, True))
@@ -219,7 +219,7 @@ def dragged(outer):
 
 @scene
 def mouse_chosen(folder):
-    """ROAM_MOUSE=on has roam have the mouse from the beginning; another program has it none the less."""
+    """With ROAM_MOUSE=on roam uses the mouse from the start; another program still gets it."""
     outer = Outer(tool("mux", SESSION), environment={"ROAM_MOUSE": "on"})
     outer.shows("$ ")
     check("the terminal is asked", asks(outer, ASKED["drags"], 0), bytes(outer.written[-200:]))
@@ -246,7 +246,7 @@ def mouse_far(folder):
     outer.shows("$ ")
     outer.type(b"\x02%")
     outer.status(" 1 [2]")
-    # Another way may carry all from now on, and who follows the panes begins anew.
+    # Another transport may take over now, and subscribers of panes reconnect.
     time.sleep(3)
     begin = len(outer.written)
     program = Noting(folder, outer, "1002,1006")

@@ -1,5 +1,4 @@
-"""Programs that have the mouse show in the right one of two panes what they show in tmux, on a terminal of their own, when they are
-pointed at there."""
+"""Programs with the mouse, in the right one of two panes, show the same as in tmux on a terminal of their own after the same events."""
 import shutil
 import socket
 import time
@@ -17,7 +16,7 @@ PANE, LEFT = (23, 40), 40
 
 
 class Modes:
-    """The modes that the programs of a session's panes have, as its server tells them."""
+    """The modes of the programs in a session's panes, as its server reports them."""
 
     def __init__(self, folder):
         self.peer = socket.socket(socket.AF_UNIX)
@@ -27,7 +26,7 @@ class Modes:
         self.told, self.rest = PanesState(), b""
 
     def of(self, pane):
-        """Those of a pane's now."""
+        """Return those of a pane now."""
         try:
             *lines, self.rest = (self.rest + self.peer.recv(65536)).split(b"\n")
         except BlockingIOError:
@@ -38,7 +37,7 @@ class Modes:
 
 
 def right_of(outer):
-    """The cells of the right pane of a terminal, and the cursor there."""
+    """Return the cells of a terminal's right pane, and the cursor there."""
     seen, shown = outer.cells(), ShownCells(*PANE)
     shown.cells = {(row, col - LEFT): cell for (row, col), cell in seen.cells.items() if col > LEFT and row <= PANE[0]}
     shown.row, shown.col, shown.has_cursor = seen.row, seen.col - LEFT, seen.has_cursor
@@ -46,8 +45,9 @@ def right_of(outer):
 
 
 def point(outer, tmux, modes, *reports):
-    """Has the mouse report at both, at places of the pane or to the left of it: in tmux the program is sent what it asked for, where it
-    stands nearest."""
+    """Report mouse events to both, at positions of the pane or to the left of it. The program in tmux gets its requested reports at the
+    nearest position.
+    """
     for button, row, col, *is_release in reports:
         outer.type(report(button, row, col + LEFT, bool(is_release)))
         text = sent(MouseReport(button, row, max(1, col), bool(is_release)), modes)
@@ -56,7 +56,7 @@ def point(outer, tmux, modes, *reports):
 
 
 def check_pointed(name, command, steps, quits):
-    """A program in the right pane shows what it shows in tmux, at first and after each step: reports at places of the pane."""
+    """A program in the right pane shows the same as in tmux, at first and after each step: reports at positions of the pane."""
     for needed in (name, "tmux"):
         if not shutil.which(needed):
             print(f"skipped {name}: {needed} isn't here", flush=True)
@@ -89,13 +89,13 @@ def check_pointed(name, command, steps, quits):
 
 
 def click(row, col):
-    """A click."""
+    """Return a click."""
     return (0, row, col), (0, row, col, True)
 
 
 @scene
 def mouse_vim(folder):
-    """vim: a click puts the cursor, the wheel scrolls, and what is dragged over is selected, also out of the pane."""
+    """vim: a click moves the cursor, the wheel scrolls, and a drag selects, also out of the pane."""
     text = folder / "text"
     text.write_text("".join(f"line {line} of a text, in which something stands\n" for line in range(1, 90)), encoding="utf-8")
     vimrc = "set noshowcmd shm+=I mouse=a ttymouse=sgr ruler"
@@ -116,14 +116,14 @@ def mouse_less(folder):
 
 @scene
 def mouse_htop(folder):
-    """htop, whose keys at the bottom are clicked, and a line of its list."""
+    """htop: clicks on its keys at the bottom, and on a line of its list."""
     command = f"HTOPRC={htop_options(folder)} htop --readonly -d 100 -p 1"
     check_pointed("htop", command, {"a click on a line": click(7, 5), "a click on F1Help": click(23, 3)}, b"qq")
 
 
 @scene
 def mouse_mc(folder):
-    """mc, where a file is clicked, and the other panel."""
+    """mc: clicks on a file, and on the other panel."""
     home = mc_home(folder)
     check_pointed("mc", f"HOME={home} mc -u {home} {home}", {
         "a click on a file": click(4, 3), "one in the other panel": click(5, 24), "one on a menu": click(1, 10),
@@ -133,6 +133,6 @@ def mouse_mc(folder):
 
 @scene
 def mouse_fzf(folder):
-    """fzf, where a line is clicked, and the wheel goes through the list."""
+    """fzf: a click on a line, and the wheel through the list."""
     steps = {"a click": click(15, 4), "the wheel": [(64, 10, 4)] * 3, "the wheel back": [(65, 10, 4)] * 2}
     check_pointed("fzf", "seq 100 | fzf --no-info", steps, b"\x1b")

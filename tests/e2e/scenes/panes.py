@@ -1,4 +1,4 @@
-"""What a person sees and does in a session: panes, sizes, pasting, and what is told."""
+"""A user's view and actions in a session: panes, sizes, pastes, and messages."""
 import json
 import os
 import pathlib
@@ -17,13 +17,13 @@ from roam_live.session.foreground import busy_panes
 
 PASTED = 100_000
 
-# What a terminal is told that doesn't show all of the session.
+# The hint on a terminal that doesn't show the whole session.
 FITS = "C-b r fits"
 
-# A program that gives itself the name that it is handed in hexadecimal digits, and waits.
+# A program that gives itself a name from hexadecimal digits, and waits.
 NAMED = "import ctypes, sys, time; ctypes.CDLL(None).prctl(15, bytes.fromhex(sys.argv[1]), 0, 0, 0); time.sleep(100)"
 
-# Names of programs that ask a terminal something or tell it something, and how they are told.
+# Names of programs that contain control sequences, and their printable forms.
 ODD_NAMES = (
     (b"\x1b[c", "?[c"), (b"\x1b]0;pwned\x07", "?]0;pwned?"), (b"\x1bc", "?c"), (b"\x1b[?1003h", "?[?1003h"), (b"\xc2\x9b6n", "?6n"),
     (b"\x1b[?1049l", "?[?1049l"), (b"\n\n\n", "???"), ("\u202eevil".encode(), "?evil"),
@@ -31,7 +31,7 @@ ODD_NAMES = (
 
 
 def started():
-    """A terminal on a session that is begun there, with a shell of its pane's size."""
+    """Return a terminal on a new session, with a shell of its pane's size."""
     outer = Outer(tool("mux", SESSION))
     check("mux launches a session with a shell", outer.shows("$ ") and outer.status("[1]"), outer.rows)
     outer.type(b"echo o''ne; stty size; echo $TERM\r")
@@ -43,7 +43,7 @@ def started():
 
 @scene
 def panes(folder):
-    """Splits, focus by place, growth."""
+    """Splits, focus by position, growth."""
     outer = started()
     outer.type(b"\x02%")
     check("C-b % splits to the right", outer.status(" 1 [2]") and outer.stands(5, 39, "\u2502"), outer.rows)
@@ -57,7 +57,7 @@ def panes(folder):
         check(f"{keys!r} goes to the pane there", outer.status(label), outer.rows)
     outer.type(b"\x02\x1b[1;5B\x1b[1;5B")
     comes(lambda: "\u2500" * 40 in outer.rows()[13])
-    # What is typed goes to the shell past the tool that tells it the size.
+    # Input goes to the shell past the tool that sets the size.
     time.sleep(0.5)
     outer.type(b"clear; stty size\r")
     check("C-arrows grow the pane, and its programs are told", outer.shows("13 40"), outer.rows)
@@ -67,7 +67,7 @@ def panes(folder):
 
 @scene
 def leaving(folder):
-    """Detaching leaves the session, and the terminal as it was; a front end that is killed is followed by another."""
+    """A detach keeps the session, and restores the terminal; another front end replaces a killed one."""
     outer = three_panes()
     outer.type(b"clear; echo la''st\r")
     outer.shows("last")
@@ -93,7 +93,7 @@ def leaving(folder):
 
 @scene
 def host(folder):
-    """The pty host is stopped, or has ended: the server tells of its panes all the same, and `mux ls` says so."""
+    """The pty host is stopped, or has ended: the server still reports its panes, and `mux ls` shows that."""
     outer = three_panes()
     host = noted(SESSION)["host"][0]
     os.kill(host, signal.SIGSTOP)
@@ -121,7 +121,7 @@ def host(folder):
 def sizes(folder):
     """A new size of a lone terminal reaches the programs; a very small one shows a line."""
     outer = three_panes()
-    # A session that was just begun goes by its terminal's size, whatever that is.
+    # A new session takes its terminal's size, whatever it is.
     time.sleep(NEW + 0.5)
     outer.resize(40, 120)
     check("a larger terminal is filled", outer.status("[1] 2  3") and outer.stands(3, 59, "\u2502"), outer.rows)
@@ -147,7 +147,7 @@ def sizes(folder):
 
 
 def drawn_smaller(outer):
-    """Draws a terminal smaller by hand, through many sizes of which none stands; again where one did, as on a machine that was busy."""
+    """Shrink a terminal by hand, through many short-lived sizes; repeat it if one lasted, as on a busy machine."""
     longest = 1.0
     while longest > SIZES / 2:
         longest = 0.0
@@ -161,7 +161,7 @@ def drawn_smaller(outer):
 
 
 def covered(outer):
-    """What stands in place of the session, and what is scrolled back, and the way out of both."""
+    """Test notices over the session, the scrolled view, and the way out of both."""
     outer.type(b"clear\r\x02?")
     check("C-b ? lists the keys", outer.shows("C-b itself"), outer.rows)
     outer.type(b"x")
@@ -176,7 +176,7 @@ def covered(outer):
 
 @scene
 def three_terminals(folder):
-    """Two who type and one who watches see one screen."""
+    """Two read-write users and a read-only one see one screen."""
     outer = three_panes()
     other, watcher = Outer(tool("mux", SESSION)), Outer(tool("mux", "watch", SESSION))
     outer.type(b"clear; echo se''en\r")
@@ -201,7 +201,7 @@ def three_terminals(folder):
 
 @scene
 def paste(folder):
-    """What is pasted arrives whole."""
+    """Pastes arrive whole."""
     outer = three_panes()
     path = folder / "pasted"
     text = "".join(chr(ord(" ") + 7 * k % 95) for k in range(PASTED)).encode()
@@ -236,7 +236,7 @@ def busy(folder):
 
 
 def delay(outer, letter):
-    """How long a typed letter takes until it is painted."""
+    """Return the delay of a typed letter until it is painted."""
     time.sleep(0.03)
     before = len(outer.written)
     begun = time.monotonic()
@@ -248,7 +248,7 @@ def delay(outer, letter):
 
 @scene
 def closed(folder):
-    """A pane that is closed hangs up its programs, whatever they do."""
+    """A closed pane hangs up its programs, whatever they do."""
     outer = three_panes()
     outer.type(b'\x02q1\x02"')
     outer.status(" 1 [4]")
@@ -288,7 +288,7 @@ def ends(folder):
 
 @scene
 def told(folder):
-    """What a person asks for that can't be had is told for a second, in the last row."""
+    """An impossible request is reported for a second, in the last row."""
     outer = Outer(tool("mux", "other"), environment=KEEPS_NONE)
     outer.shows("$ ")
     means = "is not bound; C-b ? lists the keys"
@@ -324,7 +324,7 @@ def told(folder):
 
 
 def keypad(outer):
-    """The keypad sends the codes of applications while the pane in focus asks for them."""
+    """The keypad sends application codes while the focused pane requests them."""
 
     def becomes(mode, since):
         return comes(lambda: (outer.written[since:].rfind(b"\x1b="), outer.written[since:].rfind(b"\x1b>"))[mode] >= 0)
@@ -342,7 +342,7 @@ def keypad(outer):
 
 @scene
 def names(folder):
-    """What a program calls itself reaches no terminal raw."""
+    """A program's own title never reaches a terminal raw."""
     path = folder / "named.py"
     path.write_text(NAMED, encoding="utf-8")
     outer = Outer(tool("mux", "other"))
@@ -369,7 +369,7 @@ def names(folder):
 
 @scene
 def smaller(folder):
-    """A terminal that comes makes no session smaller, and changes nobody's."""
+    """A new terminal shrinks no session, and changes no other terminal."""
     outer = Outer(tool("mux", "other"), size=(24, 100))
     outer.shows("$ ")
     check("a session that is launched has its terminal's size", comes(lambda: listed()[1:4] == ["23", "by", "100"]), listed)
@@ -405,7 +405,7 @@ def smaller(folder):
 
 @scene
 def full(folder):
-    """Sixteen terminals are taken: another is told so, and comes in once one has left."""
+    """Sixteen terminals are accepted: another gets a message, and enters once one has left."""
     outer = Outer(tool("mux", "other"))
     outer.shows("$ ")
     links = [ClientLink(terminals_of("other"), False) for _ in range(15)]

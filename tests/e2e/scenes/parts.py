@@ -1,4 +1,4 @@
-"""Terminals of other sizes than the session, what a pane shows that looks like the front end's words, and what is captured of it."""
+"""Terminals of other sizes than the session, a pane with the front end's own words, and captures of it."""
 import os
 import signal
 import socket
@@ -13,22 +13,22 @@ from roam_live.common.process import program
 from roam_live.common.unix_socket import is_listened
 from roam_live.protocol.screen_cells import Style
 
-# What a program paints, row by row with pauses: wide characters stand at every place of a row in turn.
+# A program's output, row by row with pauses: wide characters at every position of a row in turn.
 PAINTS = ("i=0; while [ $i -lt 60 ]; do i=$((i+1)); "
           r"printf '\033[3%dm%*s\344\270\255\344\270\255\033[0m%d\n' $((i%7)) $((i%40)) '' $i; sleep 0.02; done")
 
 FITS = "C-b r fits"
 
-# A Hangul syllable as its parts, and in one.
+# A Hangul syllable in parts, and as one character.
 PARTS, SYLLABLE = "\u1112\u1161\u11ab", "\ud55c"
 
 ALWAYS = {"ROAM_PREDICT": "always"}
 
-# What asks for a password, once its pane is blank, and one whose keys stand in nothing else that is painted, controls neither.
+# A password prompt, on a blank pane, with keys that occur in no other painted text or control.
 ASKS = b"stty -echo; clear; read secret; stty echo; echo do''ne $(printf %s \"$secret\" | wc -c)\r"
 SECRET = b"QXZGQXZGWV"
 
-# What a program paints, a step at a time: styles, wide characters, rows that scroll, also between margins, what is moved and hidden.
+# A program's output, step by step: styles, wide characters, rows that scroll, also between margins, moved and hidden cursors.
 STEPS = (
     "\x1b[3;5Hplain \x1b[1;31mbold\x1b[0m \x1b[48;5;20m\u4e2d\u6587\x1b[0m and more",
     "\x1b[23;1H" + "".join(f"\n\r{count} {'row ' * count}" for count in range(1, 13)),
@@ -37,18 +37,18 @@ STEPS = (
     "\x1b[?25h\x1b[1;79H\u4e2d\x1b[1;1H\x1b[4munderlined\x1b[0m",
     "\x1b[2J\x1b[H",
 )
-# What another connection says beside them, a line at each step.
+# The lines of another connection at the same time, one at each step.
 SAYS = ("look", "part 4 20", "mask 0 0 1 4", "look sgr", "whole", "unmask")
 
 
 def captured(name):
-    """What is captured of a session."""
+    """Return the capture of a session."""
     return subprocess.run(tool("mux", "capture", name), stdout=subprocess.PIPE, text=True, check=False).stdout
 
 
 @scene
 def looks_told(folder):
-    """A pane that prints what the front end says of a silence has it as it is, in its style, and what follows it where it stands."""
+    """A pane that prints the front end's message about a silence shows it unchanged, in its style, with the text after it in place."""
     outer = Outer(tool("mux", "other"))
     outer.shows("$ ")
     outer.type(b"clear; printf '\\033[5;1Hthe row as it was before\\033[5;1H\\033[1mroam: no answer for 5 s\\033[0m|\\n'\r")
@@ -62,7 +62,7 @@ def looks_told(folder):
 
 
 def prints(path, text, command):
-    """A terminal at another session, in which a command is typed about a file with a text."""
+    """Return a terminal at another session, with a typed command about a file with a text."""
     path.write_text(text, encoding="utf-8")
     outer = Outer(tool("mux", "other"))
     outer.shows("$ ")
@@ -72,7 +72,7 @@ def prints(path, text, command):
 
 @scene
 def hangul(folder):
-    """What is captured of a Hangul syllable that stands as its parts is all of them."""
+    """The capture of a Hangul syllable in parts has all of them."""
     outer = prints(folder / "letters", f"{PARTS}{PARTS}|\n{SYLLABLE}|\ne\u0301\u4e2d|\n", "clear; cat {}; echo do''ne\r")
     outer.shows("done")
     told = said("capture", "other")
@@ -81,13 +81,13 @@ def hangul(folder):
 
 
 def are_right(outers, seconds=15.0):
-    """Whether each terminal comes to show a part of the session, cell by cell."""
+    """Return True if each terminal shows a part of the session in time, cell by cell."""
     return comes(lambda: all(is_part_of(outer, told_cells("other")) for outer in outers), seconds)
 
 
 @scene
 def two_sizes(folder):
-    """Terminals of 24 by 80, 50 by 200 and 12 by 40 on one session each show what they should, while a program paints and keys come."""
+    """Terminals of 24 by 80, 50 by 200 and 12 by 40 on one session are each right while a program paints and keys arrive."""
     predictions = {"ROAM_PREDICT": "always"}
     first = Outer(tool("mux", "other"), (24, 80), predictions)
     first.shows("$ ")
@@ -149,7 +149,7 @@ def small_and_back(folder):
 
 @scene
 def asked_small(folder):
-    """A password that is typed in a second pane while a part is shown: no key of it is painted."""
+    """A password is typed in a second pane while a part is shown: no key of it is painted."""
     outer = Outer(tool("mux", "other"), (24, 100))
     outer.shows("$ ")
     outer.type(b"\x02%")
@@ -168,14 +168,15 @@ def asked_small(folder):
     painted = bytes(small.written[before:])
     check("no key of it is painted", not any(letter in painted for letter in b"QXZKGW"), painted)
     small.type(b"\r")
-    # Where the part stands by then hangs on how the cursor went; all of the row is in what is captured.
+    # The part's position depends on the cursor's path; the capture has the whole row.
     check("and all of it came", comes(lambda: "done 10" in captured("other")), small.rows)
     subprocess.run(tool("mux", "kill", "-f", "other"), check=True)
 
 
 def is_trusted(small, large, host):
-    """Whether a terminal comes to show a key in the first pane before it is echoed, since keys are there. The pty host is stopped
-    then, so that nothing echoes it; on a busy machine an echo may be too late to be trusted, and the next one is waited for."""
+    """Return True if a terminal shows a predicted key in the first pane. The pty host is stopped then, so that nothing echoes it; on a busy
+    machine an echo may be too late for trust, and the next one is awaited.
+    """
     text = "$ "
     for _ in range(8):
         for letter in "abc":
@@ -194,7 +195,7 @@ def is_trusted(small, large, host):
 
 
 def trust_and_ask(small, large, goes):
-    """Has a terminal trust keys in the first pane, and a password asked for in the same row of the second, where one of both goes."""
+    """Make a terminal trust keys in the first pane, and ask for a password in the same row of the second, after one of both moves there."""
     small.type(b"\x02q2" + ASKS)
     comes(lambda: not any(row[50:].strip() for row in large.rows()[:-1]))
     small.type(b"\x02q1\x15")
@@ -214,7 +215,7 @@ def trust_and_ask(small, large, goes):
 
 
 def type_each(outer, text):
-    """Types bytes one after another."""
+    """Type bytes one after another."""
     for letter in text:
         outer.type(bytes([letter]))
         time.sleep(0.05)
@@ -222,8 +223,9 @@ def type_each(outer, text):
 
 @scene
 def asked_beside(folder):
-    """A password in a second pane, in the row in which keys were trusted in the first, while a part is shown, whoever goes there: no key of
-    it is in any byte that any terminal was written."""
+    """A password in a second pane, in the row of trusted keys in the first, while a part is shown: no byte to any terminal contains a key
+    of it, whichever terminal moves there.
+    """
     large = Outer(tool("mux", "other"), (24, 100), ALWAYS)
     large.shows("$ ")
     large.type(b"\x02%")
@@ -239,7 +241,7 @@ def asked_beside(folder):
 
 
 class Plain:
-    """A plain connection to a session's start, as one by hand has it: all that it was written, and the terminal that reads it."""
+    """A plain connection to a session's client, like one by hand: all its output, and the terminal that reads it."""
 
     def __init__(self, name):
         self.end = socket.socket(socket.AF_UNIX)
@@ -248,7 +250,7 @@ class Plain:
         self.written, self.emulated = b"", Emulated(24, 80)
 
     def shows(self, pane):
-        """Whether it shows what a pane does, which is all of the session but its status row."""
+        """Return True if it shows the same as a pane, the whole session but its status row."""
         try:
             chunk = self.end.recv(65536)
         except BlockingIOError:
@@ -260,8 +262,9 @@ class Plain:
 
 
 def painted_beside(plain, pane, end, lines):
-    """What a plain connection was written while a program painted step by step, each once it showed the one before; and the words of the
-    records that others were told meanwhile, one that says a line at each step, and one that comes then, says all of them and leaves."""
+    """Return the output to a plain connection while a program painted step by step, each after the one before was visible. Also return the
+    words of the records to others meanwhile: one sends a line at each step, and one comes then, sends all of them and leaves.
+    """
     begin, words = len(plain.written), set()
     stays = [connected("other", False)] if lines else []
     for k, step in enumerate(STEPS):
@@ -289,7 +292,7 @@ def painted_beside(plain, pane, end, lines):
 
 @scene
 def told_beside(folder):
-    """What a plain connection is painted is the same to a byte, whatever others are told that come, look, have parts and leave."""
+    """A plain connection gets the same bytes, whatever others come, look, have parts and leave."""
     path = folder / "terminal"
     command = f"stty raw -echo; tty > {path}; exec sleep 1000"
     subprocess.run(tool("mux", "new", "-d", "other", "/bin/sh", "-c", command), check=True)
@@ -308,7 +311,7 @@ def told_beside(folder):
 
 @scene
 def cut_wide(folder):
-    """A wide character at either edge of the part that is told is a space in its style, wherever that is while keys are predicted."""
+    """A wide character at either edge of the part is a space in its style, at any position while keys are predicted."""
     rows = "\x1b[H\x1b[2J\n\x1b[32m" + 39 * "\u4e2d" + "\n " + 39 * "\u4e2d" + "\x1b[0m\x1b[5;60H"
     outer = prints(folder / "rows", rows, "cat {} -\r")
     comes(lambda: (outer.emulation().row, outer.emulation().col) == (4, 59))
@@ -331,7 +334,7 @@ def cut_wide(folder):
 
 @scene
 def whole_by_hand(folder):
-    """`attach` of a folder shows the whole with the session's own status row where it has room, and a part where it hasn't."""
+    """`attach` of a folder shows the whole session with its own status row if it fits, and else a part."""
     own = folder / "own"
     own.mkdir(mode=0o700)
     server = subprocess.Popen([program(), "serve", "--dir", str(own)])
@@ -340,7 +343,7 @@ def whole_by_hand(folder):
     comes(lambda: is_listened(own / "clients"))
     outer = Outer(tool("attach", str(own)))
     check("the whole is shown", outer.shows("$ ") and outer.status("[1]"), outer.rows)
-    # One that comes shows the newest rows to all, so it is there before.
+    # A new one shows the newest rows to all, so it attaches before.
     beside = Outer(tool("attach", str(own)))
     beside.shows("$ ")
     outer.type(b"seq 100\r")

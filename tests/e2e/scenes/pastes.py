@@ -1,4 +1,4 @@
-"""What is pasted: in one piece and at its place, between brackets where a program wants that; what becomes of it where something ends."""
+"""Pastes: in one piece and at their position, bracketed if a program wants that; and their fate if a process ends."""
 import json
 import os
 import pathlib
@@ -13,17 +13,17 @@ from scenes.machines import far_ends, ssh_words
 from scenes.mouse_programs import Modes
 from roam_live.protocol.panes import BRACKETED
 
-# So many pastes are typed with keys round each, and so many bytes at once are timed.
+# The number of pastes with keys around each, and the bytes of a timed one.
 PASTES = 100
 LENGTHS = (20_000, 1_000_000)
 
 OPENS, CLOSES = b"\x1b[200~", b"\x1b[201~"
 
-# A shell that asks for brackets, and what has a pane's bytes written into a file.
+# A shell with bracketed paste, and a command that writes a pane's input into a file.
 BASH = b"PS1='b> ' exec bash --norc --noprofile -i\r"
 LINES = "echo on''e{pad}\necho tw''o{pad}"
 
-# What has vim ask for brackets, whatever its terminal is called.
+# A configuration of vim with bracketed paste for any terminal name.
 VIMRC = r"""set nocompatible autoindent
 let &t_BE = "\<Esc>[?2004h"
 let &t_BD = "\<Esc>[?2004l"
@@ -33,27 +33,27 @@ let &t_PE = "\<Esc>[201~"
 
 
 def pasted(text):
-    """A text as a terminal pastes it."""
+    """Return a text in the form that a terminal pastes."""
     return OPENS + (text.encode() if isinstance(text, str) else text) + CLOSES
 
 
 def reads(outer, path, modes=""):
-    """Has a pane's bytes be read as they are into a file, by a program that asked for these modes."""
+    """Read a pane's bytes raw into a file, by a program that requested these modes."""
     outer.type(f"clear; stty raw -echo; printf '{modes}re''ady'; exec cat > {path}\r".encode())
     outer.shows("ready")
 
 
 def has(path, text, seconds=30.0):
-    """Whether a file comes to have these bytes and no others."""
+    """Return True if a file gets exactly these bytes in time."""
     return comes(lambda: path.exists() and path.stat().st_size >= len(text), seconds) and path.read_bytes() == text
 
 
 def waits_for_return(outer, name, folder):
-    """Two pasted lines wait for Return in a shell that asks for brackets, whether they are typed as acts or by a mark."""
+    """Two pasted lines wait for Return in a shell with bracketed paste, typed as acts or by a placeholder."""
     modes = Modes(folder)
     for form, pad in (("short", ""), ("long", f" {'#' * 40}")):
         outer.type(b"clear\r")
-        # It asks for none while it runs a command; and what it asks for is told beside what is painted.
+        # It has no bracketed paste while it runs a command, and its request is reported beside the painting.
         comes(lambda: outer.rows()[0].startswith("b> ") and not any(row.strip() for row in outer.rows()[1:-1]))
         comes(lambda: BRACKETED in modes.of(1))
         time.sleep(0.3)
@@ -67,7 +67,7 @@ def waits_for_return(outer, name, folder):
 
 @scene
 def paste_lines(folder):
-    """Two pasted lines wait for Return in bash, and vim takes a paste as it is; what is pasted is neither a binding nor an answer."""
+    """Two pasted lines wait for Return in bash, and vim takes a paste literally; a paste is neither a binding nor an answer."""
     outer = Outer(tool("mux", "other"), environment=KEEPS_NONE)
     outer.shows("$ ")
     outer.type(BASH)
@@ -127,8 +127,9 @@ def paste_speed(folder):
 
 
 def out_of_order(got, texts, keys):
-    """What of a terminal's keys and pastes doesn't come next, and the bytes that do; nothing where all come in their order, with another's
-    keys between and in none of them."""
+    """Return the first of a terminal's keys and pastes that is out of order, and the bytes in its place. Nothing if all are in order, with
+    another's keys between them and in none of them.
+    """
     place = 0
     for text, key in zip(texts, keys):
         for part in (key, text):
@@ -141,8 +142,9 @@ def out_of_order(got, texts, keys):
 
 @scene
 def paste_order(folder):
-    """A hundred pastes with keys round each, while a second terminal types here and a third over `mux ssh`: each is in one piece, and all
-    that the terminal typed is in its order."""
+    """A hundred pastes with keys around each, while a second terminal types here and a third over `mux ssh`: each is in one piece, and the
+    terminal's whole input is in order.
+    """
     folder = folder / "o"
     folder.mkdir()
     far, path = folder / "far", folder / "got"
@@ -174,8 +176,9 @@ def paste_order(folder):
 
 @scene
 def paste_lost(folder):
-    """Where the pty host is stopped a paste and what is typed behind it wait; where it is killed nothing is typed, and the
-    front end says so; a C-c drops what waits."""
+    """If the pty host is stopped a paste and later input wait; if it is killed nothing is typed, and the front end reports that; C-c drops
+    waiting input.
+    """
     outer, path = Outer(tool("mux", "other")), folder / "got"
     outer.shows("$ ")
     reads(outer, path)
@@ -212,7 +215,7 @@ def paste_lost(folder):
 
 @scene
 def paste_far(folder):
-    """Over `mux ssh` pastes have brackets where the program there wants them, short ones too; they go on where the far end is killed."""
+    """Over `mux ssh` pastes are bracketed if the program there wants that, short ones too; they continue after the far end is killed."""
     folder = folder / "p"
     folder.mkdir()
     far, path = folder / "far", folder / "got"
@@ -246,14 +249,14 @@ def paste_far(folder):
 
 
 def fed(words, text):
-    """The status of `mux` with words, which reads a text, and what it says on standard error."""
+    """Return the status of `mux` with these words and a text as input, and its standard error."""
     run = subprocess.run(tool("mux", *words), input=text, stdout=subprocess.PIPE, stderr=subprocess.PIPE, check=False)
     return run.returncode, run.stderr.decode()
 
 
 @scene
 def paste_words(folder):
-    """`mux paste` and `mux send -l` type a text in one piece, and NAME.P is a pane for what types, captures and ends."""
+    """`mux paste` and `mux send -l` type a text in one piece, and NAME.P is a pane for typing, captures and ends."""
     outer = Outer(tool("mux", "other"))
     outer.shows("$ ")
     paths = [folder / name for name in ("one", "two")]
@@ -288,7 +291,7 @@ def paste_words(folder):
 
 @scene
 def focus_told(folder):
-    """A program that asked for reports of the focus has one each time that it comes and goes."""
+    """A program with focus reports gets one for each change."""
     outer, path = Outer(tool("mux", "other")), folder / "got"
     outer.shows("$ ")
     outer.type(b"\x02%")

@@ -1,4 +1,4 @@
-"""Programs that fill a pane show there what they show in tmux, and a front end what it shows, in tmux too."""
+"""Programs that fill a pane show the same as in tmux, and a front end shows the same in tmux too."""
 import os
 import shutil
 import subprocess
@@ -9,7 +9,7 @@ from painted import cells_of_rows
 from roam_live.common.process import TOOLS
 from roam_live.protocol.screen_cells import Style
 
-# What keeps htop and mc from showing what differs from one run to the next.
+# Options of htop and mc that avoid differences between two runs.
 HTOP_OPTIONS = """\
 htop_version=3.2.2
 config_reader_min_version=3
@@ -32,17 +32,17 @@ xterm_title=0
 free_space=0
 """
 
-# The parts of SGR that roam and tmux show alike: 6 is no rendition in roam's profile, and 21 a single line.
+# The SGR numbers that roam and tmux show alike: 6 is no rendition in roam's profile, and 21 a single line.
 COLOURED = "\x1b[{number}mstyle {number}\x1b[0m \x1b[38;5;{index}mof many\x1b[0m \x1b[48;2;{number};9;99mdirect\x1b[0m\n"
 
 SHOWN_ALIKE = (*range(6), *range(7, 10), *range(22, 50), *range(90, 108))
 
-# The rows and columns of the pane in which programs are tried.
+# The rows and columns of the pane for tested programs.
 PANE = (23, 39)
 
 
 class Tmux:
-    """A command in tmux, another terminal than roam's."""
+    """A command in tmux, a terminal other than roam's."""
 
     def __init__(self, command, rows, cols):
         self.height = rows
@@ -52,17 +52,17 @@ class Tmux:
         subprocess.run([*self.words, "resize-window", *size], check=True)
 
     def captured(self, *more):
-        """What it shows: a line for each row."""
+        """Return its contents: a line for each row."""
         shown = subprocess.run([*self.words, "capture-pane", "-p", *more], stdout=subprocess.PIPE, check=True).stdout.decode()
         lines = shown.split("\n")[: self.height]
         return lines + [""] * (self.height - len(lines))
 
     def rows(self):
-        """The rows without the spaces at their ends."""
+        """Return the rows without trailing spaces."""
         return [line.rstrip() for line in self.captured()]
 
     def cells(self):
-        """The cells with their styles, and the cursor."""
+        """Return the cells with their styles, and the cursor."""
         shown = cells_of_rows(self.captured("-e", "-N"))
         cursor = "#{cursor_y} #{cursor_x} #{cursor_flag}"
         told = subprocess.run([*self.words, "display-message", "-p", cursor], stdout=subprocess.PIPE, check=True).stdout.split()
@@ -70,16 +70,16 @@ class Tmux:
         return shown
 
     def type(self, *keys):
-        """Types keys, as tmux names them."""
+        """Type keys, by tmux's names."""
         subprocess.run([*self.words, "send-keys", *keys], check=True)
 
     def stop(self):
-        """Ends it."""
+        """End it."""
         subprocess.run([*self.words, "kill-server"], check=True)
 
 
 def differences(shown, wanted, size):
-    """What of the first rows and columns two programs show differently: places with both cells, and the cursor."""
+    """Return the differences of two programs in the first rows and columns: positions with both cells, and the cursor."""
     blank = (" ", Style())
     places = [(row, col) for row in range(1, size[0] + 1) for col in range(1, size[1] + 1)]
     pairs = [(place, shown.cells.get(place, blank), wanted.cells.get(place, blank)) for place in places]
@@ -88,7 +88,7 @@ def differences(shown, wanted, size):
 
 
 def check_program(name, command, quits):
-    """A program that fills pane 1 shows there, cell by cell with its style, what it shows in tmux on a terminal of the pane's size."""
+    """A program that fills pane 1 shows, cell by cell with its style, the same as in tmux on a terminal of the pane's size."""
     outer = three_panes()
     for needed in (name, "tmux"):
         if not shutil.which(needed):
@@ -133,7 +133,7 @@ def less(folder):
 
 @scene
 def htop(folder):
-    """htop, which shows a process that sleeps."""
+    """htop, which shows a sleeping process."""
     sleeper = subprocess.Popen(["sleep", "1000"])
     try:
         check_program("htop", f"HTOPRC={htop_options(folder)} htop --readonly -d 100 -p {sleeper.pid}", b"q")
@@ -143,7 +143,7 @@ def htop(folder):
 
 
 def htop_options(folder):
-    """htop's file of options that has it show nothing that changes while it runs."""
+    """Write htop's options so that it shows nothing that changes during the run."""
     file = folder / "htoprc"
     file.write_text(HTOP_OPTIONS, encoding="utf-8")
     return file
@@ -156,7 +156,7 @@ def mc(folder):
 
 
 def mc_home(folder):
-    """A home folder in which mc shows no hint by chance, and no room that is free."""
+    """Create a home folder in which mc shows no random hint, and no free space."""
     home = folder / "home"
     (home / ".config/mc").mkdir(parents=True)
     (home / ".config/mc/ini").write_text(MC_OPTIONS, encoding="utf-8")
@@ -174,7 +174,7 @@ def tmux(folder):
 
 @scene
 def in_tmux(folder):
-    """Where tmux is the outer terminal a front end shows the same, and leaves what stood there."""
+    """With tmux as the outer terminal a front end shows the same, and restores the old screen."""
     if not shutil.which("tmux"):
         return
     outer = three_panes()

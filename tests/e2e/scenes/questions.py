@@ -1,4 +1,4 @@
-"""What programs ask of their terminals and are answered, and frames that are held together."""
+"""Terminal queries of programs with their answers, and buffered synchronized updates."""
 import socket
 import time
 
@@ -9,7 +9,7 @@ from roam_live.protocol.colours import ASKED
 from roam_live.protocol.display_records import screen_of
 from roam_live.protocol.queries import QUERIES, NAMED
 
-# A program that writes what its words spell to its terminal, and notes what comes until the answer to DA1 has, or for three seconds.
+# A program that writes the given bytes to its terminal, and records its input until the answer to DA1, or for three seconds.
 ASKER = """\
 import os, select, sys, termios, time, tty
 before, noted, until = termios.tcgetattr(0), b"", time.monotonic() + 3
@@ -21,7 +21,7 @@ open(sys.argv[2], "wb").write(noted)
 termios.tcsetattr(0, termios.TCSAFLUSH, before)
 """
 
-# A program that fills a screen with one letter after another, each time as one frame of 1,600 bytes.
+# A program that fills a screen with one letter after another, each time as one synchronized update of 1,600 bytes.
 FILLER = """\
 import os, time
 for turn in range(120):
@@ -31,12 +31,12 @@ for turn in range(120):
 os.write(1, b"\\033[22;1Hdo" b"ne\\r\\n")
 """
 
-# What the terminals of panes answer to DA1 begins so.
+# The start of a pane's answer to DA1.
 DEVICE = b"\x1b[?6"
 
 
 def has_word(folder, word):
-    """Whether the server of a session's folder knows a word of who follows its panes."""
+    """Return True if the server of a session's folder knows a subscription to its panes."""
     with socket.socket(socket.AF_UNIX) as peer:
         peer.connect(str(folder / "panes"))
         peer.sendall(f"{word}\n".encode())
@@ -45,7 +45,7 @@ def has_word(folder, word):
 
 
 def is_known(folder):
-    """Whether the host of a session knows of a terminal at the window of a folder: until then it is told no colour of it."""
+    """Return True if the host of a session knows of a terminal at the window of a folder: until then it gets no colour of it."""
     try:
         with socket.socket(socket.AF_UNIX) as peer:
             peer.connect(str(folder.parents[1] / "host"))
@@ -57,7 +57,7 @@ def is_known(folder):
 
 
 def answers(folder, outer, text):
-    """What a program in a pane is sent that asks so, before and with the answer to DA1."""
+    """Return the input of a program in a pane after a query, before and with the answer to DA1."""
     script, noted = folder / "asker", folder / "noted"
     script.write_text(ASKER, encoding="utf-8")
     noted.unlink(missing_ok=True)
@@ -68,8 +68,9 @@ def answers(folder, outer, text):
 
 @scene
 def questions(folder):
-    """A program is answered what it asks, before what the screen's terminal answers to what stands behind it; a colour as the person's
-    terminal has it, which told it among what is typed."""
+    """A program's query is answered before the screen's own answer to later output; a colour is the user's terminal's, from its answer
+    among the input.
+    """
     outer = Outer(tool("mux", SESSION))
     outer.shows("$ ")
     if not has_word(terminals_of(SESSION).parent, QUERIES):
@@ -99,7 +100,7 @@ def questions(folder):
 
 @scene
 def frames(folder):
-    """A frame comes whole, and half a frame after a moment; nothing of either is lost."""
+    """A synchronized update appears whole, and half of one after a moment; nothing of either is lost."""
     outer = Outer(tool("mux", SESSION))
     outer.shows("$ ")
     script = folder / "frames"
@@ -116,14 +117,14 @@ def frames(folder):
 
 
 def letters_shown():
-    """The letters that fill rows of the session's screen now."""
+    """Return the letters that fill rows of the session's screen now."""
     rows = screen_of(asked_screen(connected(SESSION), "look")).text()
     return {row[0] for row in rows if row[:70] in ("x" * 70, "y" * 70, "z" * 70)}
 
 
 @scene
 def large_frames(folder):
-    """A frame that the server takes in several turns is shown whole or not at all."""
+    """A synchronized update that the server takes in several turns is shown whole or not at all."""
     outer = Outer(tool("mux", SESSION))
     outer.shows("$ ")
     script = folder / "filler"

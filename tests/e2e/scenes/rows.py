@@ -1,4 +1,4 @@
-"""Rows scrolled off the screens of panes, which the pty host keeps by the scrollback process; what is copied, and what is written down."""
+"""Rows scrolled off the screens of panes, which the pty host stores by the scrollback process; copies, and logs."""
 import os
 import pathlib
 import signal
@@ -15,40 +15,40 @@ from roam_live.session.lookup import window_in
 
 KEPT = 10_000
 
-# So many seconds a search over all of them may take.
+# Seconds for a search over all of them.
 SEARCHED = 0.05
 
-# So many bytes the host may grow by what it keeps.
+# The most bytes that the host may grow by its stored rows.
 GROWTH = 64 << 20
 
 GIGABYTE = 1 << 30
 
 
 def host(name=SESSION):
-    """The process that keeps a session's shells."""
+    """Return a session's pty host."""
     return noted(name)["host"][0]
 
 
 def scrollback_processes(name=SESSION):
-    """The scrollback processes of a session."""
+    """Return the scrollback processes of a session."""
     return [process for process in children(host(name)) if is_scrollback_process(process)]
 
 
 def grown(process):
-    """The bytes that a process has of its own."""
+    """Return the private bytes of a process."""
     lines = pathlib.Path(f"/proc/{process}/status").read_text(encoding="utf-8").splitlines()
     return next(int(line.split()[1]) << 10 for line in lines if line.startswith("RssAnon:"))
 
 
 def count_of(name=SESSION, pane=1):
-    """The numbers of the first row that is kept and of that behind the last."""
+    """Return the numbers of the first stored row and of the end."""
     asked = RowsAsked(window_in(window_of(name)))
     number, generation = making_of(asked.session, pane)
     return asked.answer(lambda told: asked.link.count(number, generation, told)) or (0, 0)
 
 
 def kept(name=SESSION, pane=1):
-    """All scrollback rows of a pane, without what leads them; none while the scrollback process has too much to read to lend any."""
+    """Return all scrollback rows of a pane, without their prefix; none while the scrollback process is too busy for a snapshot."""
     asked = RowsAsked(window_in(window_of(name)))
     try:
         snapshot, found = asked.snapshot(pane), []
@@ -63,7 +63,7 @@ def kept(name=SESSION, pane=1):
 
 
 def begun():
-    """A terminal on a session, with a shell."""
+    """Return a terminal on a session, with a shell."""
     outer = Outer(tool("mux", SESSION))
     check("a session keeps rows by one scrollback process", outer.shows("$ ") and comes(lambda: len(scrollback_processes()) == 1),
           outer.rows)
@@ -71,13 +71,13 @@ def begun():
 
 
 def run(outer, line, text, seconds=60):
-    """Has a shell run a line, behind which a text is shown."""
+    """Let a shell run a line that ends with a text."""
     outer.type(f"{line}; echo {text[:2]}''{text[2:]}\r".encode())
     return outer.shows(text, seconds)
 
 
 def run_long(outer, line, text, seconds=60):
-    """The same, however long it takes, while rows come: a machine that does much else is slow."""
+    """Do the same, however long it takes, while rows come: a busy machine is slow."""
     before, is_shown = -1, run(outer, line, text, seconds)
     while not is_shown and count_of()[1] != before:
         before = count_of()[1]
@@ -108,13 +108,13 @@ def kept_rows(folder):
     check("capture -S 0 -E 1 prints rows of the screen", said("capture", "-S", "0", "-E", "1", SESSION)[1].splitlines() == shown[:2])
     check_forms(outer)
     run(outer, "printf '\\033[3J'", "emptied")
-    # What the line itself shows may leave behind that.
+    # The output of the line itself may follow.
     check("CSI 3 J empties it", comes(lambda: count_of()[1] - count_of()[0] < 5), count_of())
     check("and what comes is kept", run(outer, "seq 1 40", "again") and comes(lambda: "7" in kept()), kept)
 
 
 def sought(text, numbers):
-    """The seconds that a search backward over all rows takes, the best of five."""
+    """Return the seconds of a backward search over all rows, the best of five."""
     asked = RowsAsked(window_in(window_of(SESSION)))
     snapshot, best = asked.snapshot(1), 60.0
     for _ in range(5):
@@ -127,7 +127,7 @@ def sought(text, numbers):
 
 
 def check_forms(outer):
-    """Rows with their styles, and joined."""
+    """Check rows with their styles, and joined."""
     run(outer, "clear; printf '\\033[1;31mred\\033[0m\\n%0100d\\n' 7; seq 1 30", "styled")
     comes(lambda: "red" in "".join(kept()[-40:]))
     styled = said("capture", "-e", "-S", "-40", "-E", "-1", SESSION)[1]
@@ -141,7 +141,7 @@ def check_forms(outer):
 
 @scene
 def process_lost(folder):
-    """The scrollback process killed, stopped and continued: shells go on, what is lost is told, and stands among the rows."""
+    """The scrollback process is killed, stopped and continued: shells continue, and the loss is reported and marked among the rows."""
     outer = begun()
     run(outer, "clear; seq 1 100", "before")
     check("rows are kept", comes(lambda: "50" in kept()), kept)
@@ -161,14 +161,14 @@ def process_lost(folder):
     status, _, why = said("capture", "-S", "-", SESSION)
     check("no snapshot is had of it", status == 1 and "has no stored rows" in why, why)
     os.kill(process, signal.SIGCONT)
-    # What is written before it has taken what waited for it is lost too.
+    # Output before it has caught up is lost too.
     again = lambda: run(outer, "seq 401 500", "continued") and in_order(kept(), "[rows were lost here]", "450")
     check("rows are kept again once it is continued", comes(again), lambda: kept()[-120:])
     check("by the same scrollback process", scrollback_processes() == [process], scrollback_processes())
 
 
 def in_order(rows, *texts):
-    """Whether these rows stand behind one another."""
+    """Return True if these rows occur in this order."""
     place = 0
     for text in texts:
         if text not in rows[place:]:
@@ -179,7 +179,7 @@ def in_order(rows, *texts):
 
 @scene
 def process_fed(folder):
-    """A gigabyte through a pane: the host grows by no more than may be, and the last rows are kept."""
+    """A gigabyte through a pane: the host grows within its limit, and the last rows are stored."""
     outer = begun()
     before = grown(host())
     begin = time.monotonic()
@@ -232,7 +232,7 @@ def small_rows(folder):
 
 @scene
 def buffers(folder):
-    """What is set as a buffer is listed, shown and pasted, at this machine and over a relay."""
+    """A new buffer is listed, shown and pasted, on this machine and over a relay."""
     outer = begun()
     check("none is there", said("buffer", "list", SESSION) == (0, "", ""), said("buffer", "list", SESSION))
     check("one is set", said("buffer", "set", SESSION, "echo pas''ted")[0] == 0)
@@ -258,7 +258,7 @@ def buffers(folder):
 
 
 def check_far(near, long):
-    """Rows and buffers by the sockets of a near relay."""
+    """Check rows and buffers by the sockets of a near relay."""
     check("a relay is there", comes(lambda: (near.folder / "host").exists() and near.places()), near.folder)
     asked = RowsAsked(near)
     check("a long buffer comes over it whole", asked.answer(lambda told: asked.link.buffer(2, told)) == long.encode())
@@ -273,7 +273,7 @@ def check_far(near, long):
 
 @scene
 def rows_logged(folder):
-    """`mux log` writes down each row as it leaves, and the last screen where the pane ends."""
+    """`mux log` prints each row as it scrolls off, and the last screen at the pane's end."""
     outer = begun()
     with open(folder / "log", "wb") as log:
         process = subprocess.Popen(tool("mux", "log", SESSION), stdout=log)

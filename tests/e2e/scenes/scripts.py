@@ -1,4 +1,4 @@
-"""Other scripts that try roam, each as a scene."""
+"""Other test scripts of roam, each as a scene."""
 import subprocess
 
 from tried import PROGRAM, check, scene, script
@@ -6,7 +6,7 @@ from tried import PROGRAM, check, scene, script
 
 @scene
 def shared(folder):
-    """The short form of what is tried of terminals that come and go."""
+    """The short form of the tests of terminals that come and go."""
     run = subprocess.run(script("try_starts", "20", PROGRAM), stdout=subprocess.PIPE, stderr=subprocess.STDOUT, check=False)
     print(run.stdout.decode("utf-8", "replace"), end="", flush=True)
     check("all of them share a client process", run.returncode == 0, run.returncode)
@@ -14,7 +14,7 @@ def shared(folder):
 
 @scene
 def predictions(folder):
-    """What is tried of predictions."""
+    """Test predictions."""
     run = subprocess.run(script("try_predictions", PROGRAM), stdout=subprocess.PIPE, stderr=subprocess.STDOUT, check=False)
     print(run.stdout.decode("utf-8", "replace"), end="", flush=True)
     check("what keys are predicted to show leaves no trace", run.returncode == 0, run.returncode)
@@ -22,7 +22,7 @@ def predictions(folder):
 
 @scene
 def pages(folder):
-    """What is tried of the commands that pages and helps name."""
+    """Test the commands in pages and helps."""
     run = subprocess.run(script("try_pages", PROGRAM), stdout=subprocess.PIPE, stderr=subprocess.STDOUT, check=False)
     print(run.stdout.decode("utf-8", "replace"), end="", flush=True)
     check("each command of pages and helps does what they say", run.returncode == 0, run.returncode)
@@ -30,7 +30,7 @@ def pages(folder):
 
 @scene
 def claims(folder):
-    """What TERM claims of a pane."""
+    """Test the claims of TERM about a pane."""
     run = subprocess.run(script("try_claims", PROGRAM), stdout=subprocess.PIPE, stderr=subprocess.STDOUT, check=False)
     print(run.stdout.decode("utf-8", "replace"), end="", flush=True)
     check("each capability of TERM's entry holds, or is named", run.returncode == 0, run.returncode)
@@ -38,7 +38,7 @@ def claims(folder):
 
 @scene
 def traced(folder):
-    """What the page on the live session tells of files, sockets and processes."""
+    """Test the page on the live session: files, sockets and processes."""
     run = subprocess.run(script("try_traced", PROGRAM), stdout=subprocess.PIPE, stderr=subprocess.STDOUT, check=False)
     print(run.stdout.decode("utf-8", "replace"), end="", flush=True)
     check("each file, socket and process of an attach is in docs/LIVE.md or docs/HOST_PROTOCOL.md", run.returncode == 0, run.returncode)

@@ -1,4 +1,4 @@
-"""A person's settings file at a terminal: whole files of forms that are in use, what they change, and files that are refused."""
+"""A user's settings file at a terminal: whole files of common forms, their effects, and refused files."""
 import os
 import pathlib
 import sys
@@ -7,7 +7,7 @@ from tried import SESSION, Outer, check, comes, said, scene, tool
 
 
 def written(text):
-    """Writes the settings file."""
+    """Write the settings file."""
     path = pathlib.Path(os.environ["XDG_CONFIG_HOME"], "roam/roam.conf")
     path.parent.mkdir(parents=True, exist_ok=True)
     path.write_text(text, encoding="utf-8")
@@ -16,7 +16,7 @@ def written(text):
 
 @scene
 def settings_files(folder):
-    """Each whole file lets a person attach, and each of its lines that isn't done is told once."""
+    """Each whole file permits an attach, and each unsupported line is reported once."""
     sys.path.insert(0, str(pathlib.Path(__file__).resolve().parents[2] / "unit"))
     from test_settings_loader import FILES
 
@@ -36,7 +36,7 @@ def settings_files(folder):
 
 @scene
 def settings_changed(folder):
-    """What a file says takes effect, also where it is read anew; the environment goes before it."""
+    """A file's settings take effect, also after a reload; the environment has precedence."""
     os.environ["XDG_CONFIG_HOME"] = str(folder / "config")
     path = written("set -g prefix C-a\nset -g status-left '<#S> '\nset -g status-right '#[fg=red]#P of #I'\nbind -n F5 split-window -h\n")
     outer = Outer(tool("mux", SESSION))
@@ -69,7 +69,7 @@ def settings_changed(folder):
 
 @scene
 def keys_shown(folder):
-    """C-b ? shows the keys as the file has them, which it names, and scrolls on a small terminal."""
+    """C-b ? shows the keys by the file, which it names, and scrolls on a small terminal."""
     os.environ["XDG_CONFIG_HOME"] = str(folder / "config")
     written("bind | split-window -h\nunbind x\nbind -n F5 new-window\n")
     outer = Outer(tool("mux", SESSION), (12, 60))
@@ -86,7 +86,7 @@ def keys_shown(folder):
 
 @scene
 def at_prompt(folder):
-    """C-b : binds and unbinds keys at this terminal, and tells formats; buffers are listed with all characters and line ends."""
+    """C-b : binds and unbinds keys at this terminal, and prints formats; buffers are listed with all characters and line ends."""
     os.environ["XDG_CONFIG_HOME"] = str(folder / "config")
     outer = Outer(tool("mux", SESSION))
     outer.shows("$ ")

@@ -1,4 +1,4 @@
-"""Client processes that nobody looks at, and connections that say nothing."""
+"""Client processes without viewers, and silent connections."""
 import contextlib
 import pathlib
 import socket
@@ -6,20 +6,20 @@ import time
 
 from tried import check, comes, noted, said, scene, terminals_of
 
-# A client process sleeps after so many seconds without a terminal, and its server has forgotten it after so many.
+# Seconds without a terminal after which a client process sleeps, and after which its server has forgotten it.
 SLEEPS = 4.0
 FORGOTTEN = 64.0
 
-# So many connections fill a client process; each has so many seconds for its first line.
+# Connections that fill a client process, and seconds for each one's first line.
 MOST = 16
 FIRST_LINE = 10.0
 
-# Wakeups of a session without terminals are counted for so many seconds.
+# Seconds in which wakeups of a session without terminals are counted.
 COUNTED = 20.0
 
 
 def wakeups(processes):
-    """Return how often these processes have given up a processor of their own accord."""
+    """Return how often these processes have voluntarily given up a processor."""
     count = 0
     for process in processes:
         text = pathlib.Path(f"/proc/{process}/status").read_text(encoding="utf-8")
@@ -34,7 +34,7 @@ def type_line(session, line):
 
 @scene
 def slept(folder):
-    """A window that nobody looks at costs nothing, and shows the newest screen to whoever comes."""
+    """A window without a viewer costs nothing, and shows the newest screen to a new one."""
     said("new", "-d", "asleep")
     type_line("asleep", "(sleep 8; echo ne''ws) &")
     time.sleep(SLEEPS + 6)
@@ -56,7 +56,7 @@ def slept(folder):
 
 @scene
 def idle_terminals(folder):
-    """Connections that say nothing keep nobody out for long."""
+    """Silent connections keep nobody out for long."""
     said("new", "-d", "idle")
     with contextlib.ExitStack() as peers:
         for _ in range(MOST):

@@ -1,4 +1,4 @@
-"""What people do all day in tmux, each act once in roam, as the guide's page for tmux users lists them."""
+"""The daily actions of a tmux user, each once in roam, in the order of the guide's page for tmux users."""
 import os
 import pathlib
 import subprocess
@@ -12,49 +12,49 @@ PREFIX = b"\x02"
 
 
 class Day:
-    """A day at a terminal: each act has its number in the page, and is done once."""
+    """A day at a terminal: each action has its number in the page, and is done once."""
 
     def __init__(self, folder):
         self.folder, self.done = folder, set()
         self.outer = None
 
     def does(self, numbers, name, holds, seen=""):
-        """Checks acts of these numbers."""
+        """Check actions of these numbers."""
         self.done.update(numbers)
         check(f"{', '.join(map(str, numbers))}: {name}", holds, seen or (self.outer.rows()[-3:] if self.outer else ""))
 
     def keys(self, *keys):
-        """Types keys, each behind the prefix."""
+        """Type keys, each after the prefix."""
         for key in keys:
             self.outer.type(PREFIX + key)
 
     def types(self, numbers, name, keys, text):
-        """Types keys behind the prefix, and checks that a text comes to stand somewhere."""
+        """Type keys after the prefix, and check that a text appears."""
         self.keys(*keys)
         self.does(numbers, name, self.outer.shows(text))
 
     def stands(self, numbers, name, keys, status):
-        """Types keys behind the prefix, and checks what the last row has then."""
+        """Type keys after the prefix, and check the last row."""
         self.keys(*keys)
         self.does(numbers, name, comes(lambda: status in self.outer.rows()[-1]))
 
     def runs(self, numbers, *words, shows=""):
-        """Runs `mux` with these words."""
+        """Run `mux` with these words."""
         status, out, err = said(*words)
         self.does(numbers, f"mux {' '.join(words)}", status == 0 and shows in out, (status, out, err))
 
     def attach(self, *words):
-        """Attaches at a new terminal."""
+        """Attach at a new terminal."""
         self.outer = Outer(tool("mux", *words))
 
     def line(self, numbers, text, shows):
-        """Types a command behind the prefix and a colon."""
+        """Type a command after the prefix and a colon."""
         self.keys(b":" + text.encode() + b"\r")
         self.does(numbers, f": {text}", self.outer.shows(shows))
 
 
 def panes(day):
-    """Acts with panes."""
+    """Test actions with panes."""
     day.stands([5], "% splits", [b"%"], "1 [2]")
     day.stands([6], '" splits', [b'"'], " 1  2 [3]")
     day.stands([7], "an arrow goes left", [b"\x1b[D"], "[1] 2  3 ")
@@ -71,7 +71,7 @@ def panes(day):
 
 
 def windows(day):
-    """Acts with windows."""
+    """Test actions with windows."""
     day.types([15], "c opens a window", [b"c"], "2:sh*")
     day.types([16], "n goes on", [b"n"], "1:sh*")
     day.types([17], "p goes back", [b"p"], "2:sh*")
@@ -90,7 +90,7 @@ def windows(day):
 
 
 def copied(day):
-    """Acts with what is copied, and rows that scrolled off."""
+    """Test copies, and scrollback rows."""
     day.outer.type(b"\x15clear; seq 1 300; echo find''me\r")
     day.outer.shows("findme")
     day.types([26], "PgUp scrolls", [b"\x1b[5~"], "copy mode")
@@ -108,7 +108,7 @@ def copied(day):
 
 
 def outside(day):
-    """Acts from outside."""
+    """Test actions from outside."""
     day.runs([27], "send", SESSION, "C-u", "echo sent", "Enter")
     day.does([27], "is typed", day.outer.shows("sent"))
     day.runs([28], "capture", "-S", "-100", SESSION, shows="300")
@@ -116,7 +116,7 @@ def outside(day):
     day.runs([44], "env", SESSION)
     path = day.folder / "rows"
     with open(path, "wb") as file, subprocess.Popen(tool("mux", "log", SESSION), stdout=file) as log:
-        # It is there once it tells what comes next.
+        # It is there once it prints the next row.
         comes(lambda: day.outer.type(b"seq 400 500\r") or comes(lambda: "450" in path.read_text(encoding="utf-8").split(), 2))
         day.does([43], "mux log prints rows", "450" in path.read_text(encoding="utf-8").split(), path.read_text(encoding="utf-8")[-200:])
         log.kill()
@@ -125,7 +125,7 @@ def outside(day):
 
 
 def settings(day):
-    """Acts with a settings file."""
+    """Test actions with a settings file."""
     file = pathlib.Path(os.environ["XDG_CONFIG_HOME"], "roam/roam.conf")
     file.write_text("set -g prefix C-a\nbind | split-window -h\nset -g status-right 'at %H'\n", encoding="utf-8")
     day.types([38], "R reads it", [b"R"], "at ")
@@ -153,7 +153,7 @@ def keys(day):
 
 @scene
 def tmux_day(folder):
-    """Each act of the page."""
+    """Each action of the page."""
     os.environ["XDG_CONFIG_HOME"] = str(folder / "config")
     (folder / "config/roam").mkdir(parents=True)
     os.environ["SHELL"] = "/bin/sh"

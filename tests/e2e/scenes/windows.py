@@ -1,5 +1,7 @@
-"""Windows of a session at a person's terminal: what is typed goes to the window where the person is, whatever is stopped, and one that is
-gone gives way to another."""
+"""Windows of a session at a user's terminal.
+
+Input goes to the current window, whatever is stopped, and another window replaces one that is gone.
+"""
 import json
 import os
 import pathlib
@@ -10,44 +12,46 @@ import subprocess
 from tried import SESSION, Outer, check, comes, noted, said, scene, tool
 from scenes.machines import ssh_words
 
-# So many switches, with keys before and behind each in one piece; and the seed of which.
+# The number of switches, with keys before and after each in one piece; and their seed.
 SWITCHES = 200
 SEED = 7
 
-# What keeps all that is typed in a window.
+# A command that records all input in a window.
 KEEPS = "stty raw -echo; echo ke''eps; cat >{}\r"
 
 
 def is_at(outer, window):
-    """Whether a terminal comes to be at a window, by its last row: what runs there is looked up a moment later, and maybe too soon."""
+    """Return True if a terminal is at a window in time, by its last row. The program's name is looked up a moment later, and maybe too
+    soon.
+    """
     return comes(lambda: any(word.startswith(f"{window}:") and word.endswith("*") for word in outer.rows()[-1].split()))
 
 
 def opened(outer, window, path):
-    """Opens a window in which all that is typed is kept in a file, by keys in one piece; the first is there."""
+    """Open a window that records all input in a file, by keys in one piece; the first one exists."""
     outer.type((b"\x02c" if window > 1 else b"") + KEEPS.format(path).encode())
     check(f"what is typed behind a window that is opened is for it: {window}", is_at(outer, window) and outer.shows("keeps"), outer.rows)
 
 
 def typed_in(path):
-    """What was typed in a window."""
+    """Return the input of a window."""
     return path.read_text(encoding="utf-8") if path.exists() else ""
 
 
 class Person:
-    """Where a person is, by the keys that were typed, and what was typed there."""
+    """A user's window by the typed keys, and the input there."""
 
     def __init__(self, windows):
         self.windows, self.here, self.before = windows, windows[-1], windows[-2]
         self.typed = {window: "" for window in windows}
 
     def go(self, window):
-        """Goes to a window, and comes from another."""
+        """Go from one window to another."""
         if window != self.here:
             self.here, self.before = window, self.here
 
     def switch(self, chance):
-        """The keys that go somewhere."""
+        """Return keys that go to some window."""
         place, count = self.windows.index(self.here), len(self.windows)
         key, window = chance.choice((("n", self.windows[(place + 1) % count]), ("p", self.windows[place - 1]), ("l", self.before),
                                      *((str(window), window) for window in self.windows)))
@@ -55,18 +59,19 @@ class Person:
         return f"\x02{key}"
 
     def types(self, text):
-        """The keys of a text in the window where the person is."""
+        """Type a text in the current window."""
         self.typed[self.here] += text
         return text
 
     def pastes(self, text):
-        """What the terminal sends of a paste there."""
+        """Paste a text there like the terminal."""
         return f"\x1b[200~{self.types(text)}\x1b[201~"
 
 
 def switched(folder, words, count):
-    """Switches with keys, and pastes, typed in one piece round each, at a terminal with a tool on it: none is lost, and none goes to
-    another window. Tells the terminal."""
+    """Type switches with keys and pastes in one piece around each, at a terminal with a tool on it: none is lost, and none goes to another
+    window. Return the terminal.
+    """
     paths = {window: folder / f"window{window}" for window in (1, 2, 3)}
     outer, chance = Outer(words), random.Random(SEED)
     check("a session has a window", outer.status("[1] 1:"), outer.rows)
@@ -96,7 +101,7 @@ def window_switches(folder):
 
 @scene
 def window_switches_far(folder):
-    """As many in one of another machine, over its relays."""
+    """The same number in a remote session, over its relays."""
     outer = switched(folder, ssh_words(folder, folder / "far", folder / "asked"), SWITCHES)
     outer.type(b"\x02d")
     check("a front end leaves", outer.ends() and outer.is_restored(), outer.rows)
@@ -107,13 +112,13 @@ def window_switches_far(folder):
 
 
 def window_process(window, role):
-    """A process of a window."""
+    """Return a process of a window."""
     path = pathlib.Path(os.environ["XDG_RUNTIME_DIR"], "roam", SESSION, "w", str(window), "state.json")
     return json.loads(path.read_text(encoding="utf-8"))[role][0]
 
 
 def two_windows(folder):
-    """A terminal at the second of two windows, in each of which all that is typed is kept in a file."""
+    """Return a terminal at the second of two windows that record all input in files."""
     paths = [folder / f"window{window}" for window in (1, 2)]
     outer = Outer(tool("mux", SESSION))
     outer.status("[1] 1:")
@@ -124,8 +129,9 @@ def two_windows(folder):
 
 @scene
 def window_stopped(folder):
-    """A host, or a client, that is stopped stops nobody from typing, from going elsewhere and from leaving; all that was typed comes where
-    it was meant for, once it goes on."""
+    """A stopped host or client does not block typing, window switches or a detach; all input arrives in its window once the process
+    continues.
+    """
     outer, paths = two_windows(folder)
     host = noted(SESSION)["host"][0]
     os.kill(host, signal.SIGSTOP)
@@ -138,7 +144,7 @@ def window_stopped(folder):
     wanted = ["one", "two"]
     check("what he typed comes where he was", comes(lambda: [typed_in(path) for path in paths] == wanted), [*map(typed_in, paths)])
     check("the window is there a moment later", outer.status("window 3 is open now") or outer.shows("3:"), outer.rows)
-    # That line would stand until it is told that no keys are taken.
+    # That line would stay until the report that no keys are taken.
     check("its label stands in the last row then", comes(lambda: "3:" in outer.rows()[23]), outer.rows)
     client = window_process(2, "client")
     os.kill(client, signal.SIGSTOP)
@@ -154,12 +160,13 @@ def window_stopped(folder):
 
 @scene
 def window_kills(folder):
-    """A window whose server is killed gives way to the one before; a host that is killed is followed by another, which has the windows;
-    the last window's end is the session's."""
+    """A window whose server is killed gives way to the one before; another host replaces a killed one and has the windows; the last
+    window's end is the session's.
+    """
     outer, paths = two_windows(folder)
     os.kill(window_process(2, "server"), signal.SIGKILL)
     outer.type(b"")
-    # The host tells of that end too, which may come before the line of the front end is written.
+    # The host reports that end too, maybe before the front end's own line.
     is_told = outer.was_told("window 2 is gone", "window 2: its server was killed, or has failed")
     check("the one before is shown", is_told and outer.status("[1] 1:"), lambda: (outer.rows(), bytes(outer.written[-3000:])))
     outer.type(b"here")
@@ -179,8 +186,7 @@ def window_kills(folder):
 
 @scene
 def window_each(folder):
-    """Each terminal is at a window of its own, and has its own last row; what one names, and where something happens, the other sees; it
-    may have the other leave."""
+    """Each terminal has a window and a last row of its own. One sees the other's window names and events, and may detach it."""
     first = Outer(tool("mux", SESSION))
     first.shows("1:sh*")
     second = Outer(tool("mux", SESSION), (20, 60))
@@ -214,14 +220,14 @@ def window_each(folder):
 
 
 def differs(seen, wanted):
-    """Where one text is another."""
+    """Return the position of the first difference of two texts."""
     place = next((at for at, (one, other) in enumerate(zip(seen, wanted)) if one != other), min(len(seen), len(wanted)))
     return f"at {place} of {len(wanted)}, {seen[place - 20 : place + 40]!r} for {wanted[place - 20 : place + 40]!r}"
 
 
 @scene
 def begun_with(folder):
-    """A command in a new pane or window, by C-b :, by a key of roam.conf and from outside; what isn't done of it is refused."""
+    """A command in a new pane or window, by C-b :, by a key of roam.conf and from outside; unsupported parts are refused."""
     path = folder / "config/roam/roam.conf"
     path.parent.mkdir(parents=True)
     path.write_text("bind H split-window -h 'echo by-a-key; cat'\nbind e new-window -n ed sh\n", encoding="utf-8")
@@ -251,7 +257,7 @@ def begun_with(folder):
 
 @scene
 def host_stopped(folder):
-    """Where the pty host is stopped whoever types is told so, and all that was typed comes once it goes on."""
+    """If the pty host is stopped a user who types sees a message, and all input arrives once it continues."""
     outer = Outer(tool("mux", SESSION))
     outer.shows("$ ")
     host = noted(SESSION)["host"][0]

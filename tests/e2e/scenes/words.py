@@ -1,4 +1,4 @@
-"""The words of `mux` that a script uses, what they refuse, and the prefix."""
+"""The commands of `mux` for scripts, their refusals, and the prefix."""
 import os
 import signal
 import subprocess
@@ -18,7 +18,7 @@ NOT_RUNNING = "mux: no session other is running; `mux ls` lists sessions\n"
 
 @scene
 def words(folder):
-    """The words of `mux` that a script uses, and what they refuse."""
+    """The commands of `mux` for scripts, and their refusals."""
     check("mux --version tells the build", said("--version")[1].startswith(f"roam {version()} (commit "), said("--version"))
     helps = {word: said(word, "--help") for word in "attach new detach ls list watch kill send paste capture env ssh far help".split()}
     odd = {word: told for word, told in helps.items() if told[0] != 0 or not told[1].startswith(f"usage: mux {word} ")}
@@ -57,7 +57,7 @@ def words(folder):
 
 
 def slips():
-    """What is nearly a word of mux starts no session, and what is quit behind a pipe says nothing."""
+    """A mistyped word of mux starts no session, and a closed pipe causes no message."""
     for name, told in (("lst", "'lst' is not a command of mux; did you mean ls?"),
                        ("a", "a is a tmux command; in roam, use `mux attach NAME`"),
                        ("list-sessions", "list-sessions is a tmux command; in roam, use `mux ls`"),
@@ -74,7 +74,7 @@ def slips():
 
 
 def all_clients():
-    """A session that has had all client processes of its life says so; the one that is there goes on."""
+    """A session that has had all client processes of its life reports that; the existing one continues."""
     served = str(window_of("other"))
     for _ in range(64):
         words = [PROGRAM, "attach", "--dir", served, "--turns", "3"]
@@ -88,7 +88,7 @@ def all_clients():
 
 
 def asked_of(name, text):
-    """What the last key of a text asks for, where a key of this name is the prefix."""
+    """Return the request of the last key in a text, with this key as the prefix."""
     keys, stack, found = Keys(), ModeStack(Keymap(name)), []
     for key in keys.fed(text) + keys.ended():
         found = stack.takes(key, 1.0)

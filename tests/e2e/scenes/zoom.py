@@ -1,5 +1,4 @@
-"""A pane that fills the terminal, with real programs, and the way back; borders that are moved by keys; and what follows where a front end
-is killed meanwhile."""
+"""A pane that fills the terminal, with real programs, and the way back; borders moved by keys; and the aftermath of a killed front end."""
 import os
 import random
 import shutil
@@ -19,33 +18,32 @@ from roam_live.frontend.resize_keys import NO_PANE
 from roam_live.input.mouse_reports import tracking_of
 from roam_live.protocol.panes import asked_places
 
-# The command of a pane that writes rows at its begin, and nothing more; so many there are, at most.
+# A pane's command that writes rows at its start and nothing more; and the most rows.
 STILL = "i=0; while [ $i -lt 30 ]; do i=$((i+1)); echo row $i of some that stand in a pane as they were written; done; exec sleep 10000"
 
-# So many panes has a tree by chance; so many trees there are of each size, and where borders are moved, and in `tests/stress/try_zoom`
-# (TREES).
+# The number of panes in a random tree; and the trees of each size, for moved borders, and in `tests/stress/try_zoom` (TREES).
 FEWEST, MOST_PANES = 2, 6
 TREES = {"zoom": 3, "borders": 2}
 SEED = 7801
 
-# How often the first row is looked at once the session became as small as the terminal: by C-b r, and by the end of a pane that is zoomed.
+# The number of checks of the first row after the session shrank to the terminal: by C-b r, and by the end of a zoomed pane.
 FIRST_ROWS = {"refits": 12, "exits": 4}
 
-# So many front ends are killed at some moment of a zoom.
+# The number of front ends killed at some moment of a zoom.
 KILLS = 6
 
 KEYS = {"up": b"\x02\x1b[1;5A", "down": b"\x02\x1b[1;5B", "right": b"\x02\x1b[1;5C", "left": b"\x02\x1b[1;5D"}
 
 
 def there(name=SESSION):
-    """Where the panes are."""
+    """Return the pane positions."""
     found = []
     comes(lambda: found.append(asked_places(terminals_of(name).parent / "panes")) or found[-1])
     return found[-1]
 
 
 def acts(*words):
-    """Has acts be taken."""
+    """Send acts, and wait until they are taken."""
     link = connected(SESSION, False)
     for begin in range(0, len(words), 32):
         link.say(" ; ".join(words[begin : begin + 32]))
@@ -54,7 +52,7 @@ def acts(*words):
 
 
 def settled():
-    """Where the panes are once that has stood for a moment: what was taken last is told a little later."""
+    """Return the pane positions once they are stable for a moment: the last act is reported a little later."""
     before, after = None, there()
     while after != before:
         time.sleep(0.05)
@@ -63,7 +61,7 @@ def settled():
 
 
 def tree(chance):
-    """Has the session have a tree of panes by chance, whose programs have written all that they will; where they are."""
+    """Create a random tree of panes, whose programs have written everything, and return their positions."""
     places = settled()
     acts(*[act for pane in list(places.rects)[1:] for act in (f"focus {pane}", "close")])
     comes(lambda: len(there().rects) == 1)
@@ -80,7 +78,7 @@ def tree(chance):
 
 
 def session_cells():
-    """The cells of the session, which a busy machine may tell late."""
+    """Return the cells of the session, which a busy machine may report late."""
     for _ in range(5):
         try:
             return told_cells(SESSION)
@@ -90,7 +88,7 @@ def session_cells():
 
 
 def still_cells():
-    """The cells of the session once they have stood for a moment."""
+    """Return the cells of the session once they are stable for a moment."""
     before = session_cells()
     while True:
         time.sleep(0.15)
@@ -101,7 +99,7 @@ def still_cells():
 
 
 def shows_part(outer, pane):
-    """Whether a terminal shows a pane's cells and nothing else, above its last row."""
+    """Return True if a terminal shows a pane's cells and nothing else, above its last row."""
     rect, size = there().rects[pane], (outer.size[0] - 1, outer.size[1])
     found, cursor = part_at(session_cells(), rect.row, rect.col, size)
     blank = (" ", type(found[1, 1][1])())
@@ -110,7 +108,7 @@ def shows_part(outer, pane):
 
 
 def zoomed_back(size):
-    """Zooms a pane of each of many trees, and goes back: how often the pane fills the terminal, is shown alone, and all is as it was."""
+    """Zoom a pane of each of many trees, and go back. Count the panes that fill the terminal, are shown alone, and are restored exactly."""
     chance, full, exact, rows, alone, large = random.Random(SEED), 0, 0, 0, 0, 0
     subprocess.run(tool("mux", "new", "-d", SESSION, "sh", "-c", STILL), check=True)
     outer = Outer(tool("mux", SESSION), size)
@@ -153,13 +151,13 @@ def zoom_trees_large(folder):
 
 
 def shows_first(outer):
-    """Whether a terminal shows the session from its first row and column on, above its last row."""
+    """Return True if a terminal shows the session from its first row and column on, above its last row."""
     return shown_above(outer) == part_at(session_cells(), 1, 1, (outer.size[0] - 1, outer.size[1]))
 
 
 @scene
 def first_row_refitted(folder):
-    """A session that C-b r makes as small as the terminal is shown from its first row on, also where the person just came to the window."""
+    """A session that C-b r shrinks to the terminal is shown from its first row on, also right after the user came to the window."""
     large, small = Outer(tool("mux", SESSION), (50, 120)), None
     large.shows("$ ")
     large.type(b"\x02c")
@@ -173,7 +171,7 @@ def first_row_refitted(folder):
         large.type(b"clear; seq 1 100\r")
         large.shows("100")
         small.status("", end="C-b r fits")
-        # The start has the new screen a moment after its size is told here.
+        # The client has the new screen a moment after its size is reported here.
         small.type(b"\x022\x021\x02r" if number % 2 else b"\x02r")
         comes(lambda: there().size() == (24, 80))
         right += comes(lambda: small.last_row().startswith("[1] 1:sh") and shows_first(small), 3)
@@ -182,7 +180,7 @@ def first_row_refitted(folder):
 
 @scene
 def first_row_unzoomed(folder):
-    """Once the program of a pane that is zoomed has ended, in a stack of panes, the session is shown from its first row on."""
+    """After the program of a zoomed pane has ended, in a stack of panes, the session is shown from its first row on."""
     outer = Outer(tool("mux", SESSION), (40, 120))
     outer.shows("$ ")
     outer.type(b'\x02"')
@@ -201,7 +199,7 @@ def first_row_unzoomed(folder):
 
 @scene
 def zoom_programs(folder):
-    """vim and htop in a pane that is zoomed: what they show is shown cell by cell, and a click counts from the corner."""
+    """vim and htop in a zoomed pane: their output is shown cell by cell, and a click counts from the corner."""
     text = folder / "text"
     text.write_text("".join(f"line {line} of a text, in which something stands\n" for line in range(1, 90)), encoding="utf-8")
     programs = {"vim": (f"vim -u NONE -i NONE -nN -c 'set noshowcmd shm+=I mouse=a ttymouse=sgr ruler' {text}", b"\x1b:q!\r"),
@@ -238,7 +236,7 @@ def zoom_programs(folder):
 
 @scene
 def zoom_ends(folder):
-    """What ends a zoom: keys of this person, deeds of others, leaving, and the next attach where a front end was killed."""
+    """The ends of a zoom: this user's keys, actions of others, a detach, and the next attach after a killed front end."""
     outer = three_panes()
     before = there()
     for keys, label, focus in ((b"\x02o", " 1 [2] 3", 2), (b"\x02;", "[1] 2  3", 1), (b"\x02\x1b[C", " 1 [2] 3", 2),
@@ -283,7 +281,7 @@ def zoom_ends(folder):
 
 @scene
 def zoom_killed(folder):
-    """A front end that is killed at any moment of a zoom: the next that comes, or that is there, gives the size back."""
+    """A front end that is killed at any moment of a zoom: the next one, or an attached one, restores the size."""
     outer = three_panes()
     outer.type(b"\x02d")
     outer.ends()
@@ -326,7 +324,7 @@ def zoom_killed(folder):
 
 @scene
 def zoom_far(folder):
-    """A zoom of a session of another machine, by relays: there, back, and after a kill."""
+    """A zoom of a remote session, by relays: there, back, and after a kill."""
     far, asked = folder / "far", folder / "asked"
     words = ssh_words(folder, far, asked)
     outer = Outer(words)
@@ -354,7 +352,7 @@ def zoom_far(folder):
 
 @scene
 def border_keys(folder):
-    """Borders by keys in a grid and in trees by chance, and even shares."""
+    """Borders by keys in a grid and in random trees, and even sizes."""
     chance, found = random.Random(SEED), Counter()
     subprocess.run(tool("mux", "new", "-d", SESSION, "sleep", "10000"), check=True)
     outer = Outer(tool("mux", SESSION))
@@ -379,12 +377,12 @@ def border_keys(folder):
 
 
 def is_zoomed(outer):
-    """Whether a terminal's last row tells that a pane is zoomed."""
+    """Return True if a terminal's last row shows that a pane is zoomed."""
     return " Z " in f"{outer.rows()[-1]} "
 
 
 def moved(outer, pane, side):
-    """What comes of a key for a border of a pane: it is `moved` by one, with the focus where it was, or `told` why not, or it is `odd`."""
+    """Return the effect of a key for a pane's border: `moved` by one, with the focus restored; `told` with a reason; or `odd`."""
     acts(f"focus {pane}")
     comes(lambda: there().focus == pane)
     before = there()
@@ -406,10 +404,10 @@ def moved(outer, pane, side):
 
 
 def is_told_in(text):
-    """Whether a text tells why a border doesn't go."""
+    """Return True if a text gives the reason that a border doesn't move."""
     return any(words in text for words in ("no border", NO_PANE[:20], "cannot move further"))
 
 
 def edges(rect, side):
-    """Where a pane begins and ends, along the way of a side."""
+    """Return the first and last cell of a pane, along the direction of a side."""
     return (rect.col, rect.col + rect.cols) if side in ("left", "right") else (rect.row, rect.row + rect.rows)

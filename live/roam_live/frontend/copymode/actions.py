@@ -1,5 +1,7 @@
-"""What commands of copy mode do over one snapshot of a pane's rows: they move a cursor, search, select and copy. Where a row, or what a
-search leads to, isn't known one raises Missing."""
+"""The effects of copy mode's commands on a snapshot of a pane's rows: cursor moves, searches, selections and copies.
+
+If a row or a search result is unknown, a command raises Missing.
+"""
 from __future__ import annotations
 
 from collections.abc import Callable
@@ -13,20 +15,19 @@ from roam_live.frontend.copymode.viewport import CopyView
 
 NOTHING_FOUND = "{!r} not found"
 
-# What comes of keys beside what is shown, by a word each: it is left, a new snapshot is wanted, or a text is copied.
+# The words of a key's other effects: leave, take a new snapshot, or copy a text.
 LEAVE, REFRESH, COPY = "leave", "refresh", "copy"
 
 
 class CopyWish:
-    """What a key asks for beside what is shown: a word, and of a copy its text, whether it is left then, and whether the text is put behind
-    that of the newest buffer."""
+    """A key's other effect: a word, and for a copy the text, a flag to leave, and a flag to append to the newest buffer."""
 
     def __init__(self, word: str, text: CopiedText | None = None, leaves: bool = False, appends: bool = False) -> None:
         self.word, self.text, self.leaves, self.appends = word, text, leaves, appends
 
 
 class CopyActions:
-    """The state of one person's copy mode in one pane, and what its commands do."""
+    """The state of one user's copy mode in one pane, and the effects of its commands."""
 
     def __init__(self, rows: Rows, height: int, is_vi: bool) -> None:
         self.rows: Rows = rows
@@ -39,18 +40,17 @@ class CopyActions:
         self.jump: tuple[str, str] | None = None
         self.awaits = ""
         self.mark: Position | None = None
-        # What is searched for and which way, and whether that is shown; the match at which it stands, and where a search that follows what
-        # is typed began.
+        # The search text and direction, and a flag to show matches; the current match, and the start of an incremental search.
         self.sought, self.is_back, self.is_marked = "", False, False
         self.match: Match | None = None
         self.origin: tuple[Position, tuple[int, int]] | None = None
         self.prompt: Prompt | None = None
-        # What is told of the last key, and what keys asked for since that was taken.
+        # The message for the last key. Then the effects since they were last taken.
         self.told = ""
         self.asked: list[CopyWish] = []
 
     def repeat(self, does: Callable[[], object]) -> None:
-        """Does something as often as was typed."""
+        """Repeat an action by the typed count."""
         for _ in range(self.count.taken()):
             before = self.view.top, self.view.position
             does()
@@ -58,30 +58,30 @@ class CopyActions:
                 break
 
     def block_width(self) -> int | None:
-        """How many columns a row has where a block is selected; None where it has those at which something stands."""
+        """Return the columns of a row in a block selection; None in others, which end with the row's text."""
         return self.rows.cols if self.view.is_block and self.view.selection else None
 
     def word_end(self, position: Position, separators: str) -> Position:
-        """The end of the word here, or of the next: with vi's keys its last character, else the place behind it."""
+        """Return the end of the word here, or of the next: with vi keys its last character, else the position after it."""
         return motions.last_of_word(self.rows, position, separators) if self.is_vi else motions.word_end(self.rows, position, separators)
 
     def jumps(self, kind: str, letter: str) -> None:
-        """Jumps to a character."""
+        """Jump to a character."""
         self.view.go(motions.jumped(self.rows, self.view.position, kind, letter))
 
-    # ---- places
+    # ---- positions
 
     def go_to_line(self, text: str) -> None:
-        """Shows rows so many above the last, by a number that was typed."""
+        """Show the rows so many above the last, by a typed number."""
         if text.isascii() and text.isdigit():
             self.view.go_back(min(int(text[:9]), self.view.back()[1]))
 
     def put_mark(self) -> None:
-        """Marks the place of the cursor."""
+        """Set the mark at the cursor."""
         self.mark = self.view.position
 
     def go_to_mark(self) -> None:
-        """Changes the place of the cursor and the mark."""
+        """Swap the positions of the cursor and the mark."""
         if self.mark:
             mark, self.mark = self.mark, self.view.position
             self.view.jump(mark)
@@ -89,25 +89,25 @@ class CopyActions:
     # ---- searches
 
     def ask(self, command: str) -> None:
-        """Asks for a line: of an incremental search what was searched for last stands there."""
+        """Ask for a line. For an incremental search it begins with the last search text."""
         self.count.taken()
         self.prompt = Prompt(command, self.sought if command.endswith("-incremental") else "")
         self.origin = self.view.position, self.view.top
 
     def search(self, text: str, is_back: bool) -> None:
-        """Goes to the next place at which a text stands, round the end, and tells where it stands nowhere."""
+        """Go to the next match, with wrap-around, and report a failure."""
         self.sought, self.is_back, self.is_marked, self.match = text, is_back, True, None
         if text:
             self.repeat(self.search_on)
 
     def search_anew(self, text: str, is_back: bool) -> None:
-        """Searches from where that began, since what is searched for is another."""
+        """Search again from the start of this search, since the text has changed."""
         if self.origin:
             self.view.position, self.view.top = self.origin
         self.search(text, is_back)
 
     def search_on(self, is_reversed: bool = False) -> None:
-        """Goes to the next place at which what was searched for stands, the same way or the other."""
+        """Repeat the last search, in the same direction or the other."""
         if not self.sought:
             return
         is_back = self.is_back != is_reversed
@@ -120,36 +120,36 @@ class CopyActions:
         if not found:
             self.told = NOTHING_FOUND.format(self.sought)
         else:
-            # With emacs' keys the cursor is behind what is searched for on.
+            # With emacs keys the cursor is behind the match.
             self.view.jump(found[0] if is_back or self.is_vi else found[1])
 
     def search_again(self, is_reversed: bool = False) -> None:
-        """Searches on as often as was typed."""
+        """Repeat the search by the typed count."""
         self.repeat(lambda: self.search_on(is_reversed))
 
     def search_word(self, is_back: bool) -> None:
-        """Searches for the word at the cursor."""
+        """Search for the word at the cursor."""
         selection, _ = word_at(self.rows, self.view.position, False)
         (row, begin), (last, end) = selection.begin, selection.end
         word = self.rows.row(row).text(begin, end) if last == row else ""
         if word.strip():
             self.search(bounded(word), is_back)
 
-    # ---- what is selected and copied
+    # ---- selection and copying
 
     def begin_selection(self) -> None:
-        """Selects from here on."""
+        """Begin a selection here."""
         self.view.selection = Selection(self.view.position)
 
     def toggle_block(self) -> None:
-        """Selects a block, or no more."""
+        """Toggle block selection."""
         self.view.is_block = not self.view.is_block
         if self.view.selection:
             self.view.selection.keeps, self.view.selection.kind = "", CHARACTERS
         self.view.clamp()
 
     def select_line(self) -> None:
-        """Selects the line here, and as many as was typed."""
+        """Select the line here, and more by the typed count."""
         self.view.is_block = False
         self.view.selection, cursor = lines_at(self.rows, self.view.position)
         self.view.go(cursor)
@@ -158,13 +158,13 @@ class CopyActions:
             self.view.step(1)
 
     def select_word(self) -> None:
-        """Selects the word here."""
+        """Select the word here."""
         self.view.is_block = False
         self.view.selection, cursor = word_at(self.rows, self.view.position, self.is_vi)
         self.view.go(cursor)
 
     def copy(self, leaves: bool, appends: bool = False) -> None:
-        """Has what is selected be copied; where nothing is, the match here."""
+        """Copy the selection, or without one the match at the cursor."""
         selection, is_block = self.view.selection, self.view.is_block
         if not selection and self.match and self.match[0] <= self.view.position <= self.match[1]:
             selection, is_block = Selection(self.match[0]), False
@@ -177,7 +177,7 @@ class CopyActions:
             self.asked.append(CopyWish(LEAVE))
 
     def copy_line_end(self) -> None:
-        """Has the rest of the line be copied, with as many lines as was typed, and leaves."""
+        """Copy the rest of the line, with more lines by the typed count, and leave."""
         view = self.view
         view.selection = selection = Selection(view.position)
         view.is_block = False
@@ -188,12 +188,12 @@ class CopyActions:
         self.copy(True)
 
     def go_to_other_end(self) -> None:
-        """Goes to the other end of what is selected: from there on not by whole words or lines any more, but that lines stay whole."""
+        """Go to the other end of the selection. It continues by characters, except that lines stay whole."""
         if self.view.selection:
             self.view.selection.kind = CHARACTERS
             self.view.other_end()
 
     def selected(self) -> Columns | None:
-        """Which columns are selected, where any are, to be shown."""
+        """Return the selected columns for display, if any."""
         selection = self.view.selection
         return Columns(self.rows, selection, self.view.position, self.view.is_block, self.is_vi, True) if selection else None

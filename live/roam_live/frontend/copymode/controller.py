@@ -1,5 +1,7 @@
-"""Copy mode at a person's terminal: over a snapshot of a pane's rows that the pty host lends, drawn over the pane's rectangle,
-while the session goes on below. Nobody else sees of it. What is typed waits in order for the rows that it needs."""
+"""Copy mode at a user's terminal: a snapshot of a pane's rows, drawn over the pane's rectangle while the session continues.
+
+The pty host stores the snapshot, and other users see nothing of it. Input waits in order for the rows that it needs.
+"""
 from __future__ import annotations
 
 from base64 import b64encode
@@ -18,7 +20,7 @@ from roam_live.input.keys import INTERRUPT, Key
 from roam_live.protocol.panes import MOVES
 from roam_live.protocol.scrollback_client import BufferNote, Snapshot
 
-# A text has so many bytes at most, also where it is put behind another.
+# The most bytes of a copied text, also after appending.
 MOST_COPIED = 1 << 20
 
 TOO_LONG = "not copied: it exceeds 1 MB"
@@ -28,23 +30,23 @@ COPIED_HERE = "{} copied to the clipboard"
 
 
 def counted(text: bytes) -> str:
-    """How much a text is, in words."""
+    """Return the size of a text in words."""
     lines, letters = text.count(b"\n") + (not text.endswith(b"\n")), len(text.decode("utf-8", "replace"))
     return f"{lines} lines" if lines > 1 else f"{letters} character{'s' * (letters != 1)}"
 
 
 class CopiedTexts:
-    """Where what one person copies goes."""
+    """The targets of one user's copies."""
 
     def __init__(self, acts: WindowActs) -> None:
         self.acts = acts
 
     def tell(self, line: str) -> None:
-        """Tells a person what became of it."""
+        """Show the result to the user."""
         self.acts.display.row.tell(line, TOLD)
 
     def take(self, text: bytes | None, is_appended: bool = False) -> None:
-        """Takes a text, to be put behind the newest buffer or to be one; None stands for one that is too long."""
+        """Take a text to append to the newest buffer or to add as one; None for a text that is too long."""
         if text is None:
             self.tell(TOO_LONG)
         elif text and is_appended and not self.acts.link.is_read_only:
@@ -53,7 +55,7 @@ class CopiedTexts:
             self.put(text)
 
     def append(self, text: bytes) -> None:
-        """Has a text be put behind the newest buffer."""
+        """Append a text to the newest buffer."""
         scrollback = self.acts.host.scrollback
 
         def listed(notes: list[BufferNote] | None) -> None:
@@ -65,7 +67,7 @@ class CopiedTexts:
         scrollback.buffers(listed)
 
     def put(self, text: bytes) -> None:
-        """Has a text be a buffer, of who doesn't only watch, and be on the clipboard."""
+        """Add a text as a buffer, unless this user is read-only, and set the clipboard."""
         acts = self.acts
         if len(text) > MOST_COPIED:
             self.tell(TOO_LONG)
@@ -79,41 +81,40 @@ class CopiedTexts:
             self.tell(COPIED_HERE.format(counted(text)))
 
 
-# So many keys and reports wait at most.
+# The most keys and reports that may wait.
 MOST_WAITING = 4096
 
-# So many seconds a line stands that tells why it was closed.
+# Seconds for which the reason for its end is shown.
 TOLD = 2.0
 NO_ROOM = "no part of the pane is visible here"
 
-# The key that leaves it while an answer is awaited, whatever waits before that; and with an escape before it.
+# The key that leaves it while an answer is pending, whatever waits before that; and the same after an escape.
 INTERRUPTS = (INTERRUPT, f"M-{INTERRUPT}")
 
 
 class Copying:
-    """The copy mode of one person, where one is open. Calls take a key that it gives back, and end what else is drawn over panes before
-    keys are its."""
+    """The copy mode of one user, if one is open. One call takes a key that it returns; another closes other popups before keys are its."""
 
     def __init__(self, acts: WindowActs, gives_back: Callable[[Key], object], opens: Callable[[], object]) -> None:
         self.acts, self.loop, self.state, self.gives_back, self.opens = acts, acts.loop, CopyState(acts), gives_back, opens
-        # What is done where no snapshot is lent; it tells whether what was typed meanwhile is for that.
+        # The alternative without a snapshot. It returns True if the input so far is for it.
         self.instead: Callable[[], object] = nothing
-        # What takes its keys.
+        # The mode that takes its keys.
         self.keys: CopyKeysMode | None = None
-        # What was searched for last, and which way, which stays when it is closed.
+        # The last search text and direction. They outlive copy mode.
         self.sought = "", False
         self.screen, self.asking = CopyScreen(self.state), CopyAsking(self.state, self.go_on, self.close, self.lent)
         self.pointing = CopyPointing(self.state, self.open, self.add)
         self.texts = CopiedTexts(acts)
 
     def is_full(self) -> bool:
-        """Return True if so much waits that nothing more is to come."""
+        """Return True if too much input waits to accept more."""
         return len(self.state.events) >= MOST_WAITING
 
     # ---- opening and closing
 
     def start(self, wish: str, instead: Callable[[], object]) -> None:
-        """Open it in the pane in focus, a page up or in its search on request; if no rows are lent something else is done instead."""
+        """Open copy mode in the focused pane, a page up or in its search on request. Without rows, call the alternative."""
         begins = {"copy page": [CopyEvent(lambda mode: mode.perform("page-up"))],
                   "copy search": [CopyEvent(lambda mode: mode.ask("search-backward" if mode.is_vi else "search-backward-incremental"))]}.get(wish, [])
         focus = self.acts.focus()
@@ -127,8 +128,8 @@ class Copying:
             instead()
 
     def open(self, pane: int, instead: Callable[[], object], *begins: CopyEvent) -> None:
-        """Opens it in a pane, with what is done first; where no rows are lent something else is done instead, which tells whether what was
-        typed meanwhile is for that."""
+        """Open copy mode in a pane, with these first events. Without rows, call the alternative, which returns True if the input is for it.
+        """
         self.close()
         making, rect = self.acts.panes.making(pane).split(), self.screen.visible(pane)
         if len(making) != 2 or not rect:
@@ -140,8 +141,7 @@ class Copying:
         self.asking.ask_snapshot()
 
     def await_focus(self, instead: Callable[[], object], *begins: CopyEvent) -> None:
-        """Opens it in the pane in focus once that is told, as where a relay goes another way; where it isn't in time something else is done
-        instead."""
+        """Open copy mode in the focused pane once the focus is reported. If that takes too long, call the alternative."""
         self.close()
         self.state.pane, self.instead = 0, instead
         self.take_keys()
@@ -149,24 +149,24 @@ class Copying:
         self.asking.begin()
 
     def take_keys(self) -> None:
-        """Has the keys be copy mode's."""
+        """Direct the keys to copy mode."""
         self.opens()
         self.keys = self.acts.modes.drawn = CopyKeysMode(self.acts.modes.keymap)
 
     def drop_keys(self) -> None:
-        """Has the keys be copy mode's no more, and drops what waits."""
+        """Stop taking keys for copy mode, and drop the waiting ones."""
         self.acts.modes.remove(self.keys)
         self.keys = None
         self.state.events.clear()
 
     def find_focus(self) -> None:
-        """Opens it in the pane in focus, where that is told by now."""
+        """Open it in the focused pane if that is known by now."""
         places = self.acts.places()
         if places and places.focus:
             self.open(places.focus, self.instead, *self.state.events)
 
     def lent(self, opening: int, snapshot: Snapshot | None) -> None:
-        """Takes a snapshot; None where none is lent."""
+        """Take a snapshot; None if there is none."""
         if opening != self.state.opening or not self.state.is_opening:
             return
         for name in ("copy opens", "copy connects"):
@@ -185,7 +185,7 @@ class Copying:
             event.instead()
 
     def begin(self, snapshot: Snapshot) -> None:
-        """Shows a snapshot, and does what was typed meanwhile."""
+        """Show a snapshot, and handle the input so far."""
         places = self.acts.panes.places
         pane_cols = places.rects[self.state.pane].cols if places and self.state.pane in places.rects else self.state.rect.cols
         rows = Rows(snapshot.first, snapshot.end + len(snapshot.screen), self.state.rect.cols, pane_cols)
@@ -200,12 +200,12 @@ class Copying:
         self.go_on()
 
     def give_up(self) -> None:
-        """Closes it in whatever state it is, and drops what waits."""
+        """Close it in any state, and drop the waiting input."""
         self.close()
         self.drop_keys()
 
     def close(self, why: str = "") -> None:
-        """Closes it, where it is open, and drops what waits; tells why, where there is something to tell."""
+        """Close it if open, drop the waiting input, and show the reason if there is one."""
         if not self.state.is_on():
             return
         display = self.acts.display
@@ -226,7 +226,7 @@ class Copying:
             display.row.tell(why, TOLD)
 
     def fit(self) -> None:
-        """Goes by where the panes are now: the end of its pane ends it, and another size has its rows laid out anew."""
+        """Adapt to the current panes. The end of its pane closes it, and another size lays out its rows anew."""
         panes = self.acts.panes
         if not self.state.is_on() or not panes.places:
             return
@@ -247,44 +247,44 @@ class Copying:
             self.add(CopyEvent(lambda mode: mode.resize(rect.rows, rect.cols)))
 
     def focus_moved(self, acts: tuple[str, ...]) -> None:
-        """Ends it where this person's acts put another pane in focus."""
+        """Close it if this user's acts focus another pane."""
         moves = [act for act in acts if act.split(" ")[0] in MOVES]
         if moves and moves[-1] != f"focus {self.state.pane}":
             self.close()
 
     def more(self, pane: int, generation: int, count: int) -> None:
-        """Takes how many rows came since the snapshot."""
+        """Take the number of new rows since the snapshot."""
         if self.state.mode and (pane, generation) == (self.state.pane, self.state.generation):
             self.state.came = count
             self.screen.say()
 
-    # ---- what is typed
+    # ---- input
 
     def takes_paste(self) -> bool:
-        """Return True if a paste is for a line that copy mode asks for."""
+        """Return True if a paste is for a line of copy mode."""
         return self.state.mode is not None and self.state.mode.prompt is not None and not self.state.events
 
     def take_text(self, text: str) -> None:
-        """Takes what of a paste is for such a line."""
+        """Take the part of a paste that is for such a line."""
         self.add(CopyEvent(lambda mode: mode.paste(text)))
 
     def take_key(self, key: Key) -> None:
-        """Takes a key."""
+        """Take a key."""
         if key.name in INTERRUPTS and (self.asking.is_waiting or self.state.is_opening):
             self.close()
         else:
             self.add(CopyEvent(lambda mode: mode.take(key), lambda: self.gives_back(key)))
 
     def add(self, *events: CopyEvent) -> None:
-        """Has something be done behind what waits."""
+        """Queue events behind the waiting ones."""
         if self.state.is_on():
             self.state.events.extend(events)
             self.go_on()
 
-    # ---- what is done
+    # ---- processing
 
     def go_on(self) -> None:
-        """Does what waits, as far as the rows for it are here, and shows what comes of it."""
+        """Handle the queue as far as the needed rows are here, and show the result."""
         try:
             while self.state.mode and self.state.events and not self.asking.is_waiting and not self.state.is_opening:
                 self.do(self.state.mode, self.state.events[0])
@@ -294,7 +294,7 @@ class Copying:
             self.asking.ask(lack)
 
     def do(self, mode: CopyMode, event: CopyEvent) -> None:
-        """Does the first thing that waits; Missing where something for it isn't here."""
+        """Handle the first event; Missing if a row for it is not here."""
         mode.attempt(lambda: event.does(mode))
         self.asking.asks, self.sought = 0, (mode.sought, mode.is_back)
         if self.state.events and self.state.events[0] is event:
@@ -304,14 +304,14 @@ class Copying:
             self.grant(one)
 
     def look(self, mode: CopyMode) -> None:
-        """Shows what is to be shown; Missing where that isn't here."""
+        """Draw the view; Missing if a row for it is not here."""
         mode.view.cursor()
         mode.view.back()
         self.asking.asks = 0
         self.screen.draw()
 
     def grant(self, asked: CopyWish) -> None:
-        """Does what a key asked for beside what is shown."""
+        """Carry out the other effect of a key."""
         if asked.word == LEAVE:
             self.close()
         elif asked.word != REFRESH:
@@ -320,7 +320,7 @@ class Copying:
             self.asking.ask_snapshot()
 
     def copy(self, asked: CopyWish) -> None:
-        """Copies a text, once all its rows are here."""
+        """Copy a text, once all its rows are here."""
         text = asked.text.gather() if asked.text else b""
         if asked.leaves:
             self.close()

@@ -1,14 +1,14 @@
-"""The keys of copy mode, as tmux's tables copy-mode and copy-mode-vi have them: what each asks for, by tmux's names."""
+"""The keys of copy mode, as in tmux's tables copy-mode and copy-mode-vi: the command of each, by tmux's names."""
 from __future__ import annotations
 
 from roam_live.frontend.line_editor import AskedLine
 from roam_live.protocol.scrollback_client import MOST_SOUGHT
 
-# The key of escape, and what is before a key that is typed with Meta.
+# The Escape key, which also precedes a key typed with Meta.
 ESCAPE = "\x1b"
 META = "M-"
 
-# The keys that both tables have.
+# The keys in both tables.
 BOTH = {
     "\x03": "cancel", "q": "cancel", "up": "cursor-up", "down": "cursor-down", "left": "cursor-left", "right": "cursor-right",
     "prev": "page-up", "next": "page-down", "C-up": "scroll-up", "C-down": "scroll-down", "find": "start-of-line", "select": "end-of-line",
@@ -40,24 +40,24 @@ VI = {
     "v": "rectangle-toggle", "w": "next-word", "{": "previous-paragraph", "}": "next-paragraph", "\x7f": "cursor-left",
 }
 
-# A count has so many digits at most, and nothing is done more often.
+# The highest repeat count.
 MOST_COUNT = 9999
 
 
 def bounded(text: str) -> str:
-    """What of a text may be searched for: the host takes no longer one."""
+    """Return the part of a text that may be searched for, since the host limits its length."""
     return text.encode("utf-8", "replace")[:MOST_SOUGHT].decode("utf-8", "ignore")
 
 
 class Count:
-    """How often the next key is done, by the digits before it."""
+    """The repeat count of the next key, from the digits before it."""
 
     def __init__(self, is_vi: bool) -> None:
         self.is_vi = is_vi
         self.digits = ""
 
     def takes(self, name: str) -> bool:
-        """Whether a key is a digit of it: with emacs' keys the first is one with Meta, and with vi's no zero."""
+        """Return True if a key is a digit of it. With emacs keys the first one needs Meta, and with vi keys it is no zero."""
         digit = name.removeprefix(META) if not self.is_vi else name
         if len(digit) != 1 or digit not in "0123456789":
             return False
@@ -67,15 +67,15 @@ class Count:
         return True
 
     def taken(self) -> int:
-        """How often, once."""
+        """Return the count, and reset it."""
         digits, self.digits = self.digits, ""
         return int(digits or 1)
 
 
 class Prompt(AskedLine):
-    """A line that copy mode asks for, by a command."""
+    """A line that a command of copy mode asks for."""
 
-    # What each is asked by.
+    # The prompt of each command.
     WORDS = {"search-forward": "search down", "search-backward": "search up", "search-forward-incremental": "search down",
              "search-backward-incremental": "search up", "goto-line": "goto line"}
 
@@ -86,5 +86,5 @@ class Prompt(AskedLine):
         self.is_fresh = text != ""
 
     def bounded(self, text: str) -> str:
-        """What of a text may be searched for."""
+        """Return the part of a text that may be searched for."""
         return bounded(text)

@@ -1,5 +1,7 @@
-"""The keys of copy mode over one snapshot of a pane's rows. It asks for nothing itself: where a row, or what a search leads to, isn't known
-a key raises Missing, changes nothing, and is done again once that is there."""
+"""The keys of copy mode on one snapshot of a pane's rows.
+
+It sends no requests itself. If a row or a search result is unknown, a key raises Missing, changes nothing, and is repeated later.
+"""
 from __future__ import annotations
 
 import copy
@@ -13,7 +15,7 @@ from roam_live.frontend.copymode.viewport import CopyView
 from roam_live.frontend.line_editor import LEAVES, TAKES
 from roam_live.input.keys import Key
 
-# Where keys move the cursor to, from a place.
+# The cursor's target for each key, from a position.
 MOVES: dict[str, Callable[[CopyActions, Position], Position]] = {
     "cursor-left": lambda mode, position: motions.left(mode.rows, position),
     "cursor-right": lambda mode, position: motions.right(mode.rows, position, True, mode.block_width()),
@@ -30,7 +32,7 @@ MOVES: dict[str, Callable[[CopyActions, Position], Position]] = {
     "previous-matching-bracket": lambda mode, position: motions.matched_back(mode.rows, position),
 }
 
-# How keys move over lines.
+# The moves of keys over lines.
 STEPS: dict[str, Callable[[CopyView], object]] = {
     "cursor-up": lambda view: view.step(-1),
     "cursor-down": lambda view: view.step(1),
@@ -70,8 +72,7 @@ COMMANDS: dict[str, Callable[[CopyActions], object]] = {
     "jump-to-mark": lambda mode: mode.go_to_mark(),
 }
 
-# Those that search, and those after which what was found isn't shown any more, until it is searched for again: with emacs' keys all but
-# those that search.
+# The search commands, and those that stop showing matches until the next search: with emacs keys all but searches.
 SEARCHES = ("search-again", "search-reverse", "search-forward-word", "search-backward-word", "search-forward", "search-backward",
             "search-forward-incremental", "search-backward-incremental")
 UNMARKS = {*COMMANDS, "back-to-indentation", "next-matching-bracket", "previous-matching-bracket"} - {
@@ -79,12 +80,12 @@ UNMARKS = {*COMMANDS, "back-to-indentation", "next-matching-bracket", "previous-
 
 
 class CopyMode(CopyActions):
-    """One person's copy mode in one pane, as keys have it."""
+    """One user's copy mode in one pane, by its keys."""
 
-    # ---- what is done whole or not at all
+    # ---- all or nothing
 
     def attempt(self, does: Callable[[], object]) -> None:
-        """Does something, or raises Missing with nothing changed."""
+        """Do something, or raise Missing with nothing changed."""
         kept = {**self.__dict__, "view": self.view.copied(), "prompt": copy.copy(self.prompt), "count": copy.copy(self.count),
                 "asked": list(self.asked)}
         cols = self.rows.cols
@@ -96,7 +97,7 @@ class CopyMode(CopyActions):
             raise
 
     def open(self) -> None:
-        """Begins at the end of the last row at which something stands."""
+        """Begin at the end of the last row that is not blank."""
         view = self.view
         view.top = view.lowest_top()
         row = self.rows.last()
@@ -106,7 +107,7 @@ class CopyMode(CopyActions):
         view.want_column()
 
     def resize(self, height: int, cols: int) -> None:
-        """Lays its rows out for another size: what was shown first, or at the end, stays so, and the cursor is shown."""
+        """Lay out its rows for another size. The first or last line in view stays, and the cursor stays visible."""
         view, rows = self.view, self.rows
         was_lowest, begin = view.is_lowest(), (view.top[0], rows.span_of(view.top)[0])
         view.height, rows.cols = height, max(LEAST_COLS, cols)
@@ -116,7 +117,7 @@ class CopyMode(CopyActions):
         view.want_column()
 
     def take(self, key: Key) -> None:
-        """Takes a key."""
+        """Take a key."""
         self.told = ""
         if self.prompt:
             self.take_prompted(self.prompt, key)
@@ -130,7 +131,7 @@ class CopyMode(CopyActions):
         self.view.follow()
 
     def take_prompted(self, prompt: Prompt, key: Key) -> None:
-        """Takes a key while a line is asked for."""
+        """Take a key while a line is typed."""
         if key.name in LEAVES:
             self.prompt = None
         elif key.name in TAKES:
@@ -145,7 +146,7 @@ class CopyMode(CopyActions):
             self.search_anew(prompt.text, prompt.command.startswith("search-backward"))
 
     def paste(self, text: str) -> None:
-        """Takes what is pasted while a line is asked for."""
+        """Take pasted text while a line is typed."""
         if self.prompt:
             self.prompt.add(text)
             if self.prompt.is_incremental:
@@ -153,7 +154,7 @@ class CopyMode(CopyActions):
         self.view.follow()
 
     def perform(self, command: str) -> None:
-        """Does what a key asks for, by its name."""
+        """Run the command of a key, by its name."""
         view, (word, _, kind) = self.view, command.partition(" ")
         if command in MOVES:
             move = MOVES[command]

@@ -1,27 +1,29 @@
-"""How a place moves over rows: by characters, words, paragraphs, brackets and to a character, as tmux's copy mode has it. A place is a row
-and a column, which may be that behind the row's last character."""
+"""Moves of a position over rows: by characters, words, paragraphs, brackets and to a character, as in tmux's copy mode.
+
+A position is a row and a column, which may be the one after the row's last character.
+"""
 from __future__ import annotations
 from collections.abc import Callable
 
 from roam_live.frontend.copymode.rows import Position, Rows
 
-# What parts words, beside a blank.
+# Characters that separate words, besides a blank.
 SEPARATORS = "!\"#$%&'()*+,-./:;<=>?@[\\]^`{|}~"
 BLANK = " "
 
-# The brackets that belong together.
+# The matching brackets.
 OPENING, CLOSING = "{[(", "}])"
 
 
 def letter_at(rows: Rows, position: Position) -> str:
-    """What stands at a place; of a right half the wide character."""
+    """Return the character at a position; for a right half the wide character."""
     row, col = position
     content = rows.row(row)
     return content.at(col) or content.at(col - 1)
 
 
 def is_in(rows: Rows, position: Position, letters: str) -> bool:
-    """Whether what stands at a place is one of these."""
+    """Return True if the character at a position is one of these."""
     return letter_at(rows, position) in letters
 
 
@@ -29,7 +31,7 @@ def is_in(rows: Rows, position: Position, letters: str) -> bool:
 
 
 def right(rows: Rows, position: Position, is_wrapped: bool = True, width: int | None = None) -> Position:
-    """A character to the right, at the end in the next row; up to so many columns, or the end of the row."""
+    """Return the character to the right, at the end in the next row; with a width at most its last column."""
     row, col = position
     most = rows.length(row) if width is None else width
     if is_wrapped and col >= most and row < rows.last():
@@ -43,7 +45,7 @@ def right(rows: Rows, position: Position, is_wrapped: bool = True, width: int | 
 
 
 def left(rows: Rows, position: Position, is_wrapped: bool = True) -> Position:
-    """A character to the left, at the beginning at the end of the row before."""
+    """Return the character to the left, at the beginning the end of the previous row."""
     row, col = position
     while col and rows.row(row).is_right_half(col):
         col -= 1
@@ -55,18 +57,18 @@ def left(rows: Rows, position: Position, is_wrapped: bool = True) -> Position:
 
 
 def line_begin(rows: Rows, position: Position) -> Position:
-    """The beginning of the row, or of the first of those that go on to it."""
+    """Return the beginning of the row with its soft-wrapped predecessors."""
     return rows.begin_of(position[0]), 0
 
 
 def line_end(rows: Rows, position: Position, width: int | None = None) -> Position:
-    """The end of the row, or of the last to which it goes on; the last of so many columns where they are told."""
+    """Return the end of the row or its last soft-wrapped one; with a width, its last column."""
     row = rows.end_of(position[0])
     return row, rows.length(row) if width is None else width
 
 
 def indentation(rows: Rows, position: Position) -> Position:
-    """The first place in the row, or in those that go on to it and from it, at which something stands."""
+    """Return the first position that is not blank in the row with its soft-wrapped neighbours."""
     row = rows.begin_of(position[0])
     while True:
         for col in range(rows.length(row)):
@@ -81,18 +83,18 @@ def indentation(rows: Rows, position: Position) -> Position:
 
 
 class WordReader:
-    """A place that goes over rows, to the right, a row's end as a blank; one that goes on has none."""
+    """A position that moves over rows to the right. A row's end is a blank, unless it is soft-wrapped."""
 
     def __init__(self, rows: Rows, position: Position) -> None:
         self.rows, self.position = rows, position
         self.most = self.most_of(position[0])
 
     def most_of(self, row: int) -> int:
-        """The last column of a row."""
+        """Return the last column of a row."""
         return len(self.rows.row(row).letters) - 1 if self.rows.goes_on(row) else self.rows.length(row)
 
     def stands(self) -> bool:
-        """Goes on in the next row where the end of one is passed; tells whether there is one."""
+        """Move to the next row at the end of one, and return True if there is a character."""
         while self.position[1] > self.most:
             if self.position[0] == self.rows.last():
                 return False
@@ -101,21 +103,21 @@ class WordReader:
         return True
 
     def is_in(self, letters: str) -> bool:
-        """Whether what stands here is one of these."""
+        """Return True if the character here is one of these."""
         return is_in(self.rows, self.position, letters)
 
     def step(self) -> None:
-        """Goes a column to the right."""
+        """Move a column to the right."""
         self.position = self.position[0], self.position[1] + 1
 
     def skip(self, passes: Callable[[], bool]) -> None:
-        """Goes over this column, and over those behind it that pass."""
+        """Skip this column, and those after it that pass."""
         self.step()
         while self.stands() and passes():
             self.step()
 
     def skip_word(self, separators: str) -> None:
-        """Goes over the word that begins here: separators, or characters that are none."""
+        """Skip the word that begins here: separators, or other characters."""
         if self.is_in(separators):
             self.skip(lambda: self.is_in(separators) and not self.is_in(BLANK))
         else:
@@ -123,7 +125,7 @@ class WordReader:
 
 
 def next_word(rows: Rows, position: Position, separators: str) -> Position:
-    """The beginning of the next word."""
+    """Return the beginning of the next word."""
     reader = WordReader(rows, position)
     if not reader.stands():
         return reader.position
@@ -135,7 +137,7 @@ def next_word(rows: Rows, position: Position, separators: str) -> Position:
 
 
 def word_end(rows: Rows, position: Position, separators: str) -> Position:
-    """The place behind the end of the word here, or of the next."""
+    """Return the position after the end of the word here, or of the next."""
     reader = WordReader(rows, position)
     while reader.stands():
         if not reader.is_in(BLANK):
@@ -146,14 +148,14 @@ def word_end(rows: Rows, position: Position, separators: str) -> Position:
 
 
 def last_of_word(rows: Rows, position: Position, separators: str) -> Position:
-    """The last character of the word here, or of the next where it is this one."""
+    """Return the last character of the word here; of the next one if the position is already there."""
     if not is_in(rows, position, BLANK):
         position = right(rows, position, False)
     return left(rows, word_end(rows, position, separators))
 
 
 def filled_before(rows: Rows, position: Position) -> Position | None:
-    """The nearest place before that isn't blank; None where all are."""
+    """Return the nearest earlier position that is not blank; None if there is none."""
     row, col = position
     while col or row != rows.first:
         if not col:
@@ -166,7 +168,7 @@ def filled_before(rows: Rows, position: Position) -> Position | None:
 
 
 def previous_word(rows: Rows, position: Position, separators: str, is_already: bool = True) -> Position:
-    """The beginning of the word before; that of the word here where it needn't be another."""
+    """Return the beginning of the previous word, or that of the current one if `is_already` is False."""
     before = filled_before(rows, position) if is_already or is_in(rows, position, BLANK) else position
     if not before:
         return rows.first, 0
@@ -188,7 +190,7 @@ def previous_word(rows: Rows, position: Position, separators: str, is_already: b
 
 
 def paragraph_above(rows: Rows, position: Position) -> Position:
-    """The blank row above the text here, or above."""
+    """Return the blank row above the text here, or above."""
     row = position[0]
     for is_blank in (True, False):
         while row > rows.first and (rows.length(row) == 0) == is_blank:
@@ -197,7 +199,7 @@ def paragraph_above(rows: Rows, position: Position) -> Position:
 
 
 def paragraph_below(rows: Rows, position: Position) -> Position:
-    """The blank row below the text here, or below."""
+    """Return the blank row below the text here, or below."""
     row = position[0]
     for is_blank in (True, False):
         while row < rows.last() and (rows.length(row) == 0) == is_blank:
@@ -205,11 +207,11 @@ def paragraph_below(rows: Rows, position: Position) -> Position:
     return row, rows.length(row)
 
 
-# ---- to a character
+# ---- jumps to a character
 
 
 def jump(rows: Rows, position: Position, letter: str) -> Position | None:
-    """The next place from here on at which a character stands, in rows that go on from this one; None where there is none."""
+    """Return the next position of a character in this row and its soft-wrapped successors; None if there is none."""
     row, col = position
     while True:
         content = rows.row(row)
@@ -222,7 +224,7 @@ def jump(rows: Rows, position: Position, letter: str) -> Position | None:
 
 
 def jump_back(rows: Rows, position: Position, letter: str) -> Position | None:
-    """The next place from here back at which a character stands, in rows that go on to this one; None where there is none."""
+    """Return the previous position of a character in this row and its soft-wrapped predecessors; None if there is none."""
     row, col = position
     while True:
         for place in range(col, -1, -1):
@@ -233,13 +235,13 @@ def jump_back(rows: Rows, position: Position, letter: str) -> Position | None:
         row, col = row - 1, rows.length(row - 1) - 1
 
 
-# The keys that jump: whether they jump back, and whether they stop one before the character.
+# The jump keys, with flags to jump back, and to stop before the character.
 JUMPS = {"f": (False, False), "F": (True, False), "t": (False, True), "T": (True, True)}
 REVERSED = {"f": "F", "F": "f", "t": "T", "T": "t"}
 
 
 def jumped(rows: Rows, position: Position, kind: str, letter: str) -> Position:
-    """Where a jump of a kind to a character leads; nowhere else where it doesn't stand there."""
+    """Return the target of a jump to a character; the same position if it fails."""
     is_back, is_before = JUMPS[kind]
     row, col = position
     if is_back:
@@ -254,17 +256,17 @@ def jumped(rows: Rows, position: Position, kind: str, letter: str) -> Position:
 
 
 def bracket_at(rows: Rows, position: Position, brackets: str) -> Position | None:
-    """The first of such brackets from a place on, in its row and those to which it goes on; None where there is none."""
+    """Return the first of these brackets from a position on, in its row and soft-wrapped successors; None if there is none."""
     found = [place for place in (jump(rows, position, letter) for letter in brackets) if place]
     return min(found) if found else None
 
 
-# So many rows are looked through for the other bracket.
+# The most rows that are searched for the other bracket.
 MOST_BRACKET_ROWS = 2000
 
 
 def other_bracket(rows: Rows, position: Position, letter: str) -> Position | None:
-    """The bracket that belongs to one at a place; None where it isn't found."""
+    """Return the bracket that matches the one at a position; None if there is none."""
     is_back = letter in CLOSING
     other = OPENING[CLOSING.index(letter)] if is_back else CLOSING[OPENING.index(letter)]
     row, col = position
@@ -284,8 +286,10 @@ def other_bracket(rows: Rows, position: Position, letter: str) -> Position | Non
 
 
 def matched_forward(rows: Rows, position: Position, is_vi: bool) -> Position:
-    """The bracket that belongs to the one here, or to the next; with emacs' keys where none opens here the end of the word, which
-    brackets and blanks part."""
+    """Return the bracket that matches the one here or the next one.
+
+    With emacs keys, if no bracket opens here, return the end of the word, with brackets and blanks as separators.
+    """
     here = letter_at(rows, position)
     if not rows.length(position[0]):
         return position
@@ -300,7 +304,7 @@ def matched_forward(rows: Rows, position: Position, is_vi: bool) -> Position:
 
 
 def matched_back(rows: Rows, position: Position) -> Position:
-    """The bracket that opens what the one here, or before it, closes; the word before where none does, which brackets and blanks part."""
+    """Return the bracket that opens the one here or before it; without one the previous word, with brackets and blanks as separators."""
     begin: Position | None = position
     if not rows.length(position[0]):
         return position

@@ -1,5 +1,4 @@
-"""The mouse in copy mode: the wheel scrolls, what is dragged over is selected and copied, and so is a word by a double click, and a line by
-a triple one."""
+"""The mouse in copy mode: the wheel scrolls, and a drag selects and copies. A double click copies a word, a triple one a line."""
 from __future__ import annotations
 
 from collections.abc import Callable
@@ -8,15 +7,15 @@ from roam_live.frontend.copymode.mode import CopyMode
 from roam_live.frontend.copymode.state import CopyEvent, CopyState
 from roam_live.input.mouse_reports import CLICKED, DOWN, UP, Clicks, MouseReport
 
-# A notch of the wheel is so many rows.
+# Rows for a notch of the wheel.
 NOTCH = 3
 
-# While what is dragged is out of the pane a row more is shown each so many seconds.
+# Seconds between scrolled rows while a drag is outside the pane.
 DRAGGED = 0.05
 
 
 def scroll(mode: CopyMode, rows: int, closes: bool) -> None:
-    """Scrolls by so many rows, above 0 back; where that ends it, going past the last row does, while nothing is selected."""
+    """Scroll by so many rows, backwards if positive. With `closes`, scrolling past the last row ends copy mode, unless text is selected."""
     view = mode.view
     was_lowest = view.is_lowest()
     for _ in range(abs(rows)):
@@ -27,7 +26,7 @@ def scroll(mode: CopyMode, rows: int, closes: bool) -> None:
 
 
 def point_at(mode: CopyMode, row: int, col: int) -> None:
-    """Puts the cursor where the mouse is, in rows and columns of the pane's rectangle from 0; out of it rows are shown that were not."""
+    """Move the cursor to the mouse, in rows and columns of the pane's rectangle from 0. Outside it, scroll."""
     view = mode.view
     if row < 0:
         view.step(-1, True)
@@ -38,18 +37,18 @@ def point_at(mode: CopyMode, row: int, col: int) -> None:
 
 
 def select_at(mode: CopyMode, row: int, col: int, what: str) -> None:
-    """Selects a word or a line where the mouse is."""
+    """Select a word or a line at the mouse."""
     mode.view.selection = None
     point_at(mode, row, col)
     mode.perform(what)
 
 
 class CopyPointing:
-    """The mouse of one person in copy mode. Calls open copy mode in a pane, and have something be done there."""
+    """The mouse of one user in copy mode. Calls open copy mode in a pane, and queue an event there."""
 
     def __init__(self, state: CopyState, opens: Callable[..., object], adds: Callable[[CopyEvent], object]) -> None:
         self.state, self.opens, self.adds, self.acts, self.loop = state, opens, adds, state.acts, state.acts.loop
-        # Whether the wheel opened it; where the first button is held since it was pressed, whether it was dragged, and where to.
+        # True if the wheel opened it. Then the position of a first-button press, a flag for a drag, and its target.
         self.is_wheeled = False
         self.pressed: tuple[int, int] | None = None
         self.is_dragged = False
@@ -57,19 +56,19 @@ class CopyPointing:
         self.clicks = Clicks()
 
     def end(self) -> None:
-        """Knows of no button any more."""
+        """Forget pressed buttons."""
         self.pressed, self.is_dragged, self.is_wheeled = None, False, False
         self.loop.drop("copy drag")
         self.loop.drop("copy click")
 
     def wheel(self, rows: int) -> CopyEvent:
-        """Scrolling by so many rows."""
+        """Return an event that scrolls by so many rows."""
         return CopyEvent(lambda mode: scroll(mode, rows, self.is_wheeled), lambda: self.acts.scroll(self.state.pane, rows))
 
-    # ---- what opens it
+    # ---- opening
 
     def open_by_wheel(self, pane: int) -> None:
-        """Opens copy mode in a pane, by a notch of the wheel."""
+        """Open copy mode in a pane, by a notch of the wheel."""
         def instead() -> bool:
             self.acts.scroll(pane, NOTCH)
             return True
@@ -80,14 +79,14 @@ class CopyPointing:
             self.acts.act_together(f"focus {pane}")
 
     def open_by_drag(self, pane: int, pressed: tuple[int, int], place: tuple[int, int]) -> None:
-        """Opens copy mode in a pane, by what is dragged from a place of the terminal to another."""
+        """Open copy mode in a pane by a drag from one position of the terminal to another."""
         self.opens(pane, lambda: None)
         if self.state.is_on():
             self.pressed = self.within(pressed)
             self.drag(self.within(place))
 
     def open_by_click(self, pane: int, place: tuple[int, int]) -> None:
-        """Opens copy mode in a pane, by a double click on a place of the terminal."""
+        """Open copy mode in a pane, by a double click on a position of the terminal."""
         self.opens(pane, lambda: None)
         if self.state.is_on():
             self.click(self.within(place), 2)
@@ -95,16 +94,16 @@ class CopyPointing:
     # ---- while it is open
 
     def within(self, place: tuple[int, int]) -> tuple[int, int]:
-        """A place of the terminal as one of the rectangle, from 0."""
+        """Return a position of the terminal relative to the rectangle, from 0."""
         rect = self.state.rect
         return place[0] - rect.row, place[1] - rect.col
 
     def is_within(self, place: tuple[int, int]) -> bool:
-        """Whether a place lies in the rectangle."""
+        """Return True if a position is inside the rectangle."""
         return 0 <= place[0] < self.state.rect.rows and 0 <= place[1] < self.state.rect.cols
 
     def take(self, report: MouseReport) -> bool:
-        """Takes a report of the outer terminal, and tells whether it is for copy mode: in its rectangle, or dragged from there."""
+        """Take a mouse report, and return True if it is for copy mode: in its rectangle, or a drag from there."""
         place = self.within((report.row, report.col))
         if self.pressed and report.number() == 0 and (report.moves() or report.is_release):
             if report.moves():
@@ -122,7 +121,7 @@ class CopyPointing:
         return True
 
     def click(self, place: tuple[int, int], count: int) -> None:
-        """Goes by so many clicks at a place: the second selects a word and the third a line, which is copied a moment later."""
+        """Handle so many clicks at a position: the second selects a word and the third a line, which is copied a moment later."""
         self.loop.drop("copy click")
         if count < 2:
             self.adds(CopyEvent(lambda mode: point_at(mode, *place)))
@@ -133,11 +132,11 @@ class CopyPointing:
         self.loop.later("copy click", CLICKED, self.copy)
 
     def copy(self) -> None:
-        """Copies what is selected, and leaves."""
+        """Copy the selection, and leave."""
         self.adds(CopyEvent(lambda mode: mode.copy(True)))
 
     def drag(self, place: tuple[int, int]) -> None:
-        """Selects from where the button was pressed to a place."""
+        """Select from the press to a position."""
         begin = self.pressed
         self.loop.drop("copy click")
         if begin and not self.is_dragged:
@@ -152,7 +151,7 @@ class CopyPointing:
             self.loop.later("copy drag", DRAGGED, lambda: self.drag(self.place))
 
     def let_go(self, place: tuple[int, int]) -> None:
-        """Copies what was dragged over, and leaves."""
+        """Copy the dragged selection, and leave."""
         self.loop.drop("copy drag")
         was_dragged, self.pressed, self.is_dragged = self.is_dragged, None, False
         if was_dragged:
@@ -161,7 +160,7 @@ class CopyPointing:
 
 
 def select_from(mode: CopyMode, row: int, col: int) -> None:
-    """Selects by characters from where the mouse is: not where a word or a line is selected there, by which that goes on."""
+    """Select by characters from the mouse position, unless a word or a line is selected there and continues."""
     selection = mode.view.selection
     if selection and selection.kind != "characters":
         return

@@ -1,5 +1,7 @@
-"""What copy mode shows: the text that paints its lines, made anew of cells and styles, so that nothing of what the filter printed is written
-as it came; its cursor, and a line in the last row."""
+"""The display of copy mode: its painted lines, its cursor, and its line in the last row.
+
+Lines are built from cells and styles, so that no output of the scrollback process reaches the terminal unchanged.
+"""
 from __future__ import annotations
 
 import functools
@@ -16,17 +18,17 @@ from roam_live.protocol.screen_cells import FLAGS, Colour, Style
 
 NUMBERS = {name: number for number, name in FLAGS.items()}
 
-# How matches are shown, and the one at which the cursor was put.
+# The style of matches, and of the one at the cursor.
 MATCH, CURRENT = Style(frozenset(), 0, 6), Style(frozenset(), 0, 5)
 
 REVERSE = "reverse"
 
-# What is left of a line is blank in the default style.
+# The rest of a line is blank in the default style.
 PLAIN = Style()
 
 
 def colour_numbers(colour: Colour, short: int, bright: int, long: str) -> list[str]:
-    """The numbers of SGR that set a colour."""
+    """Return the SGR numbers that set a colour."""
     if colour is None:
         return []
     if isinstance(colour, int):
@@ -36,7 +38,7 @@ def colour_numbers(colour: Colour, short: int, bright: int, long: str) -> list[s
 
 @functools.lru_cache(maxsize=1024)
 def sgr_of(style: Style) -> str:
-    """The SGR that leads to a style from any."""
+    """Return the SGR sequence that sets a style after any other."""
     numbers = ["0", *(str(NUMBERS[flag]) for flag in sorted(style.flags, key=lambda flag: NUMBERS[flag]))]
     numbers += colour_numbers(style.foreground, 30, 90, "38") + colour_numbers(style.background, 40, 100, "48")
     return f"\x1b[{';'.join(numbers)}m"
@@ -44,12 +46,12 @@ def sgr_of(style: Style) -> str:
 
 @functools.lru_cache(maxsize=1024)
 def reversed_of(style: Style) -> Style:
-    """A style of what is selected: reversed, or not where it was."""
+    """Return the style of selected text: with reverse video toggled."""
     return style._replace(flags=style.flags ^ {REVERSE})
 
 
 class LinePainter:
-    """Paints lines of copy mode, from a column of the terminal on, from 1, each so many columns wide."""
+    """Paints lines of copy mode, from a column of the terminal on, from 1, each at a width."""
 
     def __init__(self, mode: CopyMode, first: int, cols: int) -> None:
         self.mode, self.first, self.cols = mode, first, cols
@@ -57,7 +59,7 @@ class LinePainter:
         self.found: dict[int, list[Match]] = {}
 
     def styles(self, row: int, content: ScrollbackRow, begin: int, end: int) -> list[Style]:
-        """The styles of columns, with what is found, and what is selected, to be seen."""
+        """Return the styles of columns, with matches and the selection highlighted."""
         styles = content.styles[begin:end]
         styles += [PLAIN] * (end - begin - len(styles))
         for match in self.found[row]:
@@ -71,7 +73,7 @@ class LinePainter:
         return styles
 
     def columns(self, row: int, content: ScrollbackRow) -> tuple[int, int] | None:
-        """The columns of a row that are selected; of a wide character that is cut both halves are."""
+        """Return the selected columns of a row, with both halves of a cut wide character."""
         columns = self.selected.of(row) if self.selected else None
         if not columns or columns[0] >= columns[1]:
             return None
@@ -79,16 +81,16 @@ class LinePainter:
         return begin - content.is_right_half(begin), end + content.is_right_half(end)
 
     def line(self, line: Line) -> bytes:
-        """The text of a line."""
+        """Return the text of a line."""
         row = line[0]
         content = self.mode.rows.row(row)
         if row not in self.found:
-            # As far as the rows round it are here.
+            # As far as the neighbouring rows are here.
             self.found[row] = matches(self.mode.rows, row, self.mode.sought, True) if self.mode.is_marked else []
         begin, end = self.mode.rows.span_of(line)
         end = min(end, begin + self.cols)
         letters = [content.at(col) for col in range(begin, end)]
-        # No room is for both halves of a wide character that is cut.
+        # A cut wide character has no room for both halves.
         for at, is_cut in ((0, letters[0] == ""), (-1, content.is_right_half(end))):
             letters[at] = " " if is_cut else letters[at]
         parts, at = [], 0
@@ -99,8 +101,10 @@ class LinePainter:
         return "".join([*parts, sgr_of(PLAIN), " " * (self.cols - (end - begin))]).encode("utf-8", "replace")
 
     def text(self, letters: list[str], begin: int, end: int) -> str:
-        """The text of columns of a line. The terminal may take another width for a character that isn't of ASCII: what is behind it is put
-        in its own column in any case."""
+        """Return the text of a line's columns.
+
+        The terminal may use another width for non-ASCII characters, so text after one is positioned explicitly.
+        """
         text = "".join(letters[begin:end])
         if text.isascii():
             return text
@@ -109,42 +113,42 @@ class LinePainter:
                        for at, letter in enumerate(letters[begin:end]))
 
     def lines(self, height: int) -> list[bytes]:
-        """The text of each of so many lines: blanks where there is none."""
+        """Return the text of each of so many lines, blank if there is none."""
         found = [self.line(line) for line in self.mode.view.lines()]
         blank = sgr_of(PLAIN).encode() + b" " * self.cols
         return found + [blank] * (height - len(found))
 
 
 class CopyScreen:
-    """What one person's copy mode shows."""
+    """The display of one user's copy mode."""
 
     def __init__(self, state: CopyState) -> None:
         self.state, self.display = state, state.acts.display
 
     def visible(self, pane: int) -> Rect | None:
-        """The rectangle of the terminal on which a pane is shown, as far as it is; None where no character of it is."""
+        """Return the visible rectangle of a pane on the terminal; None if no character of it is visible."""
         places = self.state.acts.panes.places
         rect = places.rects.get(pane) if places else None
         shown = self.display.part.visible(rect) if rect else None
         return shown if shown and shown.cols >= LEAST_COLS else None
 
     def lay(self) -> None:
-        """Draws it over its rectangle."""
+        """Draw it over its rectangle."""
         self.display.lay(Popup(self.state.rect, self.lines, self.cursor))
         self.say()
 
     def lines(self) -> list[bytes]:
-        """The text of each row of its rectangle."""
+        """Return the text of each row of its rectangle."""
         mode, blank = self.state.mode, b"\x1b[0m" + b" " * self.state.rect.cols
         try:
             found = LinePainter(mode, self.state.rect.col, self.state.rect.cols).lines(self.state.rect.rows) if mode else []
         except Missing:
-            # They come soon, and all is drawn then.
+            # They come soon, and then everything is drawn.
             found = []
         return (found + [blank] * self.state.rect.rows)[: self.state.rect.rows]
 
     def cursor(self) -> tuple[int, int]:
-        """Where the terminal's cursor stands: in the last row while a line is asked for there."""
+        """Return the position of the terminal's cursor: in the last row while a line is typed there."""
         mode, (rows, cols) = self.state.mode, self.display.outer.size()
         if mode and mode.prompt:
             return rows, min(sum(map(width_of, mode.prompt.line())) + 1, cols)
@@ -155,8 +159,10 @@ class CopyScreen:
         return self.state.rect.row + min(row, self.state.rect.rows - 1), self.state.rect.col + min(col, self.state.rect.cols - 1)
 
     def line(self) -> str:
-        """The line in the last row: what is asked for; or how many rows lie below those that are shown, of how many, how many came since, a
-        count, and what is told of the last key."""
+        """Return the line in the last row: the prompt, or the status.
+
+        The status has the number of rows below the view, the total, the new rows, a count, and the message for the last key.
+        """
         mode = self.state.mode
         if not mode or mode.prompt:
             return mode.prompt.line() if mode and mode.prompt else ""
@@ -169,11 +175,11 @@ class CopyScreen:
         return "; ".join(filter(None, (f"[{back}/{most}] copy mode", came, count, mode.told)))
 
     def say(self) -> None:
-        """Has that line stand there: one that is asked for in any case."""
+        """Show that line, a prompt with precedence."""
         mode = self.state.mode
         self.display.row.say(self.line(), is_asking=mode is not None and mode.prompt is not None)
 
     def draw(self) -> None:
-        """Draws what is new."""
+        """Draw the changes."""
         self.say()
         self.display.draw()

@@ -1,4 +1,4 @@
-"""The rows that copy mode shows: as the host's filter prints them, read into cells, and laid out on lines of a pane's width."""
+"""The rows that copy mode shows: the scrollback process's output, parsed into cells, and laid out on lines of a pane's width."""
 from __future__ import annotations
 
 import unicodedata
@@ -8,44 +8,44 @@ from collections.abc import Iterable
 from roam_live.common.cell_widths import width_of
 from roam_live.protocol.screen_cells import Style, styled
 
-# A row by its number, and a column from 0; and a line: a row, and which of the lines that it takes.
+# A row by number and a column from 0; and a line: a row, and the index of one of its lines.
 Position = tuple[int, int]
 Line = tuple[int, int]
 
-# How a row begins that goes on in the next.
+# The start of a soft-wrapped row.
 GOES_ON = "+"
 
-# No cell has more characters: what joins it beyond is left out.
+# The most characters of a cell. Further combining characters are dropped.
 MOST_JOINED = 16
 
-# A row that goes on filled its terminal's columns, and the filter may leave blanks at its end out: up to so many are put back, where the
-# pane is that much wider. One that lacks more is taken for one of a narrower pane.
+# A soft-wrapped row filled its terminal's columns, and the scrollback process may omit blanks at its end. Up to so many are restored if the
+# pane is that much wider. A row that lacks more is taken for one of a narrower pane.
 MOST_LEFT_OUT = 8
 
-# What no terminal is written, nor a buffer: controls, and the directions of writing. A joiner of other characters is none of those.
+# Characters that neither a terminal nor a buffer gets: controls and writing directions. Joiners of other characters are exempt.
 UNSEEN = {"Cf", "Cc", "Cs", "Zl", "Zp"}
 JOINERS = "\u200c\u200d"
 
-# A line has so many columns at least, so that a wide character has room.
+# The least columns of a line, so that a wide character fits.
 LEAST_COLS = 2
 
-# No row has more columns, and of one that has more bytes no more is read; no screen has more rows.
+# The most columns of a row, and rows of a screen; longer rows are cut.
 MOST_COLS = 500
 MOST_ROW_BYTES = 1 << 16
 MOST_SCREEN_ROWS = 200
 
-# So many bytes of rows are kept here, each counted with what it takes to keep it, and so many rows as cells.
+# Limits of the rows stored here: bytes, with an overhead for each, and rows as cells.
 MOST_BYTES = 1 << 25
 ROW_BYTES = 96
 MOST_CELLED = 2048
 
 
 class Missing(Exception):
-    """Something of a snapshot isn't here, and has to be asked for."""
+    """A part of a snapshot is not here, and has to be requested."""
 
 
 class MissingRows(Missing):
-    """A row isn't here."""
+    """A row is missing."""
 
     def __init__(self, row: int) -> None:
         super().__init__(row)
@@ -53,8 +53,10 @@ class MissingRows(Missing):
 
 
 class ScrollbackRow(namedtuple("ScrollbackRow", "goes_on letters styles length")):
-    """A row: whether it goes on in the next, what stands in each column (nothing in the right half of a wide character) and its style, and
-    how many columns it has without the blanks at its end."""
+    """A row: a flag for soft wrapping, the text and style of each column, and its columns without trailing blanks.
+
+    The right half of a wide character is empty.
+    """
 
     goes_on: bool
     letters: list[str]
@@ -62,22 +64,22 @@ class ScrollbackRow(namedtuple("ScrollbackRow", "goes_on letters styles length")
     length: int
 
     def at(self, col: int) -> str:
-        """What stands in a column: a blank behind the last."""
+        """Return the text of a column: a blank after the last."""
         return self.letters[col] if col < len(self.letters) else " "
 
     def is_right_half(self, col: int) -> bool:
-        """Whether a column is the right half of a wide character."""
+        """Return True if a column is the right half of a wide character."""
         return self.at(col) == ""
 
     def text(self, begin: int, end: int) -> str:
-        """The characters of columns; a wide one of which a half is among them is."""
+        """Return the characters of columns, including a wide one with a half among them."""
         if begin < end and self.is_right_half(begin):
             begin -= 1
         return "".join(self.letters[begin:end])
 
 
 class RowReader:
-    """Reads what the filter prints for a row: characters, and SGR between them. What is anything else is a `?`, or nothing."""
+    """Parses a row from the scrollback process: characters, and SGR sequences between them. Anything else is a `?`, or nothing."""
 
     def __init__(self) -> None:
         self.letters: list[str] = []
@@ -85,7 +87,7 @@ class RowReader:
         self.style = Style()
 
     def read(self, text: str) -> None:
-        """Reads a row's text."""
+        """Parse a row's text."""
         before, *parts = text.split("\x1b")
         self.put(before)
         for part in parts:
@@ -98,7 +100,7 @@ class RowReader:
                 self.put("?" + part)
 
     def put(self, text: str) -> None:
-        """Puts characters into cells."""
+        """Put characters into cells."""
         if text.isascii() and text.isprintable():
             text = text[: MOST_COLS - len(self.letters)]
             self.letters += text
@@ -117,7 +119,7 @@ class RowReader:
                 self.join(letter)
 
     def join(self, letter: str) -> None:
-        """Has a character stand with the one before it."""
+        """Add a combining character to the previous cell."""
         at = len(self.letters) - 1
         while at > 0 and not self.letters[at]:
             at -= 1
@@ -126,7 +128,9 @@ class RowReader:
 
 
 def row_of(line: bytes, cols: int = 0) -> ScrollbackRow:
-    """A row as the filter prints it, of a pane of so many columns: of one that goes on the blanks that were left out stand at its end."""
+    """Return the row in a line from the scrollback process, for a pane of so many columns. Omitted blanks of a soft-wrapped row are
+    restored.
+    """
     text = line[:MOST_ROW_BYTES].decode("utf-8", "replace")
     reader = RowReader()
     reader.read(text[1:])
@@ -142,19 +146,18 @@ def row_of(line: bytes, cols: int = 0) -> ScrollbackRow:
 
 
 class Rows:
-    """The rows of a snapshot by their numbers, from the first that is kept to the last of the screen: those that were had so far, and
-    MissingRows for others."""
+    """The rows of a snapshot by number, from the first stored one to the last of the screen. An absent row raises MissingRows."""
 
     def __init__(self, first: int, end: int, cols: int, pane_cols: int = 0) -> None:
         self.first, self.end, self.cols, self.pane_cols = first, end, max(LEAST_COLS, cols), pane_cols or cols
         self.lines: dict[int, bytes] = {}
         self.size = 0
-        # Rows from this one on stay, whatever is forgotten: those of the screen, by which the lowest view is known.
+        # Rows from this one on are never forgotten: those of the screen, which determine the lowest view.
         self.stays = end
         self.celled: OrderedDict[int, ScrollbackRow] = OrderedDict()
 
     def put(self, row: int, lines: Iterable[bytes]) -> None:
-        """Has rows from one on."""
+        """Store rows from one on."""
         for line in lines:
             if self.first <= row < self.end and row not in self.lines:
                 self.lines[row] = line[:MOST_ROW_BYTES]
@@ -162,7 +165,7 @@ class Rows:
             row += 1
 
     def forget_far(self, row: int) -> None:
-        """Keeps the bytes of rows in their bound: those that are farthest from one go first."""
+        """Keep the stored rows within their limit: the farthest from one go first."""
         if self.size <= MOST_BYTES:
             return
         for far in sorted((far for far in self.lines if far < self.stays), key=lambda other: abs(other - row), reverse=True):
@@ -172,15 +175,15 @@ class Rows:
                 return
 
     def has(self, row: int) -> bool:
-        """Whether a row is here, or there is none of this number."""
+        """Return True if a row is here, or if no row has this number."""
         return row in self.lines or not self.first <= row < self.end
 
     def last(self) -> int:
-        """The last row."""
+        """Return the last row."""
         return self.end - 1
 
     def row(self, row: int) -> ScrollbackRow:
-        """A row's cells."""
+        """Return a row's cells."""
         found = self.celled.get(row)
         if found is not None:
             self.celled.move_to_end(row)
@@ -193,21 +196,21 @@ class Rows:
         return found
 
     def goes_on(self, row: int) -> bool:
-        """Whether a row goes on in the next."""
+        """Return True if a row is soft-wrapped."""
         return row < self.last() and self.row(row).goes_on
 
     def length(self, row: int) -> int:
-        """How many columns a row has without the blanks at its end."""
+        """Return the columns of a row without trailing blanks."""
         return self.row(row).length
 
     def begin_of(self, row: int) -> int:
-        """The first of the rows that go on to this one."""
+        """Return the first of this row's soft-wrapped predecessors."""
         while row > self.first and self.goes_on(row - 1):
             row -= 1
         return row
 
     def end_of(self, row: int) -> int:
-        """The last of the rows to which this one goes on."""
+        """Return the last of this row's soft-wrapped successors."""
         while self.goes_on(row):
             row += 1
         return row
@@ -215,7 +218,7 @@ class Rows:
     # ---- lines of the pane's width
 
     def begins(self, row: int) -> list[int]:
-        """The columns at which the lines begin that a row takes: no wide character is cut."""
+        """Return the first columns of a row's lines. No wide character is cut."""
         found, begin, content = [0], self.cols, self.row(row)
         while begin < content.length:
             begin -= content.is_right_half(begin)
@@ -224,25 +227,26 @@ class Rows:
         return found
 
     def line_of(self, position: Position) -> Line:
-        """The line on which a place stands."""
+        """Return the line with a position."""
         row, col = position
         return row, max(part for part, begin in enumerate(self.begins(row)) if begin <= col)
 
     def span_of(self, line: Line) -> tuple[int, int]:
-        """The columns of a row that a line shows: the first, and that behind the last."""
+        """Return the columns of a row in a line: the first, and the end, exclusive."""
         begins = self.begins(line[0])
         begin = begins[line[1]]
         return begin, begins[line[1] + 1] if line[1] + 1 < len(begins) else begin + self.cols
 
     def line_length(self, line: Line) -> int:
-        """How many columns a line has without blanks at the end of its row; one that goes on on another line has one less, since the place
-        behind its last is there."""
+        """Return the columns of a line without trailing blanks. A line that continues has one less, since the position after its last is on
+        the next.
+        """
         begin, end = self.span_of(line)
         length = self.length(line[0]) - begin
         return length if length <= end - begin and line[1] + 1 == len(self.begins(line[0])) else end - begin - 1
 
     def down(self, line: Line, count: int) -> tuple[Line, int]:
-        """The line so many below, or the last, and how many that are."""
+        """Return the line so many below, at most the last, and the number moved."""
         row, part = line
         left = count
         while left > 0:
@@ -255,7 +259,7 @@ class Rows:
         return (row, part), count
 
     def up(self, line: Line, count: int) -> tuple[Line, int]:
-        """The line so many above, or the first, and how many that are."""
+        """Return the line so many above, at most the first, and the number moved."""
         row, part = line
         left = count
         while left > part:
@@ -267,19 +271,19 @@ class Rows:
         return (row, part - left), count
 
     def below(self, line: Line, count: int = 1) -> Line:
-        """The line so many below, or the last."""
+        """Return the line so many below, at most the last."""
         return self.down(line, count)[0]
 
     def above(self, line: Line, count: int = 1) -> Line:
-        """The line so many above, or the first."""
+        """Return the line so many above, at most the first."""
         return self.up(line, count)[0]
 
     def first_line(self) -> Line:
-        """The first line."""
+        """Return the first line."""
         return self.first, 0
 
     def lines_from(self, top: Line, count: int) -> list[Line]:
-        """So many lines from one on, as far as there are."""
+        """Return so many lines from one on, as far as there are."""
         lines = [top]
         while len(lines) < count:
             line = self.below(lines[-1])

@@ -1,23 +1,23 @@
-"""What is searched for in copy mode: where a text stands in rows that go on in one another, and which place is next."""
+"""Searches in copy mode: the matches in soft-wrapped rows, and the next one."""
 from __future__ import annotations
 
 from roam_live.frontend.copymode.rows import Missing, Position, Rows
 
-# A match: its first place, and that behind its last character.
+# A match: its first position, and the one after its last character.
 Match = tuple[Position, Position]
 
-# So many rows that go on in one another are looked at together, before one and behind it.
+# The most soft-wrapped rows that are joined before one and after it.
 MOST_JOINED_ROWS = 64
 
-# So many rows that are told in vain are passed over.
+# At most so many rows reported without a match are skipped.
 MOST_PASSED = 32
 
-# So many answers are kept.
+# The most stored answers.
 MOST_ANSWERS = 256
 
 
 class MissingFind(Missing):
-    """It isn't known which row behind one, or before it, holds a text."""
+    """The next row with a match, after or before some row, is unknown."""
 
     def __init__(self, first: int, is_back: bool, text: str) -> None:
         super().__init__(first, is_back, text)
@@ -25,19 +25,19 @@ class MissingFind(Missing):
 
 
 class Finds:
-    """What was told of a snapshot's rows that hold a text: it stays so as long as the snapshot does."""
+    """The reported rows with matches in a snapshot. They stay valid as long as the snapshot exists."""
 
     def __init__(self) -> None:
         self.told: dict[tuple[int, bool, str], int | None] = {}
 
     def put(self, asked: MissingFind, row: int | None) -> None:
-        """Has an answer."""
+        """Store an answer."""
         if len(self.told) >= MOST_ANSWERS:
             self.told.clear()
         self.told[asked.first, asked.is_back, asked.text] = row
 
     def row(self, first: int, is_back: bool, text: str) -> int | None:
-        """The next row behind one, or before it, at which a text begins; None where there is none. MissingFind where that isn't known."""
+        """Return the next row, after or before one, in which a match begins; None if there is none. MissingFind if it is unknown."""
         try:
             return self.told[first, is_back, text]
         except KeyError:
@@ -45,7 +45,7 @@ class Finds:
 
 
 def joined(rows: Rows, row: int, is_here: bool) -> tuple[int, int]:
-    """The first and the last of the rows that go on to one and from it, not too many; those that are here alone, where that is asked."""
+    """Return the first and last of the soft-wrapped rows around one, up to a limit; with `is_here` only rows that are here."""
     first = last = row
     for _ in range(MOST_JOINED_ROWS):
         if first == rows.first or is_here and not rows.has(first - 1) or not rows.goes_on(first - 1):
@@ -59,7 +59,7 @@ def joined(rows: Rows, row: int, is_here: bool) -> tuple[int, int]:
 
 
 def matches(rows: Rows, row: int, text: str, is_here: bool = False) -> list[Match]:
-    """Where a text stands in a row and those that go on to it and from it."""
+    """Return the matches in a row with its soft-wrapped neighbours."""
     if not text:
         return []
     first, last = joined(rows, row, is_here)
@@ -72,7 +72,7 @@ def matches(rows: Rows, row: int, text: str, is_here: bool = False) -> list[Matc
             positions += [(number, col)] * len(letter)
     whole = "".join(letters)
     if not any(letter.isupper() for letter in text):
-        # Case counts if the text has a capital. A character that becomes more than one would move what is behind it.
+        # Case counts if the text has a capital. A character with a longer lower case would shift the text after it, so it stays.
         whole, text = "".join(low if len(low := letter.lower()) == 1 else letter for letter in whole), text.lower()
     found: list[Match] = []
     at = whole.find(text)
@@ -85,8 +85,7 @@ def matches(rows: Rows, row: int, text: str, is_here: bool = False) -> list[Matc
 
 
 def next_match(rows: Rows, finds: Finds, position: Position, text: str, is_back: bool) -> Match | None:
-    """The match at a place or behind it, or the one before it; behind the last, or before the first, at the other end. None where a text
-    stands nowhere."""
+    """Return the match at a position or after it, or the one before it, with wrap-around; None if there is none."""
     near = matches(rows, position[0], text)
     if is_back:
         near = [match for match in near if match[0] < position]
@@ -97,14 +96,16 @@ def next_match(rows: Rows, finds: Finds, position: Position, text: str, is_back:
     found = far_match(rows, finds, joined(rows, position[0], False)[0 if is_back else 1], text, is_back)
     if found:
         return found
-    # From the other end: the first row itself isn't behind any.
+    # From the other end: the first row itself comes after none.
     near = [] if is_back else [match for match in matches(rows, rows.first, text) if match[0][0] == rows.first]
     return near[0] if near else far_match(rows, finds, rows.end if is_back else rows.first, text, is_back)
 
 
 def far_match(rows: Rows, finds: Finds, row: int | None, text: str, is_back: bool) -> Match | None:
-    """The next match behind a row, or before it. A row that is told and has none here, since what joins rows is known otherwise at the
-    host, is passed over."""
+    """Return the next match after a row, or before it.
+
+    A reported row without a match here is skipped, since the host may join rows differently.
+    """
     for _ in range(MOST_PASSED):
         row = finds.row(row, is_back, text) if row is not None else None
         if row is None or not rows.first <= row < rows.end:

@@ -1,4 +1,4 @@
-"""What is selected in copy mode: from a place to the cursor, by characters, words, lines or as a block, and the text of that."""
+"""The selection in copy mode: from a position to the cursor, by characters, words, lines or as a block, and its text."""
 from __future__ import annotations
 
 import copy
@@ -6,36 +6,36 @@ import copy
 from roam_live.frontend.copymode.motions import BLANK, SEPARATORS, is_in, last_of_word, line_begin, line_end, previous_word, right, word_end
 from roam_live.frontend.copymode.rows import Position, Rows
 
-# What is selected at once: characters, or whole words or lines round the place where that began.
+# The units of a selection: characters, or whole words or lines around its start.
 CHARACTERS, WORDS, LINES = "characters", "words", "lines"
 
-# No text has so many bytes that is copied.
+# A copied text has fewer bytes.
 MOST_COPIED = 1 << 20
 
 
 class Selection:
-    """A selection: the place at which it began, and the end that goes with the cursor. `o` changes these two."""
+    """A selection: its start, and the end that follows the cursor. `o` swaps these two."""
 
     def __init__(self, position: Position, kind: str = CHARACTERS, is_vi: bool = False) -> None:
         self.begin, self.end, self.kind, self.is_vi = position, position, kind, is_vi
-        # Whether the cursor is at the end, or at the beginning.
+        # True if the cursor is at the end, False at the beginning.
         self.is_at_end = True
-        # The word or lines round which more is selected, and where the cursor was.
+        # The word or lines at the start of the selection, and the cursor's position then.
         self.core = position, position
         self.origin = position
-        # Of words and lines: what the cursor keeps to where it goes up or down, the end of its line or its beginning.
+        # For words and lines: the end of the line that the cursor sticks to in vertical moves, or its beginning.
         self.keeps = ""
 
     def copied(self) -> Selection:
-        """One like it."""
+        """Return a copy."""
         return copy.copy(self)
 
     def fixed(self) -> Position:
-        """The end that doesn't go with the cursor."""
+        """Return the end that does not follow the cursor."""
         return self.begin if self.is_at_end else self.end
 
     def follow(self, rows: Rows, position: Position) -> None:
-        """Goes with the cursor."""
+        """Follow the cursor."""
         is_begin = not self.is_at_end
         if self.kind == WORDS:
             is_begin = position < self.origin
@@ -58,19 +58,19 @@ class Selection:
             self.end = position
 
     def turn(self) -> Position:
-        """Has the cursor be at the other end, which is told."""
+        """Move the cursor to the other end, and return it."""
         self.keeps = {"end": "begin", "begin": "end"}.get(self.keeps, "")
         self.is_at_end = not self.is_at_end
         return self.end if self.is_at_end else self.begin
 
 
 def end_of_word(rows: Rows, position: Position, is_vi: bool) -> Position:
-    """The end of the word here: with vi's keys its last character, else the place behind it."""
+    """Return the end of the word here: with vi keys its last character, else the position after it."""
     return last_of_word(rows, position, SEPARATORS) if is_vi else word_end(rows, position, SEPARATORS)
 
 
 def lines_at(rows: Rows, position: Position) -> tuple[Selection, Position]:
-    """The selection of the row here with those that go on to it and from it, and where the cursor is then."""
+    """Return the selection of the row here with its soft-wrapped neighbours, and the cursor's new position."""
     selection = Selection(line_begin(rows, position), LINES)
     selection.origin, selection.keeps = position, "end"
     cursor = line_end(rows, position)
@@ -79,12 +79,12 @@ def lines_at(rows: Rows, position: Position) -> tuple[Selection, Position]:
 
 
 def word_at(rows: Rows, position: Position, is_vi: bool) -> tuple[Selection, Position]:
-    """The selection of the word here, and where the cursor is then."""
+    """Return the selection of the word here, and the cursor's new position."""
     begin = previous_word(rows, position, SEPARATORS, False)
     selection = Selection(begin, WORDS, is_vi)
     row, col = begin
     after = (row + 1, 0) if rows.goes_on(row) and col + 1 >= len(rows.row(row).letters) else (row, col + 1)
-    # Of a word of one character tmux selects none with emacs' keys, whose selection ends before the cursor.
+    # With emacs keys the selection ends before the cursor, so tmux selects no word of one character.
     cursor = begin if is_vi or col >= rows.length(row) else right(rows, begin, False)
     if col >= rows.length(row) or not is_in(rows, after, BLANK):
         cursor = end_of_word(rows, begin, is_vi)
@@ -94,7 +94,7 @@ def word_at(rows: Rows, position: Position, is_vi: bool) -> tuple[Selection, Pos
 
 
 class Columns:
-    """Which columns are selected in each row: of the first, the last and those between. To be shown it needs no row that isn't here."""
+    """The selected columns of each row: of the first, the last and those between. Their display needs no missing row."""
 
     def __init__(self, rows: Rows, selection: Selection, cursor: Position, is_block: bool, is_vi: bool, is_shown: bool = False) -> None:
         self.rows, self.is_block = rows, is_block
@@ -110,14 +110,13 @@ class Columns:
         else:
             self.begin = 0
             self.ends = self.first[1], None, end + is_vi
-        # What stands behind the text of the last row: nothing where it goes on, and an end of line only where that is selected too.
+        # The end of the last row's text: nothing if it is soft-wrapped, and a line end only if that is selected too.
         is_cut = is_vi and self.ends[2] > last_length
         is_joined = not is_far and rows.goes_on(self.last[0]) and self.ends[2] == last_length
         self.drops_end = (not is_cut) and not is_joined
 
     def of(self, row: int) -> tuple[int, int] | None:
-        """The first column that is selected in a row, and that behind the last, which may be further than the row has any; None where
-        none is."""
+        """Return the first selected column of a row and the end, exclusive, which may exceed the row; None if there is none."""
         if not self.first[0] <= row <= self.last[0]:
             return None
         begin = self.ends[0] if row == self.first[0] else self.begin
@@ -127,7 +126,7 @@ class Columns:
         return begin, whole if end is None else end
 
     def text(self, row: int) -> str:
-        """What is copied of a row, with an end of line where the row doesn't go on, or not so far."""
+        """Return the copied part of a row, with a line end unless it is soft-wrapped or the selection ends before."""
         columns, content = self.of(row), self.rows.row(row)
         if not columns or columns[0] > columns[1]:
             return ""
@@ -138,7 +137,7 @@ class Columns:
 
 
 class CopiedText:
-    """The text of a selection, which is gathered row by row: what it has so far stays where rows have to be asked for."""
+    """The text of a selection, collected row by row. The part so far stays while rows are requested."""
 
     def __init__(self, columns: Columns) -> None:
         self.columns = columns
@@ -147,7 +146,7 @@ class CopiedText:
         self.size = 0
 
     def gather(self) -> bytes | None:
-        """All of it; None where it has more bytes than are copied. MissingRows where rows have to be asked for first."""
+        """Return the whole text; None if it exceeds the limit. MissingRows if rows have to be requested first."""
         last = self.columns.last[0]
         while self.row <= last:
             part = self.columns.text(self.row)

@@ -1,5 +1,7 @@
-"""What one person's copy mode is open in, what was typed there and isn't done yet, and what it asks the pty host for: rows of its snapshot
-that aren't here, and where a text is next. One question at a time is on its way; what needs the answer is done again once that is there."""
+"""The state of one user's copy mode: its pane, the pending input, and its requests to the pty host for rows and matches.
+
+One request at a time is in flight. Input that needs the answer is repeated once it is here.
+"""
 from __future__ import annotations
 
 from collections import deque, namedtuple
@@ -14,83 +16,85 @@ from roam_live.protocol.scrollback_client import Snapshot
 
 
 class CopyEvent(namedtuple("CopyEvent", "does instead", defaults=(nothing,))):
-    """Something that was typed or pointed at: what it does in copy mode, and what it does where no rows are lent."""
+    """An input event: its effect in copy mode, and the alternative without rows."""
 
     does: Callable[[CopyMode], object]
     instead: Callable[[], object]
 
 
 class CopyState:
-    """The state of one person's copy mode."""
+    """The state of one user's copy mode."""
 
     def __init__(self, acts: WindowActs) -> None:
-        # The window, and what lends rows of it.
+        # The window, and the source of its rows.
         self.acts, self.scrollback = acts, acts.host.scrollback
         self.mode: CopyMode | None = None
-        # The pane and its generation, of which a snapshot was asked for or is had, and a number for each time that one was.
+        # The pane and its generation with a requested or current snapshot, and the number of requests for one.
         self.pane = self.generation = self.opening = 0
         self.is_opening = False
-        # The rectangle of the terminal on which it is drawn, and how many rows came since the snapshot.
+        # Its rectangle on the terminal, and the number of new rows since the snapshot.
         self.rect = Rect(1, 1, 1, 1)
         self.came = 0
-        # What was typed and pointed at and isn't done yet.
+        # The pending input.
         self.events: deque[CopyEvent] = deque()
 
     def is_on(self) -> bool:
-        """Return True if it is open, or will be once a snapshot is lent."""
+        """Return True if it is open, or opens once a snapshot is here."""
         return self.mode is not None or self.is_opening
 
 
-# So many rows are asked for at once at most, and so many pages at first: the one that is needed, and one ahead.
+# The most rows of one request, and the pages of the first one: the needed page, and one ahead.
 MOST_ASKED = 2000
 PAGES_ASKED = 2
 
-# Where the connection was lost it is asked again after so many seconds.
+# Seconds until a request is repeated after a lost connection.
 ASKS_AGAIN = 0.1
 
-# So many seconds a host has for lending a snapshot: where it is stopped the view that all share scrolls.
+# Seconds for a host to return a snapshot. If the host is stopped, the shared view scrolls.
 LENDS = 2.0
 
-# So often it is looked whether the host is connected meanwhile.
+# Seconds between checks for a connection to the host.
 CONNECTS = 0.05
 
-# What is awaited for longer than so many seconds is told.
+# A longer wait for an answer is reported.
 WAITS = 0.5
 WAITING = "waiting for rows; C-c leaves"
 GONE = "these rows are no longer stored"
 
 
 class CopyAsking:
-    """The questions of one person's copy mode. Calls go on with what waited for an answer, close copy mode for a reason, and take a
-    snapshot by the number of the question, None where none is lent."""
+    """The requests of one user's copy mode.
+
+    Calls continue after an answer, close copy mode with a reason, and take a snapshot with the number of its request, None without one.
+    """
 
     def __init__(self, state: CopyState, goes_on: Callable[[], object], closes: Callable[[str], object],
                  lent: Callable[[int, Snapshot | None], object]) -> None:
         self.state, self.goes_on, self.closes, self.lent = state, goes_on, closes, lent
         self.loop, self.display = state.acts.loop, state.acts.display
-        # Whether an answer is awaited, and how many rows were asked for last for what is to be done.
+        # True while an answer is awaited; and the size of the last request for rows in the current step.
         self.is_waiting = False
         self.asks = 0
 
     def end(self) -> None:
-        """Awaits nothing."""
+        """Wait for nothing any more."""
         self.is_waiting, self.asks = False, 0
         self.loop.drop("copy asks again")
         self.settle()
 
     def tell_later(self) -> None:
-        """Has it be told that an answer is awaited, once that takes long."""
+        """Report that an answer is awaited, once that takes long."""
         if "copy waits" not in self.loop.due:
             self.loop.later("copy waits", WAITS, lambda: self.display.row.tell(WAITING, None))
 
     def settle(self) -> None:
-        """Tells no more that an answer is awaited."""
+        """Stop reporting that an answer is awaited."""
         self.loop.drop("copy waits")
         if self.display.row.told == WAITING:
             self.display.row.end_told()
 
     def ask(self, lack: Missing) -> None:
-        """Asks for what isn't here."""
+        """Request a missing part."""
         self.is_waiting = True
         self.tell_later()
         if isinstance(lack, MissingFind):
@@ -99,7 +103,7 @@ class CopyAsking:
             self.ask_rows(lack.row)
 
     def ask_find(self, lack: MissingFind) -> None:
-        """Asks where a text is next."""
+        """Request the next match."""
         state, opening = self.state, self.state.opening
 
         def take(row: int | None) -> None:
@@ -114,7 +118,7 @@ class CopyAsking:
         state.scrollback.find(state.pane, state.generation, lack.first, lack.is_back, lack.text, take)
 
     def ask_rows(self, row: int) -> None:
-        """Asks for a row and those behind it, or before it where those behind it are here: ever more while one thing needs them."""
+        """Request a row with those after it, or before it if those are here. Each further request of one step asks for more rows."""
         state, opening = self.state, self.state.opening
         if not state.mode:
             return
@@ -132,10 +136,10 @@ class CopyAsking:
             if rows.has(row):
                 self.answered()
             elif lines and first <= at and at + len(lines) <= row:
-                # Fewer came than were asked for.
+                # Fewer rows came than requested.
                 state.scrollback.rows(state.pane, state.generation, at + len(lines), row - at - len(lines) + 1, take)
             elif not lines and state.acts.host.is_connecting():
-                # Rows keep their numbers: they are asked for again once there is another connection.
+                # Rows keep their numbers, so the request is repeated on the next connection.
                 self.loop.later("copy asks again", ASKS_AGAIN, self.answered)
             else:
                 self.closes(GONE)
@@ -143,7 +147,7 @@ class CopyAsking:
         state.scrollback.rows(state.pane, state.generation, first, count, take)
 
     def answered(self) -> None:
-        """Goes on with what waited for an answer."""
+        """Continue the steps that waited for an answer."""
         self.is_waiting = False
         self.settle()
         self.goes_on()
@@ -151,7 +155,7 @@ class CopyAsking:
     # ---- a snapshot
 
     def begin(self) -> int:
-        """Waits for what opens it, no longer than for a snapshot; tells its number."""
+        """Wait for the snapshot that opens it, up to the limit, and return the number of the request."""
         self.state.opening += 1
         opening, self.state.is_opening = self.state.opening, True
         self.loop.later("copy opens", LENDS, lambda: self.lent(opening, None))
@@ -159,11 +163,11 @@ class CopyAsking:
         return opening
 
     def ask_snapshot(self) -> None:
-        """Asks for a snapshot."""
+        """Request a snapshot."""
         self.ask_connected(self.begin())
 
     def ask_connected(self, opening: int) -> None:
-        """Asks for it once the host is connected, where that may be soon."""
+        """Request it once the host is connected, if that may be soon."""
         if opening != self.state.opening or not self.state.is_opening:
             return
         if self.state.acts.host.is_connecting():
@@ -172,8 +176,7 @@ class CopyAsking:
             self.state.scrollback.snapshot(self.state.pane, self.state.generation, lambda snapshot: self.take_snapshot(opening, snapshot))
 
     def take_snapshot(self, opening: int, snapshot: Snapshot | None) -> None:
-        """Takes what the host answers. Where the connection was lost instead, as by a relay that goes another way, it is asked again once
-        there is another."""
+        """Take the host's answer. If the connection was lost instead, repeat the request on the next one."""
         if snapshot is None and self.state.acts.host.is_connecting():
             self.ask_connected(opening)
         else:

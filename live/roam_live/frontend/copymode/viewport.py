@@ -1,4 +1,4 @@
-"""What copy mode shows of a snapshot's rows: which lines, where the cursor is among them, and how both move."""
+"""The view of a snapshot's rows in copy mode: its lines, the cursor among them, and their moves."""
 from __future__ import annotations
 
 import copy
@@ -9,60 +9,60 @@ from roam_live.frontend.copymode.selection import Selection
 
 
 class CopyView:
-    """Lines of a height from a top one on, the cursor's place, and what is selected. Its calls are as tmux's copy mode has them."""
+    """The lines in view from a top one on, the cursor's position, and the selection. Its calls are those of tmux's copy mode."""
 
     def __init__(self, rows: Rows, height: int) -> None:
         self.rows, self.height = rows, height
         self.top: Line = (rows.first, 0)
         self.position: Position = (rows.first, 0)
-        # The column to which the cursor comes back where a line is long enough, and how long the line was where it had that.
+        # The column that vertical moves return to in long enough lines. Then the line's length when it was set.
         self.wanted, self.wanted_of = 0, 0
         self.selection: Selection | None = None
         self.is_block = False
 
     def copied(self) -> CopyView:
-        """One like it, which stays as it is."""
+        """Return an independent copy."""
         other = copy.copy(self)
         other.selection = self.selection.copied() if self.selection else None
         return other
 
-    # ---- where it is
+    # ---- position
 
     def lowest_top(self) -> Line:
-        """The top line where the last line is shown at the bottom."""
+        """Return the top line at which the last line is at the bottom."""
         return self.rows.above((self.rows.last(), len(self.rows.begins(self.rows.last())) - 1), self.height - 1)
 
     def line(self) -> Line:
-        """The cursor's line."""
+        """Return the cursor's line."""
         return self.rows.line_of(self.position)
 
     def lines(self) -> list[Line]:
-        """The lines that are shown."""
+        """Return the visible lines."""
         return self.rows.lines_from(self.top, self.height)
 
     def cursor(self) -> tuple[int, int]:
-        """Where the cursor stands among them: a line and a column, from 0."""
+        """Return the cursor's position in the view: a line and a column, from 0."""
         line = self.line()
         return self.depth(), min(self.position[1] - self.rows.span_of(line)[0], self.rows.cols - 1)
 
     def depth(self) -> int:
-        """How many lines the cursor is below the top."""
+        """Return the distance of the cursor below the top, in lines."""
         line, lines = self.line(), self.lines()
         return lines.index(line) if line in lines else 0
 
     def back(self) -> tuple[int, int]:
-        """How many rows are below those that are shown, and how many there can be."""
+        """Return the number of rows below the view, and its highest value."""
         lowest = self.lowest_top()[0]
         return max(0, lowest - self.top[0]), lowest - self.rows.first
 
     def is_lowest(self) -> bool:
-        """Whether the last line is shown."""
+        """Return True if the last line is in view."""
         return self.top >= self.lowest_top()
 
     # ---- moves
 
     def go(self, position: Position) -> None:
-        """Puts the cursor on a place, and scrolls as little as shows it."""
+        """Move the cursor to a position, and scroll as little as necessary."""
         self.position = position
         line = self.line()
         if line < self.top:
@@ -71,7 +71,7 @@ class CopyView:
             self.top = self.rows.above(line, self.height - 1)
 
     def jump(self, position: Position) -> None:
-        """Puts the cursor on a place, which is shown a quarter above the bottom where it wasn't shown before."""
+        """Move the cursor to a position. If that was out of view, it is shown a quarter above the bottom."""
         self.position = position
         line = self.line()
         if line not in self.lines():
@@ -81,25 +81,25 @@ class CopyView:
             self.top = min(self.top, self.lowest_top())
 
     def want_column(self) -> None:
-        """Keeps the column to which the cursor comes back, where it isn't at the end of its line."""
+        """Remember the column for vertical moves, unless the cursor is at the end of its line."""
         line = self.line()
         col, length = self.position[1] - self.rows.span_of(line)[0], self.rows.line_length(line)
         if col != length:
             self.wanted, self.wanted_of = col, length
 
     def is_free(self) -> bool:
-        """Whether the cursor keeps to the characters of its line: not where a block is selected."""
+        """Return True if the cursor stays within the characters of its line. In a block selection it may leave them."""
         return self.selection is None or not self.is_block
 
     def put_on(self, line: Line, col: int, is_clamped: bool = True) -> None:
-        """Puts the cursor on a line, at a column as far as there are characters, or at the end, where it was there."""
+        """Move the cursor to a line and a column within its characters, or to the end if it was there."""
         begin, length = self.rows.span_of(line)[0], self.rows.line_length(line)
         if is_clamped and (col >= self.wanted_of and col != length or col > length):
             col = length
         self.position = line[0], begin + col
 
     def step(self, by: int, scrolls: bool = False) -> None:
-        """Goes a line up or down; or scrolls so, with the cursor where it stands."""
+        """Move a line up or down; or scroll by one, with the cursor at its place in the view."""
         is_free, rows = self.is_free(), self.rows
         if is_free:
             self.want_column()
@@ -107,7 +107,7 @@ class CopyView:
         if selection and selection.keeps == ("end" if by < 0 else "begin") and line[0] == selection.fixed()[0]:
             self.other_end()
             line = self.line()
-        # The cursor's column on its line, or the one to which it comes back.
+        # The cursor's column on its line, or the remembered one.
         col, depth = self.wanted if self.is_free() else self.position[1] - rows.span_of(line)[0], self.depth()
         if by < 0 and (scrolls or depth == 0):
             self.top = rows.above(self.top)
@@ -123,7 +123,7 @@ class CopyView:
             self.position = line[0], rows.span_of(line)[0] + (length if selection.keeps == "end" else 0)
 
     def page(self, by: int, is_half: bool = False) -> None:
-        """Goes a page up or down, less two lines, or half of one."""
+        """Move a page up or down, less two lines, or half of one."""
         self.want_column()
         rows, depth, wanted = self.rows, self.depth(), self.wanted
         count = 1 if self.height <= 2 else self.height // 2 if is_half else self.height - 2
@@ -145,7 +145,7 @@ class CopyView:
             self.go(line_end(rows, self.position))
 
     def put_at(self, depth: int, col: int = 0) -> None:
-        """Puts the cursor on a line that is shown, at a column as far as there are characters."""
+        """Move the cursor to a visible line, at a column within its characters."""
         lines = self.lines()
         line = lines[max(0, min(depth, len(lines) - 1))]
         begin, _ = self.rows.span_of(line)
@@ -153,19 +153,19 @@ class CopyView:
         self.position = line[0], begin + col
 
     def go_top(self) -> None:
-        """Goes to the first row."""
+        """Go to the first row."""
         turn_where(self, "end")
         self.top = self.rows.first_line()
         self.position = self.top[0], 0
 
     def go_bottom(self) -> None:
-        """Goes to the end of the last row."""
+        """Go to the end of the last row."""
         turn_where(self, "begin")
         self.top = self.lowest_top()
         self.position = self.rows.last(), self.rows.length(self.rows.last())
 
     def go_back(self, count: int) -> None:
-        """Shows lines so many rows above the last, with the cursor where it stands."""
+        """Show the lines so many rows above the last, with the cursor at its place in the view."""
         depth, col = self.depth(), self.position[1] - self.rows.span_of(self.line())[0]
         self.top = self.rows.above(self.lowest_top(), count)
         self.put_at(depth, col)
@@ -173,27 +173,27 @@ class CopyView:
     # ---- the selection
 
     def other_end(self) -> None:
-        """Has the cursor be at the other end of what is selected."""
+        """Move the cursor to the other end of the selection."""
         if self.selection:
             self.go(self.selection.turn())
 
     def follow(self) -> None:
-        """Has what is selected go with the cursor."""
+        """Extend the selection to the cursor."""
         if self.selection:
             self.selection.follow(self.rows, self.position)
 
     def clamp(self) -> None:
-        """Has the cursor be no further than behind the last character of its row."""
+        """Keep the cursor at most after the last character of its row."""
         self.position = self.position[0], min(self.position[1], self.rows.length(self.position[0]))
 
     def clear_selection(self) -> None:
-        """Selects nothing any more."""
+        """Clear the selection."""
         self.selection = None
         self.clamp()
 
 
 def turn_where(view: CopyView, keeps: str) -> None:
-    """Put the cursor at the other end of selected lines, if it keeps to this one of them and is on the row at which they begin."""
+    """Move the cursor to the other end of selected lines, if it sticks to this end and is on the row of their fixed end."""
     selection = view.selection
     if selection and selection.keeps == keeps and view.position[0] == selection.fixed()[0]:
         view.other_end()
