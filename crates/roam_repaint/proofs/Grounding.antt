@@ -1,4 +1,4 @@
--- A plain terminal is brought to its ground state, but for what it shows.
+-- A plain terminal is brought to its ground state, except for its screen.
 use Rattle.std.proofs.Common.{◌≡◌, ◌<◌, ℕ, ◌-◌, min, Bool, true, false, List, [], ◌∷◌, Option, None, refl, ap, ◌∙◌, arith}
 use Rattle.std.specs.Prelude.{if◌then◌else◌}
 use Rattle.std.proofs.lemmas.Bool.{lt-ltb}

@@ -217,7 +217,7 @@ spells (f ∷ fs) h =
           ∙ ap (λ l. f ∷ l) (more.gives rest);
     }
 
--- ---- what a repaint asks for
+-- ---- the functions of a repaint
 
 final-r : IsFinal 0x72
 final-r = record { out = refl; ends = λ h rest. refl; ascii = omega arith }

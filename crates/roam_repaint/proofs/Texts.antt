@@ -45,7 +45,7 @@ pub cell_text : (b : List ℕ) (x : Glyph)
 cell_text b x =
     ap (λ l. (b ++ flat_map spelling_of (restyle x.style)) ++ l) (sym (printed x.points)) ∙ texts_append b (restyle x.style) (map Print x.points)
 
--- what the terminal is left with
+-- the terminal's state at the end
 pub finishing_text : (b : List ℕ) (r : Repaint)
     → ((b ++ flat_map spelling_of (if r.pending then rewritten (cell_there r.shot) else [])) ++ flat_map spelling_of (restyle r.style))
     ++ flat_map spelling_of (if r.wraps then [] else wrap_off ∷ [])

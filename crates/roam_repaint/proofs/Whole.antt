@@ -196,7 +196,7 @@ module _ (still : Constants) (s : Screenshot) (rows_are : s.rows ≡ still.rows)
       ((half_in i j half).0, (λ a b. right (over_wide i j half a b) a b), cuts_right i j half))
       ∙ shows i j p q
 
-  -- every place shows what it showed
+  -- every place keeps its cell
   keeps : (i j : ℕ) → i < still.rows → j < still.cols → cell_at cols again.cells' i j ≡ new i j
   keeps i j p q =
       elim (cases_eq i r) [
@@ -222,7 +222,7 @@ module _ (still : Constants) (r : ℕ) (g : Style) (visible : Bool) where
   abbrev waiting : List Glyph → Option ℕ → Live
   waiting cells last = at_work still cells r (still.cols - 1) true g visible last
 
-  -- what joins it leaves it pending
+  -- the wrap stays pending after a joined character
   joined-on : (js : List ℕ) (cells : List Glyph) (last : Option ℕ) → are_joiners js ≡ true
       → (cells' : List Glyph) × (acted (map Print js) (waiting cells last) ≡ waiting cells' last)
   unfolding joined_on
@@ -329,7 +329,7 @@ module _ (t : Live) (r : Repaint) (plain : IsPlain t) (is : IsRepaint t r) where
   abbrev row : ℕ
   row = s.cursor_row - 1
 
-  -- what is left, in the forms of the painter and of the promise
+  -- the state at the end, in the forms of the painter and of the promise
   abbrev left_so : Bool → List Glyph → ℕ → Bool → Live
   left_so b cells col pending =
       record (at_work k cells row col pending r.style s.visible None) {

@@ -1,4 +1,4 @@
--- What the text of a screen makes of a terminal.
+-- The effect of the text of a screen on a terminal.
 use Rattle.std.specs.Prelude.{◌≡◌, ℕ, ◌+◌, ◌-◌, ◌<◌, true, false, if◌then◌else◌, List, ◌++◌, map, None}
 use Rattle.roam_cells.specs.Glyph.{Glyph, IsStyle, is_right_half}
 use Rattle.roam_cells.specs.Place.{cell_at}
@@ -13,8 +13,7 @@ use Rattle.roam_term.specs.Terminal.{Live, live_after}
 use Rattle.roam_grid.specs.Writing.{columns}
 use Rattle.roam_repaint.specs.Repainting.{Repaint, cell_there, repainting, repaint_text}
 
--- a terminal that shows its main screen, with no single shift waiting, IRM, DECOM and DECSCNM reset, and the guard off; all else is as it
--- likes
+-- a terminal that shows its main screen, without a single shift, with IRM, DECOM and DECSCNM reset and the guard off; the rest is arbitrary
 pub record IsPlain (t : Live) : Type 0 where
   pub main : t.alternate ≡ false
   pub single : t.sets.single ≡ None
@@ -23,7 +22,7 @@ pub record IsPlain (t : Live) : Type 0 where
   pub reverse : t.modes.reverse_screen ≡ false
   pub unguarded : t.pen.guarded ≡ false
 
--- where a wrap is to be pending, lines wrap, and the cell at the cursor ends in the last column
+-- for a pending wrap, lines wrap, and the cell at the cursor ends in the last column
 pub record MayPend (r : Repaint) : Type 0 where
   pub wraps : r.wraps ≡ true
   pub whole : is_right_half (cell_there r.shot) ≡ false
@@ -41,8 +40,8 @@ pub record IsRepaint (t : Live) (r : Repaint) : Type 0 where
 abbrev pub column_after : Repaint → ℕ
 column_after r = if r.pending then r.shot.cols - 1 else r.shot.cursor_col - 1
 
--- the terminal shows the screen at each place; its cursor, pending wrap, style and DECAWM are those asked for, the margins are full, ASCII is
--- in use as G0, and all else is as it was
+-- the terminal shows the screen at each place; its cursor, pending wrap, style and DECAWM are the wanted ones; the margins are full, G0 is
+-- ASCII, and all else is as before
 pub record IsRepainted (t : Live) (r : Repaint) (u : Live) : Type 0 where
   pub cells : List Glyph
   pub is : u ≡ record {
@@ -73,7 +72,7 @@ pub record IsRepainted (t : Live) (r : Repaint) (u : Live) : Type 0 where
 abbrev pub TextRepaints : Type 0
 TextRepaints = (t : Live) (r : Repaint) → IsPlain t → IsRepaint t r → IsRepainted t r (live_after t (repainting r))
 
--- the text is read as these functions where a reader is between characters and sequences, and it is so again behind it
+-- a reader between characters and sequences reads the text as these functions, and is between them again behind it
 pub record IsRead (log : List Item) (r : Repaint) : Type 0 where
   pub functions : functions_of (log ++ map Byte (repaint_text r)) ≡ functions_of log ++ repainting r
   pub rests : AtRest (log ++ map Byte (repaint_text r))

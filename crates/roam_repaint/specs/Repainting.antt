@@ -11,8 +11,7 @@ use Rattle.roam_term.specs.Ground.{shown_at}
 use Rattle.roam_paint.specs.Painting.{functions_between}
 use Rattle.roam_paint.specs.Sequences.{spelling_of}
 
--- a screen that is painted, whether the cell at its cursor is written last, so that a wrap is pending behind it, the style that is set
--- afterwards, and whether DECAWM is
+-- a screen to paint; true if the cell at its cursor is written last, so that a wrap is pending; the style at the end; and DECAWM at the end
 pub record Repaint : Type 0 where
   pub shot : Screenshot
   pub pending : Bool
@@ -49,7 +48,7 @@ cell_there s = shown_at s (s.cursor_row - 1) (s.cursor_col - 1)
 abbrev pub rewritten : Glyph → List Function
 rewritten x = restyle x.style ++ map Print x.points
 
--- what the terminal is left with
+-- the terminal's state at the end
 abbrev pub finishing : Repaint → List Function
 finishing r =
     (if r.pending then rewritten (cell_there r.shot) else []) ++ (restyle r.style ++ (if r.wraps then [] else wrap_off ∷ []))

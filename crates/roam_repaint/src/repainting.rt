@@ -12,8 +12,8 @@ use roam_paint::{paint, push_points, push_restyle};
 use roam_screens::Shot;
 use std::alloc::{AllocError, Global};
 
-/// What a terminal is left with behind the text of a screen: whether the cell at its cursor is written last, so that a wrap is pending
-/// behind it, the style that is set, and whether DECAWM is.
+/// The state of a terminal behind the text of a screen: true if the cell at its cursor is written last, so that a wrap is pending; the
+/// style; and DECAWM.
 #[derive(Clone, Copy)]
 pub struct Ending {
     pub pending: bool,

@@ -72,7 +72,7 @@ module _ (from s : TextPosition) (len : ℕ) where
   fewer false true n e h = h
   fewer false false n e h = omega (arith, h)
 
--- ---- a position whose line is there is where its place is
+-- ---- a position is at its place if its line is there
 
 abbrev place-or : Bool → TextPosition → TextRow → List TextRow → ScreenPosition
 place-or b s row rows = if b then record { row = 0; col = s.cell } else below (place_of (position_behind s row) rows)

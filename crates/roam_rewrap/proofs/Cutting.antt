@@ -13,7 +13,7 @@ cut n rest = record { goes_on = true; cells = take n rest }
 abbrev pub last_of : List Glyph → TextRow
 last_of rest = record { goes_on = false; cells = rest }
 
--- the first row is cut off where the line is longer
+-- the first row is cut off if the line is longer
 longer : (fuel cols : ℕ) (rest : List Glyph) → cols < length rest
     → rows_within (suc fuel) cols rest ≡ cut (fitting cols rest) rest ∷ rows_within fuel cols (drop (fitting cols rest) rest)
 longer fuel cols rest h =
@@ -47,6 +47,6 @@ cuts (suc fuel) cols at n line rows goal long few some is e =
           ∙ e;
     }
 
--- what is behind a place of a line
+-- the rest behind a place of a line
 pub after-is : (i : ℕ) (xs : List Glyph) → take (length xs - i) (drop i xs) ≡ drop i xs
 after-is i xs = take_all (length xs - i) (drop i xs) (omega (arith, length-drop i xs))

@@ -1,4 +1,4 @@
--- Rows of text, and the logical lines that they are of: rows are joined where autowrap went on (DECAWM, VT220 Programmer Reference).
+-- Rows of text, and their logical lines: rows are joined if autowrap went on (DECAWM, VT220 Programmer Reference).
 use Rattle.std.specs.Prelude.{Bool, List, [], ◌∷◌, ◌++◌, if◌then◌else◌}
 use Rattle.roam_cells.specs.Glyph.{Glyph}
 
@@ -7,7 +7,7 @@ pub record TextRow : Type 0 where
   pub goes_on : Bool
   pub cells : List Glyph
 
--- the lines of rows, where the cells of a line that has begun come before them
+-- the lines of rows, after the cells of a line that has begun
 abbrev pub lines_from : List Glyph → List TextRow → List (List Glyph)
 lines_from [] [] = []
 lines_from (x ∷ xs) [] = (x ∷ xs) ∷ []

@@ -1,4 +1,4 @@
--- Which rows of text at a width a screen shows, and where its cursor goes.
+-- The rows of text at a width that a screen shows, and the place of its cursor.
 use Rattle.std.specs.Prelude.{◌≡◌, ℕ, zero, suc, ◌+◌, ◌-◌, ◌*◌, ◌&&◌, not, ◌==◌, nat_le, nat_lt, min, Bool, List, [], ◌∷◌, ◌++◌, length, take, drop, replicate, if◌then◌else◌}
 use Rattle.std.specs.List.{flat_map}
 use Rattle.roam_cells.specs.Glyph.{Glyph, blank, is_right_half}
@@ -16,7 +16,7 @@ abbrev pub position_after : TextPosition → TextRow → TextPosition
 position_after s row =
     if row.goes_on then record { line = s.line; cell = s.cell + length row.cells } else record { line = s.line + 1; cell = 0 }
 
--- the position of the first column of a row, where rows before these led to another
+-- the position of the first column of a row, after rows that led to another
 abbrev pub position_from : TextPosition → ℕ → List TextRow → TextPosition
 position_from s zero rows = s
 position_from s (suc r) [] = s
@@ -44,21 +44,21 @@ is_behind s row = row.goes_on && nat_le (length row.cells) s.cell
 abbrev pub is_here : TextPosition → TextRow → Bool
 is_here s row = (s.line == 0) && not (is_behind s row)
 
--- what is left of a position behind a row
+-- the rest of a position behind a row
 abbrev pub position_behind : TextPosition → TextRow → TextPosition
 position_behind s row =
     if s.line == 0 then record { line = 0; cell = s.cell - length row.cells }
     else if row.goes_on then s
     else record { line = s.line - 1; cell = s.cell }
 
--- where a position is in rows
+-- the place of a position in rows
 abbrev pub place_of : TextPosition → List TextRow → ScreenPosition
 place_of s [] = record { row = 0; col = s.cell }
 place_of s (row ∷ rows) =
     if is_here s row then record { row = 0; col = s.cell }
     else below (place_of (position_behind s row) rows)
 
--- ---- what a screen shows of rows
+-- ---- the shown rows
 
 -- how many rows leave at the top, so that the last ones are shown and the cursor's among them
 abbrev pub leaving_rows : ℕ → ℕ → List TextRow → ℕ
@@ -77,7 +77,7 @@ abbrev pub shown_cells : ℕ → ℕ → List TextRow → List Glyph
 shown_cells rows cols shown =
     flat_map (padded cols) shown ++ replicate (rows * cols - length (flat_map (padded cols) shown)) blank
 
--- the column of the cursor: behind all columns it is where the last cell begins
+-- the column of the cursor: behind all columns it is the beginning of the last cell
 abbrev pub column_at : ℕ → List Glyph → ℕ → ℕ → ℕ
 column_at cols cells row col =
     if nat_lt col cols then col
@@ -86,8 +86,8 @@ column_at cols cells row col =
 
 -- ---- the whole
 
--- text at the size of a screen: all its rows, how many of them leave at the top, the screen that shows the rows behind those, and whether a
--- wrap is pending there
+-- text at the size of a screen: all its rows, the number of rows that leave at the top, the screen of the rows behind those, and true if a
+-- wrap is pending
 pub record ReflowView : Type 0 where
   pub rows : List TextRow
   pub off : ℕ

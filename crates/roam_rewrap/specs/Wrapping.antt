@@ -1,10 +1,10 @@
--- Lines at a width: a line goes to the next row as autowrap has it, so that a wide cell is never cut (DECAWM, VT220 Programmer Reference).
+-- Lines at a width: a line goes on in the next row as by autowrap, so that a wide cell is never cut (DECAWM, VT220 Programmer Reference).
 use Rattle.std.specs.Prelude.{◌≡◌, ℕ, zero, suc, ◌-◌, nat_lt, true, false, List, [], ◌∷◌, ◌++◌, length, take, drop, if◌then◌else◌}
 use Rattle.roam_cells.specs.Glyph.{Glyph, is_wide}
 use Rattle.roam_cells.specs.Place.{glyph_at}
 use Rattle.roam_rewrap.specs.Lines.{TextRow, lines_of}
 
--- how many cells of a line that is longer than a row are in its first row: a wide cell that the last column would cut goes to the next
+-- the number of cells in the first row of a line that is longer than a row: a wide cell that the last column would cut goes to the next
 unfoldable pub fitting : ℕ → List Glyph → ℕ
 fitting cols line = if is_wide (glyph_at line (cols - 1)) then cols - 1 else cols
 

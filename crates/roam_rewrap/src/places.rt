@@ -57,7 +57,7 @@ fn start_of(rows: &[Row], row: usize) -> Option<TextPosition>
     Some(position)
 }
 
-/// The position of a row and a column of rows; `None` where no number says it.
+/// Returns the position of a row and a column of rows; `None` if it is out of range.
 #[tactic(auto, unfolding(crate::specs::Windows::position_at))]
 fn position_at(rows: &[Row], at: ScreenPosition) -> Option<TextPosition>
     ensures position { IfSome result (λ position. position ≡ position_at rows.now at) }
@@ -76,7 +76,7 @@ fn is_behind(position: TextPosition, row: &Row) -> bool
     row.goes_on() && row.cells().len() <= position.cell
 }
 
-// What is left of a position behind a row.
+// Returns the rest of a position behind a row.
 fn position_behind(position: TextPosition, row: &Row) -> TextPosition
     ensures behind { result ≡ position_behind position row.now }
 {
@@ -126,7 +126,7 @@ fn place_of(rows: &[Row], position: TextPosition) -> ScreenPosition
     }
 }
 
-/// Where a position of a text is in its rows at another width; `None` where no number says it.
+/// Returns the place of a text's position in its rows at another width; `None` if it is out of range.
 pub fn placed(all: &[Row], text: &[Row], at: ScreenPosition) -> Option<ScreenPosition>
     ensures place { IfSome result (λ place. place ≡ place_of (position_at text.now at) all.now) }
 {

@@ -1,4 +1,4 @@
-//! What a screen shows of rows of text, and where its cursor goes.
+//! The part of rows of text that a screen shows, and the place of its cursor.
 ghost use Rattle.std.specs.Prelude.{◌≡◌, ◌+◌, ◌<◌, ◌≤◌, ◌++◌, IfOk, IfSome, OnOk, length, nat_le, replicate};
 ghost use Rattle.roam_cells.specs.Glyph.{blank};
 ghost use Rattle.roam_cells.specs.Limits.{IsSize};
@@ -13,8 +13,8 @@ use roam_screens::Shot;
 use std::alloc::{AllocError, Global};
 use std::marker::Model;
 
-/// Text at the size of a screen: all its rows, how many of them leave at the top, the screen that shows the rows behind those, and whether
-/// a wrap is pending there.
+/// Text at the size of a screen: all its rows, the number of rows that leave at the top, the screen of the rows behind those, and true if a
+/// wrap is pending.
 #[derive(Drop)]
 pub struct Reflow {
     rows: Vec<Row>,
@@ -63,7 +63,7 @@ fn shown_cells(alloc: Global, shown: &[Row], rows: u16, cols: u16) -> Result<Vec
     Ok(cells)
 }
 
-// The column of the cursor; `None` where the row is none of the screen's.
+// Returns the column of the cursor; `None` if the row isn't one of the screen's.
 fn column_at(cols: usize, cells: &[Cell], at: ScreenPosition) -> Option<usize>
     requires cols { 2 ≤ cols }
     ensures column { IfSome result (λ col. col ≡ column_at cols cells.now at.row at.col) }
@@ -79,7 +79,7 @@ fn column_at(cols: usize, cells: &[Cell], at: ScreenPosition) -> Option<usize>
     Some(cols - 1)
 }
 
-// The screen of these cells, with its cursor at a row and a column from 0; `None` where they make none.
+// Returns the screen of these cells, with its cursor at a row and a column from 0; `None` if they make none.
 fn shot_of(
     rows: u16,
     cols: u16,
@@ -139,7 +139,7 @@ impl Reflow {
         self.pending
     }
 
-    /// Text, with a cursor at a row and a column of it, at a size; `None` where it makes no screen, as where a cell is guarded.
+    /// Returns text at a size, with a cursor at a row and a column of it; `None` if it makes no screen, for example with a guarded cell.
     pub fn of(
         alloc: Global,
         text: &[Row],

@@ -169,7 +169,7 @@ module _ (t : Live) (p : Screenshot) (r n : ℕ) (h : IsScreenshot p) (a : Await
     middle = λ q e y. absurd (false≢true (sym first ∙ e));
   }
 
-  -- where the cursor stands already, placing it there changes nothing
+  -- placing the cursor at its own place changes nothing
   place-stays : changed_by (place_cursor (r + 1) 1) t ≡ t
   place-stays =
       let low = a.row_in in
@@ -231,7 +231,7 @@ module _ (t : Live) (p : Screenshot) (r n : ℕ) (h : IsScreenshot p) (a : Await
           places = all-places;
         })
 
-    -- the default style is set where another one is
+    -- the default style is set if another one is
     styled : (same : Bool) (cells : List Glyph) (last : Option ℕ) → same_style default_style g ≡ same
         → u ≡ at_work (constants_of t) cells r n false g false last → (last' : Option ℕ)
         × (acted (if same then [] else restyle default_style) u ≡ at_work (constants_of t) cells r n false default_style false last')

@@ -22,7 +22,7 @@ pub record HasWritten (start now : LinesView) (rest all : List LeftRow) : Type 0
   pub written : Writes start now rows
   pub all_are : rows ++ rest ≡ all
 
--- what REP once makes of a terminal that keeps a character
+-- the effect of one REP on a terminal that keeps a character
 abbrev pub Keeps : Option ℕ → Glyph → Live → Type 0
 Keeps o g s = IsSomeAnd o (λ c. ((width_of c == 0) ≡ false) × (g ≡ glyph_in c s.pen))
 

@@ -1,4 +1,4 @@
--- What a source stands for as it goes on.
+-- The log of a source as it goes on.
 use Rattle.std.proofs.Common.{ℕ, Bool, List, ◌++◌, sym, ap, ◌∙◌}
 use Rattle.roam_scrollback.specs.Lines.{LinesView}
 use Rattle.roam_scrollback.specs.Sources.{SourceView, IsSource, Gives, Sheds, Continues, RowsAreThoseThatLeft, left_through, rows_through, wraps_through}

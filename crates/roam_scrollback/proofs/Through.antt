@@ -33,7 +33,7 @@ rows-append l (f ∷ fs) gs wraps =
     ∙ sym (append_assoc (rows_leaving f l wraps) (rows_through (changed_by f l) fs (wraps_after f l wraps))
     (rows_through (live_after (changed_by f l) fs) gs (wraps_through (changed_by f l) fs (wraps_after f l wraps))))
 
--- what a dispatched function makes: it is never a size
+-- the effect of a dispatched function: it is never a size
 pub rows-dispatch : (d : Dispatch) (params inter : List ℕ) (l : Live) (wraps : List Bool)
     → rows_leaving (function_of d params inter) l wraps ≡ rows_commanded (command_of (function_of d params inter)) l wraps
 unfolding rows_leaving

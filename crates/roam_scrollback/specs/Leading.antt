@@ -1,4 +1,4 @@
--- What the text of a row makes of a terminal.
+-- The effect of the text of a row on a terminal.
 use Rattle.std.specs.Prelude.{◌≡◌, ℕ, zero, suc, ◌<◌, ◌≤◌, List, [], ◌∷◌, ◌++◌, false, None}
 use Rattle.roam_cells.specs.Glyph.{Glyph, is_right_half, default_style}
 use Rattle.roam_cells.specs.Place.{cell_at}
@@ -12,12 +12,12 @@ abbrev pub cells_to : (ℕ → Glyph) → ℕ → List Glyph
 cells_to at zero = []
 cells_to at (suc n) = cells_to at n ++ at n ∷ []
 
--- a terminal shows what a screen has at every place of its own
+-- a terminal shows the cells of a screen at every place of the screen
 abbrev pub ShowsAt : Live → Screenshot → ℕ → ℕ → Type 0
 ShowsAt t p i j = cell_at t.screen.cols t.screen.cells i j ≡ shown_at p i j
 
--- a ground terminal that is wider than n columns, with its cursor hidden at the start of a row, as a control function leaves it; it shows a
--- screen but for the first n columns of that row
+-- A ground terminal wider than n columns, with its cursor hidden at the start of a row, as a control function leaves it. It shows a screen
+-- except for the first n columns of that row.
 pub record Awaits (t : Live) (p : Screenshot) (r n : ℕ) : Type 0 where
   pub ground : IsGround t
   pub hidden : t.modes.cursor_visible ≡ false

@@ -19,7 +19,7 @@ rows_with (row ∷ rows) wraps = record { goes_on = goes_on wraps 0; cells = row
 abbrev pub line_of : LeftRow → List ℕ
 line_of row = line_text row.goes_on row.cells
 
--- what contracts see of written lines: their bytes, how many they are, and how many more rows there is no memory for
+-- the view of written lines: their bytes, their number, and the number of rows for which memory was refused
 pub record LinesView : Type 0 where
   pub text : List ℕ
   pub count : ℕ
@@ -37,7 +37,7 @@ no_lines = record { text = []; count = 0; lost = 0 }
 abbrev pub many : ℕ
 many = 65536
 
--- whether the lines are to be taken before more come: many bytes wait, or a row was lost
+-- the lines are to be taken before more are written: many bytes are queued, or a row was lost
 abbrev pub is_full : LinesView → Bool
 is_full v = nat_le many (length v.text) || nat_lt 0 v.lost
 

@@ -14,7 +14,7 @@ abbrev pub used : List Glyph → ℕ
 used [] = 0
 used (x ∷ xs) = if ((used xs == 0) && same x blank) then 0 else used xs + 1
 
--- a cell where a style is set; a right half prints nothing of its own
+-- the functions of a cell after a style; a right half has none
 abbrev pub cell_words : Style → Glyph → List Function
 cell_words g x = if is_right_half x then [] else styling x.style g ++ map Print x.points
 
@@ -22,7 +22,7 @@ cell_words g x = if is_right_half x then [] else styling x.style g ++ map Print 
 abbrev pub style_behind : Style → Glyph → Style
 style_behind g x = if is_right_half x then g else x.style
 
--- one cell after another where a style is set, and then the default style
+-- the functions of one cell after another, and then the default style
 abbrev pub row_words : Style → List Glyph → List Function
 row_words g [] = styling default_style g
 row_words g (x ∷ xs) = cell_words g x ++ row_words (style_behind g x) xs
@@ -31,11 +31,10 @@ row_words g (x ∷ xs) = cell_words g x ++ row_words (style_behind g x) xs
 abbrev pub text_of : List Glyph → List ℕ
 text_of cells = flat_map spelling_of (row_words default_style cells)
 
--- the text of a row: of one that goes on in the next that of all its columns, since blanks at its end are part of what goes on; else of
--- those in use
+-- the text of a row: all its columns if it goes on in the next, since blanks at its end belong to it; else the columns in use
 unfoldable pub row_text : Bool → List Glyph → List ℕ
 row_text on row = if on then text_of row else text_of (take (used row) row)
 
--- the line of a row: + where autowrap went on from it, else a space, and then its text
+-- the line of a row: + if autowrap went on from it, else a space, and then its text
 abbrev pub line_text : Bool → List Glyph → List ℕ
 line_text on row = (if on then 0x2B else 0x20) ∷ (row_text on row ++ 0x0A ∷ [])

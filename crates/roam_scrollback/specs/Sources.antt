@@ -1,5 +1,5 @@
--- A terminal as the source of the rows that leave it: each row that leaves the top of the main screen, once and in order, with whether
--- autowrap went on from it. None leaves the other screen (this project's profile).
+-- A terminal as the source of the rows that leave it: each row that leaves the top of the main screen, once and in order, with its flag of
+-- autowrap. None leaves the other screen (this project's profile).
 use Rattle.std.specs.Prelude.{◌≡◌, ℕ, ◌==◌, ◌&&◌, Bool, true, false, is_none, List, [], ◌∷◌, ◌++◌, length, replicate, Option, Some, None, if◌then◌else◌}
 use Rattle.std.specs.List.{list_any}
 use Rattle.roam_cells.specs.Glyph.{Glyph}
@@ -22,12 +22,12 @@ use Rattle.roam_text.specs.Stands.{Stands as Reads, View}
 use Rattle.roam_text.specs.declared.functions.Function.{Function}
 use Rattle.roam_text.specs.declared.functions.Function.TheVariants.{Csi, Size}
 
--- what lives of the terminal, and from which rows of the main screen autowrap went on
+-- the live state of the terminal, and the flags of autowrap of the main screen's rows
 pub record SurfaceView : Type 0 where
   pub live : Live
   pub wraps : List Bool
 
--- what contracts see: the reader, what lives of the terminal, and from which rows of the main screen autowrap went on
+-- the view of a source: the reader, the live state of the terminal, and the flags of autowrap of the main screen's rows
 pub record SourceView : Type 0 where
   pub reader : View
   pub live : Live
@@ -110,14 +110,14 @@ IsCleared false fs = list_any clears fs ≡ false
 unfoldable pub left_through : ℕ → ℕ → List Item → List LeftRow
 left_through rows cols log = rows_through (started_live rows cols) (functions_of log) no_wraps
 
--- a source stands for a size and a log
+-- a source models a size and a log
 pub record IsSource (t : SourceView) (rows cols : ℕ) (log : List Item) : Type 0 where
   pub reads : Reads t.reader log
   pub live : t.live ≡ live_after (started_live rows cols) (functions_of log)
   pub wraps : t.wraps ≡ wraps_through (started_live rows cols) (functions_of log) no_wraps
 
--- what came between one log and a later one: its functions, what they make of a source, the rows that they make leave, which are written,
--- and whether the last of them erases what left
+-- The items between one log and a later one: their functions, the effect on a source, and the rows that leave, which are written. The
+-- result is true if the last function erases the rows that left.
 pub record Gives (old new : SourceView) (lines lines' : LinesView) (is_cleared : Bool) (log later : List Item) : Type 0 where
   pub more : List Function
   pub functions : functions_of later ≡ functions_of log ++ more
@@ -131,8 +131,7 @@ pub record Sheds (old new : SourceView) (lines lines' : LinesView) (is_cleared :
   pub reads : (log : List Item) → Reads old.reader log → Reads new.reader (log ++ items)
   pub gives : (log : List Item) → Reads old.reader log → Gives old new lines lines' is_cleared log (log ++ items)
 
--- a source that stood for one log stands for a later one; what left by the later one is what left by the first, and then rows that were
--- written
+-- A source of one log is a source of a later one. The rows that left by the later log are those of the first, and then the written ones.
 pub record Continues (new : SourceView) (lines lines' : LinesView) (rows cols : ℕ) (log later : List Item) : Type 0 where
   pub source : IsSource new rows cols later
   pub more : List LeftRow

@@ -1,6 +1,6 @@
--- From which rows of the main screen autowrap went on in the next row: a flag for each of 200 rows, from 0. A flag goes where its row goes;
--- it is on from the moment a character goes on in the next row, and off once a line ends in the row, its end is erased, or a new row comes
--- in there (this project's profile).
+-- The flags of autowrap of the main screen's rows: one for each of 200 rows, from 0. A flag moves with its row. It is on from the moment at
+-- which a character goes to the next row. It is off once a line ends in the row, its end is erased, or a new row comes in (this project's
+-- profile).
 use Rattle.std.specs.Prelude.{ℕ, ◌+◌, ◌-◌, ◌==◌, ◌&&◌, Bool, true, false, List, ◌++◌, take, drop, set, min, length, replicate, slice_index_or, if◌then◌else◌}
 use Rattle.roam_cells.specs.Glyph.{Glyph}
 use Rattle.roam_cells.specs.Limits.{most_rows}
@@ -66,7 +66,7 @@ first_kept n wraps = take n wraps ++ replicate (length wraps - n) false
 unfoldable pub first_ended : ℕ → List Bool → List Bool
 first_ended n wraps = replicate (min n (length wraps)) false ++ drop n wraps
 
--- ---- what the cursor does
+-- ---- motions of the cursor
 
 -- down: on the bottom margin the rows between the margins go up (IND, ECMA-48)
 abbrev pub wraps_indexed : Screen → List Bool → List Bool
@@ -111,7 +111,7 @@ wraps_by_edit (ScrollDown n) s wraps = moved_down s.top s.bottom n wraps
 wraps_by_edit Align s wraps = no_wraps
 wraps_by_edit edit s wraps = wraps
 
--- rows that are erased whole, and the cursor's where its end is
+-- rows that are erased whole, and the cursor's row if its end is
 abbrev pub wraps_by_page : Extent → Screen → List Bool → List Bool
 wraps_by_page ToEnd s wraps = first_kept s.row wraps
 wraps_by_page ToStart s wraps = first_ended s.row wraps
@@ -130,7 +130,7 @@ wraps_by_erasure erasure s wraps = wraps
 abbrev pub wraps_on_main : Bool → List Bool → List Bool → List Bool
 wraps_on_main alternate later wraps = if alternate then wraps else later
 
--- what one command makes of the flags, but for REP
+-- the effect of one command on the flags, except for REP
 abbrev pub wraps_by : Command → Live → List Bool → List Bool
 wraps_by (Prints c) s wraps = wraps_on_main s.alternate (wraps_by_character (mapped_by (in_use s.sets) c) s wraps) wraps
 wraps_by (Moves motion) s wraps = wraps_on_main s.alternate (wraps_by_motion motion s.screen wraps) wraps
@@ -139,7 +139,7 @@ wraps_by (Edits edit) s wraps = wraps_on_main s.alternate (wraps_by_edit edit s.
 wraps_by (Sets Reset) s wraps = no_wraps
 wraps_by command s wraps = wraps
 
--- another size: rows leave the main screen where it is shown, those below the last are cut, and in other columns none goes on
+-- another size: rows leave the main screen if it is shown, those below the last are cut, and in other columns none goes on
 abbrev pub wraps_sized : ℕ → ℕ → Live → List Bool → List Bool
 wraps_sized rows cols s wraps =
     if (cols == s.screen.cols) then first_kept rows (wraps_on_main s.alternate (part_up (leaving rows s.screen) wraps) wraps) else no_wraps

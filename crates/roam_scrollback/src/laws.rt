@@ -2,7 +2,7 @@
 ghost use Rattle.roam_scrollback.specs.Leading.{RowTextLeads};
 ghost use Rattle.roam_scrollback.specs.Sources.{RowsAreThoseThatLeft};
 
-/// What a source writes as it reads is the next part of every row that left.
+/// The lines that a source writes as it reads are the next part of all rows that left.
 pub fn rows_are_those_that_left()
     ensures rows { RowsAreThoseThatLeft }
 {}

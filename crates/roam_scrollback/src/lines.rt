@@ -9,7 +9,7 @@ use roam_cells::Cell;
 use std::alloc::{AllocError, Global};
 use std::marker::Model;
 
-/// So many bytes wait at least where no more rows are to come, until they are taken.
+/// The number of queued bytes from which no more rows are written until they are taken.
 pub const MANY: usize = 65536;
 
 /// The lines of rows that left: their bytes, how many they are, and how many more rows there was no memory for.
@@ -46,7 +46,7 @@ impl LeftLines {
         }
     }
 
-    /// What is true of all lines: how many lost rows are counted.
+    /// Proves the facts about all lines: how many lost rows are counted.
     pub fn facts(&self)
         ensures lost { self.now.lost ≤ most_lost }
     {
@@ -74,7 +74,7 @@ impl LeftLines {
         self.lost
     }
 
-    /// Whether the lines are to be taken before more come: 65,536 bytes of them wait, or a row was lost.
+    /// Returns true if the lines are to be taken before more are written: 65,536 bytes are queued, or a row was lost.
     pub fn is_full(&self) -> bool
         ensures full { result ≡ is_full self.now }
     {
@@ -105,8 +105,8 @@ impl LeftLines {
         Ok(())
     }
 
-    /// A row left, which may be lent without some of the blanks at its end where it doesn't go on. Where there is no memory for its line it
-    /// is lost, and so is each that comes after it, until the lines are taken.
+    /// Writes the line of a row that left. The row may be lent without blanks at its end if it doesn't go on. If memory is refused for its
+    /// line, it and each later one are lost until the lines are taken.
     pub fn push(&mut self, goes_on: bool, front: &[Cell])
         ensures written { (n : ℕ) → (goes_on ≡ true → n ≡ 0)
             → Writes self.old self.new (record { goes_on = goes_on; cells = front.now ++ replicate n blank } ∷ []) }

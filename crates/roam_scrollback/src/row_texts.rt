@@ -47,7 +47,7 @@ fn restyle(text: &mut Vec<u8>, same: bool, style: Style) -> Result<(), AllocErro
     Ok(())
 }
 
-// Sets a style where another one is set.
+// Appends a style if another one is set.
 fn push_style(text: &mut Vec<u8>, set: Style, style: Style) -> Result<(), AllocError>
     ensures text { OnOk result (text.new.items ≡ text.old.items ++ flat_map spelling_of (styling style set)) }
 {
@@ -75,7 +75,7 @@ fn push_text(text: &mut Vec<u8>, cell: &Cell) -> Result<(), AllocError>
     push_points(text, cell)
 }
 
-// The style of a cell where another one may be set.
+// Appends the style of a cell if another one may be set.
 fn wear(text: &mut Vec<u8>, worn: Worn, cell: &Cell) -> Result<Worn, AllocError>
     requires worn { style_numbered worn.number ≡ worn.style }
     ensures text { OnOk result (text.new.items ≡ text.old.items ++ flat_map spelling_of (styling cell.now.style worn.style)) }
@@ -91,7 +91,7 @@ fn wear(text: &mut Vec<u8>, worn: Worn, cell: &Cell) -> Result<Worn, AllocError>
     Ok(Worn { style, number })
 }
 
-// Writes a cell where a style is set; answers the style that is set after it.
+// Appends a cell after a style, and returns the style after it.
 fn push_cell(text: &mut Vec<u8>, worn: Worn, cell: &Cell) -> Result<Worn, AllocError>
     requires worn { style_numbered worn.number ≡ worn.style }
     ensures text { OnOk result (text.new.items ≡ text.old.items ++ flat_map spelling_of (cell_words worn.style cell.now)) }
@@ -121,8 +121,8 @@ fn push_cells(text: &mut Vec<u8>, row: &[Cell]) -> Result<(), AllocError>
     push_style(text, worn.style, Style::default())
 }
 
-/// Writes the line of a row: `+` where autowrap went on from it, else a space, the text that paints it, and LF. Blanks at its end have no
-/// text where it doesn't go on, and it may be lent without them then.
+/// Appends the line of a row: `+` if autowrap went on from it, else a space, the text that paints it, and LF. Blanks at its end have no
+/// text if it doesn't go on, and it may be lent without them then.
 #[tactic(auto, unfolding(crate::specs::RowText::row_text))]
 pub fn push_line(text: &mut Vec<u8>, goes_on: bool, row: &[Cell]) -> Result<(), AllocError>
     ensures text { OnOk result (text.new.items ≡ text.old.items ++ line_text goes_on row.now) }

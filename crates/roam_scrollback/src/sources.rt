@@ -18,7 +18,7 @@ use roam_text::{Dispatch, Dispatched, REPLACEMENT, Reader};
 use std::alloc::Global;
 use std::marker::Model;
 
-// What a dispatched function asks for, with what the reader lends.
+// Returns the command of a dispatched function, with the parameters that the reader lends.
 #[inline]
 fn requested(reader: &Reader, dispatch: Dispatch) -> Command
     ensures command { result ≡ command_of (function_of dispatch reader.now.parameters reader.now.intermediates) }
@@ -37,7 +37,7 @@ fn parameters_of(reader: &Reader, dispatch: Dispatch) -> &[u16]
     }
 }
 
-// Whether a dispatched function erases what left.
+// Returns true if a dispatched function erases the rows that left.
 fn clears(reader: &Reader, dispatch: Dispatch) -> bool
     ensures clears { result ≡ clears (function_of dispatch reader.now.parameters reader.now.intermediates) }
 {
@@ -116,7 +116,7 @@ impl RowSource {
         clears(&self.reader, dispatch)
     }
 
-    // Does what a byte dispatched; answers whether the last of it erases what left.
+    // Does the functions of a byte, and returns true if the last one erases the rows that left.
     fn take_in(&mut self, step: Dispatched, lines: &mut LeftLines) -> bool
         ensures cleared { IsCleared result (functions_by step self.old.reader.parameters self.old.reader.intermediates) }
         ensures live { self.new.live
@@ -146,7 +146,7 @@ impl RowSource {
         self.take_in(step, lines)
     }
 
-    // Prints the printable ASCII at the front of a piece that fits the cursor's row, and tells how many bytes that were.
+    // Prints the printable ASCII at the front of a piece that fits the cursor's row, and returns its length in bytes.
     #[inline]
     fn feed_plain(&mut self, piece: &[u8], lines: &LeftLines) -> usize
         ensures within { result ≤ length piece.now }
@@ -162,7 +162,7 @@ impl RowSource {
         count
     }
 
-    // Prints the graphic character from U+00A0 up at the front of a piece, and tells how many bytes it took.
+    // Prints the graphic character from U+00A0 up at the front of a piece, and returns its length in bytes.
     #[inline]
     fn feed_character(&mut self, piece: &[u8], lines: &mut LeftLines) -> usize
         ensures within { result ≤ length piece.now }
@@ -264,8 +264,8 @@ impl RowSource {
         self.feed_ascii(piece, lines)
     }
 
-    /// Reads the front of a piece of any bytes, cut anywhere, and writes the lines of the rows that leave; it stops before its end where a
-    /// function erases what left, and where the lines are full.
+    /// Reads the front of a piece of any bytes, cut anywhere, and writes the lines of the rows that leave. It stops early if a function
+    /// erases the rows that left, or the lines are full.
     pub fn feed(&mut self, piece: &[u8], lines: &mut LeftLines) -> Fed
         ensures within { result.count ≤ length piece.now }
         ensures sheds { Sheds self.old self.new lines.old lines.new result.cleared (map Byte (take result.count piece.now)) }

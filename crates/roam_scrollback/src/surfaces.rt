@@ -115,7 +115,7 @@ fn edit_by(grid: &Grid, edit: Edit, wraps: &mut Wraps, lines: &mut LeftLines)
 pub struct Surface {
     canvas: Canvas,
     wraps: Wraps,
-    // What the canvas asks for: it keeps no row.
+    // The history for the canvas: it keeps no row.
     none: History,
 }
 
@@ -212,7 +212,7 @@ impl Surface {
         }
     }
 
-    // What a command will make leave, but for REP.
+    // Writes the rows that leave by a command, except for REP.
     fn leave(&mut self, command: Command, lines: &mut LeftLines)
         requires once { (n : ℕ) → command ≢ Command.Repeats n }
         ensures live { self.new.live ≡ self.old.live }
@@ -276,7 +276,7 @@ impl Surface {
             .perform(Command::Repeats(n), &[], &mut self.none);
     }
 
-    /// Does what a command asks for, whose parameters are lent; the rows that leave are written.
+    /// Does a command with its lent parameters, and writes the rows that leave.
     pub fn perform(&mut self, command: Command, params: &[u16], lines: &mut LeftLines)
         ensures live { self.new.live ≡ commanded_by command params.now self.old.live }
         ensures wraps { self.new.wraps ≡ wraps_commanded command self.old.live self.old.wraps }
@@ -366,7 +366,7 @@ impl Surface {
         Ok(())
     }
 
-    // What another size will make leave.
+    // Writes the rows that leave by another size.
     fn leave_by_size(&mut self, rows: usize, cols: usize, lines: &mut LeftLines)
         requires size { (0 < rows) × (rows ≤ most_rows) }
         ensures live { self.new.live ≡ self.old.live }

@@ -56,7 +56,7 @@ impl Wraps {
         }
     }
 
-    /// Whether autowrap went on from a row, from 0.
+    /// Returns true if autowrap went on from a row, from 0.
     pub fn goes_on(&self, row: usize) -> bool
         requires row_in { row < most_rows }
         ensures on { result ≡ goes_on self.now row }
@@ -242,7 +242,7 @@ impl Wraps {
     }
 }
 
-// Whether a cell of so many columns goes to the next row before it is written.
+// Returns true if a cell of so many columns goes to the next row before it is written.
 fn is_wrapped(columns: usize, writing: Writing, grid: &Grid) -> bool
     ensures wrapped { result ≡ is_wrapped columns writing grid.now.screen }
 {

@@ -17,7 +17,7 @@ use Rattle.roam_scrollback_stream.specs.declared.requests.Request.TheVariants.{P
 word : (n : ℕ) → n < 2 ^ 64 → IsWord (decimal n)
 word n small = digits_are_word 10 (decimal n) (lit≤ tt) (decimal_is_IsNumeral n (omega (arith, small))).0.1
 
--- ---- what has the text is read
+-- ---- the text of a request is read
 
 pub terminal_again : (n : ℕ) → n < most_terminals → terminal_in (decimal n) ≡ Some n
 terminal_again n small = number_again 1023 n (omega (arith, small)) (omega (arith, small))
@@ -44,7 +44,7 @@ counted_again n count p q =
     ap counted_at (word_again (decimal n) (decimal count) (word n (omega (arith, p))))
     ∙ (λ i. pair_of (terminal_again n p i) (count_again count q i))
 
--- ---- what is read has the text
+-- ---- a request that is read has the text
 
 two_found : (a b : Option ℕ) (pair : ℕ × ℕ) → pair_of a b ≡ Some pair → (a ≡ Some pair.0) × (b ≡ Some pair.1)
 two_found None b pair e = absurd cc
@@ -188,7 +188,7 @@ no_some x e = cc
 pub same_some : {X : Type 0} (a b : X) → Some a ≡ Some b → a ≡ b
 same_some a b e = cc
 
--- what is left behind a head
+-- the rest behind a head
 pub behind_head : (line head all : List ℕ) (rest : Bor (List ℕ)) → head ≡ all
     → (pointwise eqb (take (length head) line) head ≡ true) × (rest.now ≡ drop (length head) line) × (length rest.now
     + length head ≡ length line) → line ≡ all ++ rest.now

@@ -1,4 +1,4 @@
--- Step by step, a reader stands for what it read and wrote.
+-- A reader models the bytes that it read and wrote, step by step.
 use Rattle.std.proofs.Math.Seq.{take-add, take-suc}
 use Rattle.roam_scrollback_stream.specs.Runs.IsBad.{long}
 use Rattle.std.proofs.Common.{length-append, length-take, length-drop, take_all, take-append-drop, drop, ◌≡◌, ◌≢◌, ◌<◌, ◌≤◌, ◌+◌, ◌-◌, ◌^◌, ℕ, suc, min, Bool, true, List, [], ◌∷◌, ◌++◌, map, length, take, Option, Some, None, is_some, refl, sym, ap, subst, ◌∙◌, append_assoc, append-nil, slice_set, slice_index_or, inl, inr, replicate, Result, Ok, Err, IfOk, OnOk}
@@ -19,7 +19,7 @@ use Rattle.roam_scrollback_stream.specs.declared.requests.Request.TheVariants.{P
 use Rattle.roam_cells.specs.declared.faults.Fault.{Fault}
 use Rattle.roam_text.specs.Log.{Byte, Item}
 
--- ---- what is written behind what was written before
+-- ---- output behind earlier output
 
 pub tells-behind : (w : List ℕ) (old new : SourceView) (n : ℕ) (out out' : List ℕ) (items : List Item) → TellsAll old new n out out' items
     → TellsAll old new n (w ++ out) (w ++ out') items
@@ -214,7 +214,7 @@ kept old byte out read reaches room other none = record {
   output_is = reaches.output_is;
 }
 
--- what came is no record
+-- the bytes are no record
 pub refused : (old : ReadingView) (byte n : ℕ) (out read : List ℕ) → Reaches old read out → old.input.coming ≡ 0
     → n ≡ min (suc old.input.lines) (2 ^ 64 - 1) → IsBad old.terminals (old.input.line ++ byte ∷ [])
     → RanTo n old.normalize (read ++ byte ∷ []) out
@@ -250,7 +250,7 @@ refused-more n normalize read more out ran = record {
   output = ran.output;
 }
 
--- what a reader stands for is a run
+-- a reader models a run
 pub ran : (reading : ReadingView) (read out : List ℕ) → Reaches reading read out → Ran reading.normalize read out
 ran reading read out reaches = record {
   steps = reaches.steps;
@@ -382,7 +382,7 @@ fed old pane new piece w out out' read reaches some within there is =
       output_is = refl;
     }
 
--- ---- what the code reads
+-- ---- reading by the code
 
 -- a line that is no record's, or a record's out of place
 pub refused-line : (t : TerminalsView) (i : InputView) (n lines : ℕ) (out read : List ℕ) → Reaches (reading_of t i) read out → i.coming ≡ 0
@@ -449,7 +449,7 @@ read-byte at byte piece read within here =
     append_assoc read (take at piece) (byte ∷ [])
     ∙ ap (λ (l : List ℕ). read ++ l) (ap (λ (b : ℕ). take at piece ++ b ∷ []) here ∙ sym (take-more at piece 0 within))
 
--- what is left of a piece
+-- the rest of a piece
 pub all-after : (i : ℕ) (xs : List ℕ) → take (length xs - i) (drop i xs) ≡ drop i xs
 all-after i xs = take_all (length xs - i) (drop i xs) (omega (arith, length-drop i xs))
 
@@ -457,7 +457,7 @@ all-after i xs = take_all (length xs - i) (drop i xs) (omega (arith, length-drop
 pub left-long : (at : ℕ) (piece : List ℕ) → length (take (length piece - at) (drop at piece)) ≡ length piece - at
 left-long at piece = ap (length {A = ℕ}) (all-after at piece) ∙ length-drop at piece
 
--- what is refused within a piece is refused with all of it
+-- a part refused within a piece is refused with the whole piece
 pub refused-within : (n at byte : ℕ) (normalize : Bool) (piece read out : List ℕ) → at < length piece → byte ≡ slice_index_or piece at 0
     → RanTo n normalize ((read ++ take at piece) ++ byte ∷ []) out → RanTo n normalize (read ++ piece) out
 refused-within n at byte normalize piece read out within here ran =

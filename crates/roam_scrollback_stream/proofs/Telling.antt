@@ -1,4 +1,4 @@
--- Rows that are told, part after part.
+-- The reported rows, part by part.
 use Rattle.std.proofs.Common.{◌≡◌, ℕ, Bool, List, [], ◌∷◌, ◌++◌, map, refl, sym, ap, subst, ◌∙◌, append_assoc}
 use Rattle.std.specs.List.{flat_map}
 use Rattle.std.proofs.lemmas.List.{append-nil, map-append}
@@ -10,7 +10,7 @@ use Rattle.roam_scrollback_stream.specs.Panes.{ArePartsOf, TellsAll}
 use Rattle.roam_scrollback_stream.specs.Records.{Part, part_text, rows_of, rows_text, lost_text, cleared_text}
 use Rattle.roam_text.specs.Log.{Item, Byte}
 
--- parts of what came to one log, and of what came from there
+-- the parts up to one log, and the parts from there
 pub parts-then : (rows cols : ℕ) (log mid later : List Item) (ps qs : List Part) → ArePartsOf rows cols log mid ps
     → ArePartsOf rows cols mid later qs → ArePartsOf rows cols log later (ps ++ qs)
 parts-then rows cols log mid later [] qs p q = subst (λ l. ArePartsOf rows cols l later qs) p q
@@ -26,7 +26,7 @@ tells-none s n out = λ rows cols log is. record {
   parts = append-nil log;
 }
 
--- what a source wrote was told
+-- the lines of a source are reported
 pub tells-one : (old new : SourceView) (v w : LinesView) (cleared : Bool) (items : List Item) (n : ℕ) (out out' : List ℕ) → v ≡ no_lines
     → Sheds old new v w cleared items → out' ≡ out ++ (rows_text n w ++ (lost_text n w ++ cleared_text n cleared))
     → TellsAll old new n out out' items

@@ -1,4 +1,4 @@
--- How the code reads a request, step by step. No public clause speaks of it: what reading means is said by the text of Requests.
+-- The steps by which the code reads a request. No public clause cites them: the texts of Requests define reading.
 use Rattle.std.specs.Prelude.{ℕ, List, Option, Some, None}
 use Rattle.roam_tokens.specs.Numbers.{number_in}
 use Rattle.roam_tokens.specs.Words.{first_word}

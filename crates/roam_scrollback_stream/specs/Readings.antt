@@ -1,4 +1,4 @@
--- How far `roam rows` has read, as the code holds it. No public clause cites it: what reading means is said by Runs.
+-- The state of `roam rows` while it reads, in the code. No public clause cites it: Runs define reading.
 use Rattle.std.specs.Prelude.{◌≡◌, ◌≢◌, ℕ, ◌-◌, ◌^◌, ◌<◌, min, Bool, true, false, List, [], ◌++◌, is_some, Option}
 use Rattle.roam_scrollback_stream.specs.Panes.{PaneView}
 use Rattle.roam_scrollback_stream.specs.Runs.{Answers, IsLineStart, IsMisplaced, RunView, Runs, terminal_at}
@@ -11,7 +11,7 @@ pub record InputView : Type 0 where
   pub coming : ℕ
   pub number : ℕ
 
--- the terminals, each at its number, and whether a filter stands before each
+-- the terminals, each at its number, and true if each has a filter
 pub record TerminalsView : Type 0 where
   pub normalize : Bool
   pub all_of : List (Option PaneView)
@@ -30,7 +30,7 @@ abbrev pub DoesOrNot : Bool → Bool → Request → Option PaneView → Option 
 DoesOrNot true normalize request old new out out' = Answers normalize request old new out out'
 DoesOrNot false normalize request old new out out' = IsMisplaced request old × (new ≡ old) × (out' ≡ out)
 
--- a reader stands for the input that it read and the output that it wrote
+-- a reader models the bytes that it read and wrote
 pub record Reaches (reading : ReadingView) (read output : List ℕ) : Type 0 where
   pub steps : ℕ
   pub run : RunView

@@ -1,10 +1,10 @@
--- What is told of rows: records, each a line and for some so many bytes behind it.
+-- The records about rows: a line each, some with bytes behind it.
 use Rattle.std.specs.Prelude.{◌≡◌, ℕ, ◌==◌, Bool, List, [], ◌++◌, length, codes, decimal, if◌then◌else◌}
 use Rattle.std.specs.List.{flat_map}
 use Rattle.roam_scrollback.specs.Lines.{LeftRow, LinesView, Writes, no_lines}
 use Rattle.roam_text.specs.Log.{Item}
 
--- so many lines of a terminal, and their bytes; none are told of by nothing
+-- the record of a terminal's lines: their number and bytes; empty for none
 abbrev pub rows_text : ℕ → LinesView → List ℕ
 rows_text n lines =
     if (lines.count == 0) then []
@@ -14,7 +14,7 @@ rows_text n lines =
 abbrev pub lost_text : ℕ → LinesView → List ℕ
 lost_text n lines = if (lines.lost == 0) then [] else codes "lost " ++ decimal n ++ codes " " ++ decimal lines.lost ++ codes "\n"
 
--- what left before is erased
+-- the record that the earlier rows are erased
 abbrev pub cleared_text : ℕ → Bool → List ℕ
 cleared_text n cleared = if cleared then codes "cleared " ++ decimal n ++ codes "\n" else []
 
@@ -23,7 +23,7 @@ abbrev pub screen_text : ℕ → LinesView → List ℕ
 screen_text n lines =
     codes "screen " ++ decimal n ++ codes " " ++ decimal lines.count ++ codes " " ++ decimal (length lines.text) ++ codes "\n" ++ lines.text
 
--- what came of a terminal, the rows that left by it, their lines, and whether what left until then is erased
+-- a terminal's items, the rows that left by them, their lines, and true if the earlier rows are erased
 pub record Part : Type 0 where
   pub items : List Item
   pub rows : List LeftRow
@@ -37,7 +37,7 @@ part_text n part = rows_text n part.lines ++ (lost_text n part.lines ++ cleared_
 abbrev pub rows_of : Part → List LeftRow
 rows_of part = part.rows
 
--- rows of a terminal were told, in parts
+-- the rows of a terminal were reported, in parts
 pub record Tells (n : ℕ) (old new : List ℕ) (rows : List LeftRow) : Type 0 where
   pub parts : List Part
   pub text : new ≡ old ++ flat_map (part_text n) parts

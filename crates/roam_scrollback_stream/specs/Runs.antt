@@ -53,7 +53,7 @@ pub record IsFed (bytes : List ℕ) (old new : PaneView) (out out' : List ℕ) :
   pub held : new.held ≡ held_for old.held bytes
   pub number : new.number ≡ old.number
 
--- what a request makes of the place of its terminal, and what is written for it; bytes that follow it are fed afterwards
+-- the effect of a request on its terminal's place, and the output for it; its bytes are fed afterwards
 abbrev pub Answers : Bool → Request → Option PaneView → Option PaneView → List ℕ → List ℕ → Type 0
 Answers normalize (Pane n rows cols) old new out out' =
     (pane : PaneView) × (new ≡ Some pane) × IsNewPane normalize n rows cols pane × (out' ≡ out)
@@ -71,8 +71,7 @@ IsMisplaced request old = old ≡ None
 
 -- ---- a whole run
 
--- what a run has read and written, its terminals, how many records came, and how many bytes of the last one are still to come, for which
--- terminal
+-- the input and output of a run, its terminals, the number of records, and the number of missing bytes of the last one, with its terminal
 pub record RunView : Type 0 where
   pub terminals : List (Option PaneView)
   pub records : ℕ
@@ -123,8 +122,7 @@ pub record IsLineStart (line : List ℕ) : Type 0 where
   pub unended : All (λ byte. byte ≢ 0x0A) line
   pub short : length line ≤ longest_line
 
--- Each record of the input is answered, in order, and nothing else is written; behind the last one the input may have the beginning of a
--- line.
+-- Each record of the input is answered, in order, and nothing else is written. The input may end with the beginning of a line.
 pub record Ran (normalize : Bool) (read written : List ℕ) : Type 0 where
   pub steps : ℕ
   pub run : RunView
@@ -135,7 +133,7 @@ pub record Ran (normalize : Bool) (read written : List ℕ) : Type 0 where
   pub input : read ≡ run.input ++ line
   pub output : written ≡ run.output
 
--- what stands behind the last record is none: it is too long, it has no request's text, or its request is out of place
+-- the text behind the last record is bad: it is too long, it is no request, or its request is out of place
 pub data IsBad (terminals : List (Option PaneView)) (line : List ℕ) : Type 0 where
   long : (start : List ℕ) (byte : ℕ) → IsLineStart start → length start ≡ longest_line → byte ≢ 0x0A → line ≡ start ++ byte ∷ []
       → IsBad terminals line
@@ -144,7 +142,7 @@ pub data IsBad (terminals : List (Option PaneView)) (line : List ℕ) : Type 0 w
   misplaced : (request : Request) → IsRequest request → IsMisplaced request (terminal_at terminals (terminal_of request))
       → line ≡ request_text request ++ 0x0A ∷ [] → IsBad terminals line
 
--- Each record before the line with this number, from 1, is answered, and nothing else is written; that line is no record, or out of place.
+-- Each record before the line with this number, from 1, is answered, and nothing else is written. That line is no record, or out of place.
 pub record RanTo (n : ℕ) (normalize : Bool) (read written : List ℕ) : Type 0 where
   pub steps : ℕ
   pub run : RunView

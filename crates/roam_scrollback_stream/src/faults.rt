@@ -6,7 +6,7 @@ use roam_cells::Fault;
 use std::process::ExitCode;
 use thiserror::Error;
 
-/// Why a run of `roam rows` failed; its text stands after `roam: ` on standard error.
+/// The error of a run of `roam rows`; standard error has its text behind `roam: `.
 #[derive(Clone, Copy, Debug, PartialEq, Eq, Error)]
 pub enum RowsFault {
     /// A terminal refused, or there is no memory.

@@ -1,4 +1,4 @@
-//! What `roam rows` prints: every row that leaves each of many terminals, as records.
+//! The output of `roam rows`: every row that leaves each of many terminals, as records.
 #![tactic(auto)]
 
 mod faults;

@@ -1,4 +1,4 @@
-//! A terminal whose rows are told.
+//! A terminal whose rows are reported.
 ghost use Rattle.std.specs.Prelude.{◌≡◌, ◌⊎◌, ◌↔◌, ◌<◌, ◌≤◌, ◌∷◌, ◌++◌, [], length, map, take, IfOk, IfErr, OnOk, OnErr, IsErrOf, Some, None, if◌then◌else◌};
 ghost use Rattle.roam_cells.specs.Limits.{IsSize};
 ghost use Rattle.roam_scrollback.specs.Lines.{no_lines};
@@ -14,7 +14,7 @@ use roam_scrollback::{LeftLines, RowSource};
 use std::alloc::{AllocError, Global};
 use std::marker::Model;
 
-/// What is told, and where lines of rows are made for it.
+/// The output, and the lines that are made for it.
 #[derive(Drop)]
 pub struct Tellings {
     out: Vec<u8>,
@@ -30,7 +30,7 @@ impl Model for Tellings {
 }
 
 impl Tellings {
-    /// Nothing is told yet.
+    /// Returns an empty output.
     pub fn new(alloc: Global) -> Self
         ensures none { result ≡ record { out = []; lines = no_lines } }
     {
@@ -40,14 +40,14 @@ impl Tellings {
         }
     }
 
-    /// What is told.
+    /// Returns the output.
     pub fn out(&self) -> &[u8]
         ensures out { result.now ≡ self.now.out }
     {
         &self.out
     }
 
-    /// What was told is written somewhere.
+    /// Clears the output once it was written.
     pub fn clear(&mut self)
         ensures none { self.new.out ≡ [] }
         ensures lines { self.new.lines ≡ self.old.lines }
@@ -55,7 +55,7 @@ impl Tellings {
         self.out.clear();
     }
 
-    // The lines that were made for a terminal are told.
+    // Appends the lines that were made for a terminal.
     fn push_part(&mut self, number: u16, cleared: bool) -> Result<(), AllocError>
         ensures out { OnOk result (self.new.out ≡ self.old.out
             ++ (rows_text number self.old.lines ++ (lost_text number self.old.lines ++ cleared_text number cleared))) }
@@ -69,8 +69,7 @@ impl Tellings {
     }
 }
 
-// Feeds a terminal with as much of the front of a piece as goes at once, tells of the rows that leave, and answers how many bytes that
-// were.
+// Feeds a terminal with the front of a piece, as much as fits at once, reports the rows that leave, and returns how many bytes it took.
 fn feed_some(
     number: u16,
     source: &mut RowSource,
@@ -89,7 +88,7 @@ fn feed_some(
     Ok(fed.count)
 }
 
-// Feeds a terminal with a piece, and tells of the rows that leave.
+// Feeds a terminal with a piece, and reports the rows that leave.
 fn feed_all(
     number: u16,
     source: &mut RowSource,
@@ -107,7 +106,7 @@ fn feed_all(
     Ok(())
 }
 
-/// A terminal, its number, and the filter before it, where there is one.
+/// A terminal, its number, and the filter before it, if there is one.
 #[derive(Drop)]
 pub struct Pane {
     number: u16,
@@ -151,8 +150,7 @@ impl Pane {
         })
     }
 
-    /// Its program wrote a piece: the rows that leave by what that means, or by the piece itself where there is no filter, are told;
-    /// `OutOfMemory`.
+    /// Feeds the terminal with a piece of its program, through its filter if it has one, and reports the rows that leave. `OutOfMemory`.
     pub fn feed(&mut self, piece: &[u8], tellings: &mut Tellings) -> Result<(), Fault>
         requires none { tellings.old.lines ≡ no_lines }
         ensures told { OnOk result (TellsAll self.old.source self.new.source self.old.number tellings.old.out tellings.new.out
@@ -172,7 +170,7 @@ impl Pane {
         Ok(())
     }
 
-    /// It gets another size, and the rows that leave by it are told; `BadSize` outside the limits, and want of memory.
+    /// Gives the terminal another size, and reports the rows that leave by it. `BadSize` outside the limits, `OutOfMemory`.
     pub fn size(
         &mut self,
         alloc: Global,
@@ -194,7 +192,7 @@ impl Pane {
         Ok(())
     }
 
-    /// The rows of the screen that it shows are told; `OutOfMemory`.
+    /// Reports the rows of the terminal's screen. `OutOfMemory`.
     pub fn show(&self, tellings: &mut Tellings) -> Result<(), Fault>
         requires none { tellings.old.lines ≡ no_lines }
         ensures told { OnOk result (ShowsAll self.now.source self.now.number tellings.old.out tellings.new.out) }

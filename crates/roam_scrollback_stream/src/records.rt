@@ -1,4 +1,4 @@
-//! The records that tell of rows.
+//! The records about rows.
 ghost use Rattle.std.specs.Prelude.{◌≡◌, ◌++◌, ◌==◌, [], codes, decimal, length, OnOk, if◌then◌else◌};
 ghost use Rattle.roam_scrollback_stream.specs.Records.{rows_text, lost_text, cleared_text, screen_text};
 
@@ -52,7 +52,7 @@ pub fn push_lost(out: &mut Vec<u8>, number: u16, lines: &LeftLines) -> Result<()
     out.extend_from_slice(b"\n")
 }
 
-/// What left until then is erased, or isn't.
+/// Appends the record that the earlier rows are erased, if they are.
 pub fn push_cleared(out: &mut Vec<u8>, number: u16, cleared: bool) -> Result<(), AllocError>
     ensures text { OnOk result (out.new.items ≡ out.old.items ++ cleared_text number cleared) }
 {

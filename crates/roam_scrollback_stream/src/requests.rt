@@ -10,7 +10,7 @@ use roam_tokens::{first_word, number};
 /// How many terminals there may be at once.
 pub const MOST_TERMINALS: usize = 1024;
 
-/// What a line asks for, of the terminal with a number below 1,024.
+/// The request of a line, for the terminal with a number below 1,024.
 #[derive(Clone, Copy)]
 pub enum Request {
     /// A new terminal, of so many rows and columns.
@@ -90,7 +90,7 @@ fn counted(text: &[u8]) -> Option<(u16, u64)>
     Some((number_of(first)?, number(count, u64::MAX)?))
 }
 
-// What stands behind `pane `.
+// Reads the text behind `pane `.
 fn behind_pane(text: &[u8]) -> Option<Request>
     ensures found { IfSome result (λ request. IsRequest request × (codes "pane " ++ text.now ≡ request_text request)) }
     ensures only { (request : RequestOf) → IsRequest request → codes "pane " ++ text.now ≡ request_text request → result ≡ Some request }
@@ -99,7 +99,7 @@ fn behind_pane(text: &[u8]) -> Option<Request>
     Some(Request::Pane(number, rows, cols))
 }
 
-// What stands behind `size `.
+// Reads the text behind `size `.
 fn behind_size(text: &[u8]) -> Option<Request>
     ensures found { IfSome result (λ request. IsRequest request × (codes "size " ++ text.now ≡ request_text request)) }
     ensures only { (request : RequestOf) → IsRequest request → codes "size " ++ text.now ≡ request_text request → result ≡ Some request }
@@ -108,7 +108,7 @@ fn behind_size(text: &[u8]) -> Option<Request>
     Some(Request::Size(number, rows, cols))
 }
 
-// What stands behind `bytes `.
+// Reads the text behind `bytes `.
 fn behind_bytes(text: &[u8]) -> Option<Request>
     ensures found { IfSome result (λ request. IsRequest request × (codes "bytes " ++ text.now ≡ request_text request)) }
     ensures only { (request : RequestOf) → IsRequest request → codes "bytes " ++ text.now ≡ request_text request → result ≡ Some request }
@@ -117,7 +117,7 @@ fn behind_bytes(text: &[u8]) -> Option<Request>
     Some(Request::Bytes(number, count))
 }
 
-// What stands behind `screen `.
+// Reads the text behind `screen `.
 fn behind_screen(text: &[u8]) -> Option<Request>
     ensures found { IfSome result (λ request. IsRequest request × (codes "screen " ++ text.now ≡ request_text request)) }
     ensures only { (request : RequestOf) → IsRequest request → codes "screen " ++ text.now ≡ request_text request → result ≡ Some request }
@@ -125,7 +125,7 @@ fn behind_screen(text: &[u8]) -> Option<Request>
     Some(Request::Screen(number_of(text)?))
 }
 
-// What stands behind `gone `.
+// Reads the text behind `gone `.
 fn behind_gone(text: &[u8]) -> Option<Request>
     ensures found { IfSome result (λ request. IsRequest request × (codes "gone " ++ text.now ≡ request_text request)) }
     ensures only { (request : RequestOf) → IsRequest request → codes "gone " ++ text.now ≡ request_text request → result ≡ Some request }
@@ -133,11 +133,11 @@ fn behind_gone(text: &[u8]) -> Option<Request>
     Some(Request::Gone(number_of(text)?))
 }
 
-/// The request of a line without its LF; `None` where it is none.
+/// Returns the request of a line without its LF; `None` if there is none.
 pub fn request_of(line: &[u8]) -> Option<Request>
-    // What is read has this text.
+    // The result has this text.
     ensures found { IfSome result (λ request. IsRequest request × (line.now ≡ request_text request)) }
-    // What has this text is read.
+    // A request with this text is the result.
     ensures only { (request : RequestOf) → IsRequest request → line.now ≡ request_text request → result ≡ Some request }
 {
     if let Some(text) = line.strip_prefix(b"pane ".as_slice()) {

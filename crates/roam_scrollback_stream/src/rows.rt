@@ -362,7 +362,7 @@ impl Run {
         Err(RowsFault::Record(self.input.lines().saturating_add(1)))
     }
 
-    // Feeds a terminal with what came of the bytes of a record, and returns how many that were.
+    // Feeds a terminal with the next bytes of a record, and returns how many it took.
     fn take_bytes(&mut self, piece: &[u8], tellings: &mut Tellings) -> Result<usize, RowsFault>
         requires none { tellings.old.lines ≡ no_lines }
         requires some { 0 < length piece.now }
@@ -406,7 +406,7 @@ impl Run {
     }
 }
 
-// Writes what was answered.
+// Writes the output.
 fn write_out<W: Write>(writer: &mut W, tellings: &mut Tellings) -> Result<(), RowsFault>
     ensures lines { tellings.new.lines ≡ tellings.old.lines }
     ensures wrote { OnOk result (Appends (W.contents writer.old) (W.contents writer.new) tellings.old.out) }
@@ -423,7 +423,7 @@ fn write_out<W: Write>(writer: &mut W, tellings: &mut Tellings) -> Result<(), Ro
     Ok(())
 }
 
-// Reads to the end; what came before a fault is written.
+// Reads to the end; the output before an error is written.
 fn read_all<R: Read, W: Write>(
     run: &mut Run,
     tellings: &mut Tellings,
@@ -468,13 +468,13 @@ fn read_all<R: Read, W: Write>(
 /// | `screen N` | writes the rows of the terminal's screen |
 /// | `gone N` | removes the terminal |
 ///
-/// If `normalize` is true, bytes first go through the filter of `roam_normalize`, as in the server. What came by one read is answered
-/// before the next read.
+/// If `normalize` is true, bytes first go through the filter of `roam_normalize`, as in the server. Each read is answered before the next
+/// one.
 ///
 /// # Errors
 ///
 /// `Record` if a line is no record, or its terminal isn't there, or the size is outside the limits; the number is that of the line, from 1.
-/// `Read` and `Write` if the reader or the writer fails. `Core` if memory runs out. In each case what came before is written.
+/// `Read` and `Write` if the reader or the writer fails. `Core` if memory runs out. In each case the output before the error is written.
 pub fn run_rows<R: Read, W: Write>(
     alloc: Global,
     normalize: bool,

@@ -8,7 +8,7 @@ use Rattle.roam_scrollback_stream.proofs.panes.feed_all.Goals as goal
 all-after : (i : ℕ) (xs : List ℕ) → take (length xs - i) (drop i xs) ≡ drop i xs
 all-after i xs = take_all (length xs - i) (drop i xs) (omega (arith, length-drop i xs))
 
--- how long what is left of a piece is
+-- the length of the rest of a piece
 left_long : (at : ℕ) (piece : List ℕ) → length (take (length piece - at) (drop at piece)) ≡ length piece - at
 left_long at piece = ap (length {A = ℕ}) (all-after at piece) ∙ length-drop at piece
 

@@ -6,7 +6,7 @@ use Rattle.roam_scrollback.specs.Sources.{Sheds}
 use Rattle.roam_scrollback.proofs.Shedding.{sheds-then}
 use Rattle.roam_scrollback.proofs.sources.RowSource.feed.Goals as goal
 
--- how long what is left of a piece is
+-- the length of the rest of a piece
 left_long : (at : ℕ) (piece : List ℕ) → length (take (length piece - at) (drop at piece)) ≡ length piece - at
 left_long at piece = ap (length {A = ℕ}) (all-after at piece) ∙ length-drop at piece
 
