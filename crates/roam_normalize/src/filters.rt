@@ -1,5 +1,5 @@
 //! The filter, over pieces.
-ghost use Rattle.std.specs.Prelude.{◌≡◌, ◌≤◌, ◌++◌, [], length, IfOk, OnOk, OnErr};
+ghost use Rattle.std.specs.Prelude.{◌≡◌, ◌≤◌, ◌↔◌, ◌++◌, [], length, IfOk, IsTrue, OnOk, OnErr};
 ghost use Rattle.roam_normalize.specs.Normalized.{Goes, held_part, normalized_part};
 
 use crate::fronts::{Found, find, same_run};
@@ -115,6 +115,13 @@ impl Filter {
         let mut bytes = copy_of(self.alloc, &self.held)?;
         bytes.extend_from_slice(piece)?;
         translate(self.alloc, &bytes)
+    }
+
+    /// Returns true if no bytes are kept back.
+    pub fn is_empty(&self) -> bool
+        ensures empty { IsTrue result ↔ (self.now ≡ []) }
+    {
+        self.held.is_empty()
     }
 
     /// Returns the output for a piece, after the pieces before it. After `AllocError` nothing was read, and the same piece may be given

@@ -1,4 +1,5 @@
 pub mod RowTexts
+pub mod Keeping
 pub mod Writing
 pub mod Tops
 pub mod Repeats
@@ -7,3 +8,5 @@ pub mod Through
 pub mod Shedding
 pub mod Standing
 pub mod Leading
+pub mod Following
+pub mod Bringing

@@ -18,6 +18,8 @@ use Rattle.roam_text.specs.declared.functions.Function.TheVariants.{Print}
 use Rattle.roam_scrollback.specs.Lines.{rows_with}
 use Rattle.roam_scrollback.specs.Sources.{rows_leaving, rows_through, wraps_after, wraps_through}
 use Rattle.roam_scrollback.specs.Wraps.{wraps_put, wraps_next, wraps_by_character, wraps_on_main}
+use Rattle.roam_scrollback.specs.declared.wraps.Wrap.{Wrap}
+use Rattle.roam_scrollback.specs.declared.wraps.Wrap.TheVariants.{Full, Early}
 
 and_none : (a : Bool) → (a && false) ≡ false
 and_none true = refl
@@ -73,24 +75,24 @@ none_by_put g w s narrow none =
     ∙ ap (λ v. cond (eqb s.top 0 && v) (top_rows 1 s) []) (and_none (eqb s.row s.bottom))
     ∙ ap (λ v. cond v (top_rows 1 s) []) (and_none (eqb s.top 0))
 
-same_by_put : (g : Glyph) (w : Writing) (s : Screen) (wraps : List Bool) → is_wide g ≡ false → s.pending ≡ false → wraps_put g w s wraps ≡ wraps
+same_by_put : (g : Glyph) (w : Writing) (s : Screen) (wraps : List Wrap) → is_wide g ≡ false → s.pending ≡ false → wraps_put g w s wraps ≡ wraps
 unfolding wraps_put
 same_by_put g w s wraps narrow none =
-    ap (λ v. cond (cond s.pending true (eqb (cond v 2 1) 2 && eqb (s.col + 1) s.cols && w.wraps)) (wraps_next true s wraps) wraps) narrow
-    ∙ ap (λ v. cond (cond v true false) (wraps_next true s wraps) wraps) none
+    ap (λ v. cond (cond s.pending true (eqb (cond v 2 1) 2 && eqb (s.col + 1) s.cols && w.wraps)) (wraps_next (cond s.pending Full Early) s wraps) wraps) narrow
+    ∙ ap (λ v. cond (cond v true false) (wraps_next (cond s.pending Full Early) s wraps) wraps) none
 
 -- ---- a run
 
 -- no row leaves by a run, and none goes on
-pub record IsQuiet (s : Live) (bs : List ℕ) (wraps : List Bool) : Type 0 where
+pub record IsQuiet (s : Live) (bs : List ℕ) (wraps : List Wrap) : Type 0 where
   pub rows : rows_through s (map Print bs) wraps ≡ []
   pub wraps_stay : wraps_through s (map Print bs) wraps ≡ wraps
 
-nothing_on_main : (alternate : Bool) (rows : List (List Glyph)) (wraps : List Bool) → rows ≡ [] → rows_with (on_main alternate rows) wraps ≡ []
+nothing_on_main : (alternate : Bool) (rows : List (List Glyph)) (wraps : List Wrap) → rows ≡ [] → rows_with (on_main alternate rows) wraps ≡ []
 nothing_on_main true rows wraps e = refl
 nothing_on_main false rows wraps e = ap (λ r. rows_with r wraps) e
 
-same_on_main : (alternate : Bool) (later wraps : List Bool) → later ≡ wraps → wraps_on_main alternate later wraps ≡ wraps
+same_on_main : (alternate : Bool) (later wraps : List Wrap) → later ≡ wraps → wraps_on_main alternate later wraps ≡ wraps
 same_on_main true later wraps e = refl
 same_on_main false later wraps e = e
 
@@ -100,7 +102,7 @@ left-plain b s low high locked single =
     ap (λ c. left_by_character c s) (mapped-ascii s.sets b locked single)
     ∙ ap (λ n. cond (eqb n 0) [] (left_by_put (glyph_in b s.pen) (writing_under s.modes) s.screen)) (ascii_width b low high)
 
-module _ (b : ℕ) (s : Live) (wraps : List Bool) (low : 0x20 ≤ b) (high : b < 0x7F) (locked : set_in s.sets.locked s.sets ≡ Ascii)
+module _ (b : ℕ) (s : Live) (wraps : List Wrap) (low : 0x20 ≤ b) (high : b < 0x7F) (locked : set_in s.sets.locked s.sets ≡ Ascii)
     (single : s.sets.single ≡ None) (none : s.screen.pending ≡ false) where
   narrow : is_wide (glyph_in b s.pen) ≡ false
   narrow = ap (λ n. eqb n 2) (ascii_width b low high)
@@ -119,7 +121,7 @@ module _ (b : ℕ) (s : Live) (wraps : List Bool) (low : 0x20 ≤ b) (high : b <
       ∙ ap (λ n. cond (eqb n 0) wraps (wraps_put (glyph_in b s.pen) (writing_under s.modes) s.screen wraps)) (ascii_width b low high)
       ∙ same_by_put (glyph_in b s.pen) (writing_under s.modes) s.screen wraps narrow none)
 
-pub quiet : (s : Live) (bs : List ℕ) (wraps : List Bool) → ArePlain bs → set_in s.sets.locked s.sets ≡ Ascii → s.sets.single ≡ None
+pub quiet : (s : Live) (bs : List ℕ) (wraps : List Wrap) → ArePlain bs → set_in s.sets.locked s.sets ≡ Ascii → s.sets.single ≡ None
     → s.screen.pending ≡ false → s.screen.col + length bs ≤ s.screen.cols → IsQuiet s bs wraps
 quiet s [] wraps plain locked single none room = record { rows = refl; wraps_stay = refl }
 quiet s (b ∷ []) wraps plain locked single none room = record {

@@ -1,5 +1,5 @@
 -- REP, cell by cell.
-use Rattle.std.proofs.Common.{◌≡◌, ℕ, suc, ◌==◌, Bool, false, cond, List, [], ◌++◌, replicate, Option, Some, None, refl, sym, ap, subst, ◌∙◌, append_assoc}
+use Rattle.std.proofs.Common.{◌≡◌, ℕ, suc, ◌==◌, false, cond, List, [], ◌++◌, replicate, Option, Some, None, refl, sym, ap, subst, ◌∙◌, append_assoc}
 use Rattle.std.specs.Prelude.{IsSomeAnd}
 use Rattle.std.proofs.lemmas.List.{append-nil}
 use Rattle.roam_cells.specs.Glyph.{Glyph}
@@ -14,6 +14,7 @@ use Rattle.roam_term.proofs.Prints.{put_step, put_none}
 use Rattle.roam_scrollback.specs.Lines.{LeftRow, LinesView, rows_with, Writes}
 use Rattle.roam_scrollback.specs.Sources.{rows_by_puts, wraps_puts}
 use Rattle.roam_scrollback.specs.Wraps.{wraps_put}
+use Rattle.roam_scrollback.specs.declared.wraps.Wrap.{Wrap}
 use Rattle.roam_scrollback.proofs.Writing.{writes-then}
 
 -- some of all rows were written, and the rest is to come
@@ -45,19 +46,19 @@ again-all n (Some c) s g e h =
     ∙ ap (λ b. cond b s (record s { screen = put_all (replicate n (glyph_in c s.pen)) (writing_under s.modes) s.screen })) h.0
     ∙ ap (λ x. record s { screen = put_all (replicate n x) (writing_under s.modes) s.screen }) (sym h.1)
 
-pub wraps_step : (g : Glyph) (w : Writing) (s : Screen) (wraps : List Bool) (n m : ℕ) → n ≡ suc m
+pub wraps_step : (g : Glyph) (w : Writing) (s : Screen) (wraps : List Wrap) (n m : ℕ) → n ≡ suc m
     → wraps_puts (replicate n g) w s wraps ≡ wraps_puts (replicate m g) w (put_on g w s) (wraps_put g w s wraps)
 wraps_step g w s wraps n m e = ap (λ k. wraps_puts (replicate k g) w s wraps) e
 
-pub wraps_none : (g : Glyph) (w : Writing) (s : Screen) (wraps : List Bool) (n : ℕ) → n ≡ 0 → wraps_puts (replicate n g) w s wraps ≡ wraps
+pub wraps_none : (g : Glyph) (w : Writing) (s : Screen) (wraps : List Wrap) (n : ℕ) → n ≡ 0 → wraps_puts (replicate n g) w s wraps ≡ wraps
 wraps_none g w s wraps n e = ap (λ k. wraps_puts (replicate k g) w s wraps) e
 
-pub rows_step : (g : Glyph) (w : Writing) (s : Screen) (wraps : List Bool) (n m : ℕ) → n ≡ suc m
+pub rows_step : (g : Glyph) (w : Writing) (s : Screen) (wraps : List Wrap) (n m : ℕ) → n ≡ suc m
     → rows_by_puts (replicate n g) w s wraps
     ≡ rows_with (left_by_put g w s) wraps ++ rows_by_puts (replicate m g) w (put_on g w s) (wraps_put g w s wraps)
 rows_step g w s wraps n m e = ap (λ k. rows_by_puts (replicate k g) w s wraps) e
 
-pub rows_none : (g : Glyph) (w : Writing) (s : Screen) (wraps : List Bool) (n : ℕ) → n ≡ 0 → rows_by_puts (replicate n g) w s wraps ≡ []
+pub rows_none : (g : Glyph) (w : Writing) (s : Screen) (wraps : List Wrap) (n : ℕ) → n ≡ 0 → rows_by_puts (replicate n g) w s wraps ≡ []
 rows_none g w s wraps n e = ap (λ k. rows_by_puts (replicate k g) w s wraps) e
 
 -- rows were written, of those that were to come

@@ -49,7 +49,7 @@ cell_text set x a b c some p q =
     ∙ ap (λ l. a ++ l) (sym (flat_map-append spelling_of (styling x.style set) (map Print x.points)))
     ∙ ap (λ k. a ++ flat_map spelling_of (cond k [] (styling x.style set ++ map Print x.points))) (sym some)
 
-used-blanks : (xs : List Glyph) (n : ℕ) → used (xs ++ replicate n blank) ≡ used xs
+pub used-blanks : (xs : List Glyph) (n : ℕ) → used (xs ++ replicate n blank) ≡ used xs
 used-blanks xs zero = ap used (append-nil xs)
 used-blanks xs (suc n) =
     ap used (sym (append_assoc xs (blank ∷ []) (replicate n blank))) ∙ used-blanks (xs ++ blank ∷ []) n ∙ used-blank xs
@@ -58,7 +58,7 @@ counted : (b : Bool) (n m : ℕ) → n ≤ m → cond b 0 (n + 1) ≤ suc m
 counted true n m h = omega arith
 counted false n m h = omega (arith, h)
 
-used-few : (xs : List Glyph) → used xs ≤ length xs
+pub used-few : (xs : List Glyph) → used xs ≤ length xs
 used-few [] = omega arith
 used-few (x ∷ xs) = counted (eqb (used xs) 0 && same x blank) (used xs) (length xs) (used-few xs)
 

@@ -1,28 +1,53 @@
 -- Lines of rows that are written one after another.
-use Rattle.std.proofs.Common.{◌≡◌, true, ◌⊎◌, inl, inr, ℕ, ◌+◌, ◌≤◌, Bool, List, [], ◌∷◌, ◌++◌, length, take, take_all, replicate, length-append, refl, sym, ap, ◌∙◌, arith, append_assoc}
+use Rattle.std.proofs.Common.{◌≡◌, true, ◌⊎◌, inl, inr, ℕ, ◌+◌, ◌≤◌, List, min, [], ◌∷◌, ◌++◌, length, take, take_all, replicate, length-append, refl, sym, ap, subst, ◌∙◌, arith, append_assoc}
 use Rattle.std.specs.List.{flat_map}
 use Rattle.std.proofs.lemmas.Bool.{cases_lt}
 use Rattle.std.proofs.lemmas.List.{append-nil, take-append-le}
 use Rattle.std.proofs.lemmas.List.Concat.{flat_map-append}
 use Rattle.std.proofs.Math.Seq.{take-append-add}
 use Rattle.roam_cells.specs.Glyph.{Glyph, blank}
-use Rattle.roam_scrollback.specs.Lines.{LeftRow, LinesView, line_of, most_lost, Writes}
+use Rattle.roam_rewrap.specs.Lines.{TextRow}
+use Rattle.roam_scrollback.specs.Lines.{Keeps, LeftRow, LinesView, line_of, most_lost, Writes}
 use Rattle.roam_scrollback.specs.RowText.{line_text}
+use Rattle.roam_scrollback.specs.Wraps.{is_on}
+use Rattle.roam_scrollback.specs.declared.wraps.Wrap.{Wrap}
+use Rattle.roam_scrollback.proofs.Keeping.{keeps-all, keeps-none, keeps-then}
 use Rattle.roam_scrollback.proofs.RowTexts.{line-blanks}
 
 -- a row that was lent without blanks at its end was written
-pub wrote : (old new : LinesView) (on : Bool) (xs : List Glyph) (n : ℕ) → (on ≡ true → n ≡ 0) → old.lost ≡ 0
-    → new ≡ record old { text = old.text ++ line_text on xs; count = old.count + 1 }
-    → Writes old new (record { goes_on = on; cells = xs ++ replicate n blank } ∷ [])
-wrote old new on xs n full none is = record {
+pub wrote : (old mid new : LinesView) (wrap : Wrap) (xs : List Glyph) (n : ℕ) → (is_on wrap ≡ true → n ≡ 0) → old.lost ≡ 0
+    → mid ≡ record old { text = old.text ++ line_text (is_on wrap) xs; count = old.count + 1 }
+    → new ≡ record mid { kept = new.kept }
+    → Keeps mid.kept (record { wrap = wrap; cells = xs ++ replicate n blank } ∷ []) new.kept
+    → Writes old new (record { wrap = wrap; cells = xs ++ replicate n blank } ∷ [])
+wrote old mid new wrap xs n full none is same keeps = record {
   written = 1;
   few = omega arith;
   text =
-      ap (λ (v : LinesView). v.text) is ∙ ap (λ l. old.text ++ l) (sym (append-nil (line_text on xs)))
-      ∙ ap (λ l. old.text ++ (l ++ [])) (sym (line-blanks on xs n full));
-  count = ap (λ (v : LinesView). v.count) is;
-  lost = ap (λ (v : LinesView). v.lost) is ∙ omega (arith, none);
+      ap (λ (v : LinesView). v.text) same ∙ ap (λ (v : LinesView). v.text) is
+      ∙ ap (λ l. old.text ++ l) (sym (append-nil (line_text (is_on wrap) xs)))
+      ∙ ap (λ l. old.text ++ (l ++ [])) (sym (line-blanks (is_on wrap) xs n full));
+  count = ap (λ (v : LinesView). v.count) same ∙ ap (λ (v : LinesView). v.count) is;
+  lost = ap (λ (v : LinesView). v.lost) same ∙ ap (λ (v : LinesView). v.lost) is ∙ omega (arith, none);
   none = λ p. absurd (omega (arith, p, none));
+  kept =
+      subst (λ (kept : List TextRow). Keeps kept (record { wrap = wrap; cells = xs ++ replicate n blank } ∷ []) new.kept)
+      (ap (λ (v : LinesView). v.kept) is) keeps;
+}
+
+-- a row was lost
+pub lost-one : (old mid new : LinesView) (row : LeftRow) → mid ≡ old
+    → new ≡ record mid { lost = min most_lost (mid.lost + 1); kept = [] } → Writes old new (row ∷ [])
+lost-one old mid new row same is = record {
+  written = 0;
+  few = omega arith;
+  text = ap (λ (v : LinesView). v.text) is ∙ ap (λ (v : LinesView). v.text) same ∙ sym (append-nil old.text);
+  count = ap (λ (v : LinesView). v.count) is ∙ ap (λ (v : LinesView). v.count) same ∙ omega arith;
+  lost = ap (λ (v : LinesView). v.lost) is ∙ ap (λ (v : LinesView). min most_lost (v.lost + 1)) same;
+  none = λ _. refl;
+  kept =
+      subst (λ (kept : List TextRow). Keeps old.kept (row ∷ []) kept) (sym (ap (λ (v : LinesView). v.kept) is))
+      (keeps-none old.kept (row ∷ []));
 }
 
 -- nothing came
@@ -34,6 +59,7 @@ writes-none v fits = record {
   count = omega arith;
   lost = omega (arith, fits);
   none = λ p. refl;
+  kept = keeps-all v.kept;
 }
 
 -- all of the first part, or nothing of the second
@@ -69,4 +95,5 @@ module _ (a b c : LinesView) (xs ys : List LeftRow) (p : Writes a b xs) (q : Wri
     count = omega (arith, p.count, q.count);
     lost = omega (arith, p.lost, q.lost, long, p.few, q.few);
     none = λ h. omega (arith, p.none h, q.none (omega (arith, h, p.lost)));
+    kept = keeps-then a.kept b.kept c.kept xs ys p.kept q.kept;
   }

@@ -3,3 +3,4 @@ pub mod RowText
 pub mod Lines
 pub mod Sources
 pub mod Leading
+pub mod Rewraps

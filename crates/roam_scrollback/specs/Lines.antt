@@ -1,37 +1,59 @@
 -- Rows that left, and the lines of them that were written.
-use Rattle.std.specs.Prelude.{◌≡◌, ℕ, ◌+◌, ◌-◌, ◌^◌, ◌<◌, ◌≤◌, Bool, List, [], ◌∷◌, ◌++◌, drop, length, min, take, nat_le, nat_lt, ◌||◌}
+use Rattle.std.specs.Prelude.{◌≡◌, ℕ, ◌+◌, ◌-◌, ◌^◌, ◌<◌, ◌≤◌, Bool, List, [], ◌∷◌, ◌++◌, drop, length, map, min, take, nat_le, nat_lt, ◌||◌, if◌then◌else◌}
 use Rattle.std.specs.List.{flat_map}
 use Rattle.roam_cells.specs.Glyph.{Glyph}
-use Rattle.roam_scrollback.specs.RowText.{line_text}
-use Rattle.roam_scrollback.specs.Wraps.{goes_on}
+use Rattle.roam_rewrap.specs.Lines.{TextRow}
+use Rattle.roam_scrollback.specs.RowText.{line_text, text_cells}
+use Rattle.roam_scrollback.specs.Wraps.{is_on, wrap_at}
+use Rattle.roam_scrollback.specs.declared.wraps.Wrap.{Wrap}
+use Rattle.roam_scrollback.specs.declared.wraps.Wrap.TheVariants.{Ends, Full}
 
--- a row that left, and whether autowrap went on from it
+-- a row that left, and how it ends
 pub record LeftRow : Type 0 where
-  pub goes_on : Bool
+  pub wrap : Wrap
   pub cells : List Glyph
 
--- rows of the top of a screen, each with its flag
-abbrev pub rows_with : List (List Glyph) → List Bool → List LeftRow
+-- rows of the top of a screen, each with how it ends
+abbrev pub rows_with : List (List Glyph) → List Wrap → List LeftRow
 rows_with [] wraps = []
-rows_with (row ∷ rows) wraps = record { goes_on = goes_on wraps 0; cells = row } ∷ rows_with rows (drop 1 wraps)
+rows_with (row ∷ rows) wraps = record { wrap = wrap_at wraps 0; cells = row } ∷ rows_with rows (drop 1 wraps)
 
 -- the line of a row that left
 abbrev pub line_of : LeftRow → List ℕ
-line_of row = line_text row.goes_on row.cells
+line_of row = line_text (is_on row.wrap) row.cells
 
--- the view of written lines: their bytes, their number, and the number of rows for which memory was refused
+-- a row that left, as far as it is text
+abbrev pub text_row : LeftRow → TextRow
+text_row row = record { goes_on = is_on row.wrap; cells = text_cells row.wrap row.cells }
+
+-- a row of text that left
+abbrev pub left_of : TextRow → LeftRow
+left_of row = record { wrap = if row.goes_on then Full else Ends; cells = row.cells }
+
+-- rows came; of all that were kept and came, the last are kept
+pub record Keeps (old : List TextRow) (rows : List LeftRow) (new : List TextRow) : Type 0 where
+  pub gone : List TextRow
+  pub is : gone ++ new ≡ old ++ map text_row rows
+
+-- the view of written lines: their bytes, their number, the number of rows for which memory was refused, and the last rows that left, as
+-- text
 pub record LinesView : Type 0 where
   pub text : List ℕ
   pub count : ℕ
   pub lost : ℕ
+  pub kept : List TextRow
 
 -- no more lost rows are counted
 abbrev pub most_lost : ℕ
 most_lost = 2 ^ 64 - 1
 
--- no lines yet
+-- no lines yet, behind rows that are kept
+abbrev pub lines_behind : List TextRow → LinesView
+lines_behind kept = record { text = []; count = 0; lost = 0; kept = kept }
+
+-- no lines yet, and no rows
 abbrev pub no_lines : LinesView
-no_lines = record { text = []; count = 0; lost = 0 }
+no_lines = lines_behind []
 
 -- so many bytes are many
 abbrev pub many : ℕ
@@ -49,3 +71,4 @@ pub record Writes (old new : LinesView) (rows : List LeftRow) : Type 0 where
   pub count : new.count ≡ old.count + written
   pub lost : new.lost ≡ min most_lost (old.lost + (length rows - written))
   pub none : 0 < old.lost → written ≡ 0
+  pub kept : Keeps old.kept rows new.kept

@@ -1,11 +1,14 @@
 -- A row as the text that paints it: from the default style and the first column of a blank row.
-use Rattle.std.specs.Prelude.{ℕ, ◌+◌, ◌==◌, ◌&&◌, Bool, List, [], ◌∷◌, ◌++◌, map, take, if◌then◌else◌}
+use Rattle.std.specs.Prelude.{ℕ, ◌+◌, ◌-◌, ◌==◌, ◌&&◌, Bool, List, [], ◌∷◌, ◌++◌, length, map, take, if◌then◌else◌}
 use Rattle.std.specs.List.{flat_map}
 use Rattle.roam_cells.specs.Glyph.{Glyph, is_right_half, blank, default_style}
+use Rattle.roam_cells.specs.Place.{glyph_at}
 use Rattle.roam_cells.specs.Same.{same}
 use Rattle.roam_cells.specs.declared.styles.Style.{Style}
 use Rattle.roam_paint.specs.Painting.{styling}
 use Rattle.roam_paint.specs.Sequences.{spelling_of}
+use Rattle.roam_scrollback.specs.declared.wraps.Wrap.{Wrap}
+use Rattle.roam_scrollback.specs.declared.wraps.Wrap.TheVariants.{Ends, Full, Early}
 use Rattle.roam_text.specs.declared.functions.Function.{Function}
 use Rattle.roam_text.specs.declared.functions.Function.TheVariants.{Print}
 
@@ -38,3 +41,13 @@ row_text on row = if on then text_of row else text_of (take (used row) row)
 -- the line of a row: + if autowrap went on from it, else a space, and then its text
 abbrev pub line_text : Bool → List Glyph → List ℕ
 line_text on row = (if on then 0x2B else 0x20) ∷ (row_text on row ++ 0x0A ∷ [])
+
+-- cells without a blank at their end
+unfoldable pub without_blank : List Glyph → List Glyph
+without_blank cells = if same (glyph_at cells (length cells - 1)) blank then take (length cells - 1) cells else cells
+
+-- the cells of a row that are text: not the blanks at its end if it ends, and not the blank left by a wide character
+abbrev pub text_cells : Wrap → List Glyph → List Glyph
+text_cells Ends cells = take (used cells) cells
+text_cells Full cells = cells
+text_cells Early cells = without_blank cells

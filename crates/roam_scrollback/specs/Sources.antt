@@ -14,6 +14,7 @@ use Rattle.roam_grid.specs.Writing.{put_on}
 use Rattle.roam_grid.specs.declared.writing.Writing.{Writing}
 use Rattle.roam_scrollback.specs.Lines.{LeftRow, rows_with, LinesView, Writes}
 use Rattle.roam_scrollback.specs.Wraps.{no_wraps, wraps_put, wraps_by, wraps_on_main, wraps_sized}
+use Rattle.roam_scrollback.specs.declared.wraps.Wrap.{Wrap}
 use Rattle.roam_term.specs.Leaving.{top_rows, left_by_put}
 use Rattle.roam_term.specs.Terminal.{Live, glyph_in, writing_under, on_main, left_by, changed_by, live_after, started_live}
 use Rattle.roam_text.specs.Functions.{functions_of}
@@ -25,65 +26,65 @@ use Rattle.roam_text.specs.declared.functions.Function.TheVariants.{Csi, Size}
 -- the live state of the terminal, and the flags of autowrap of the main screen's rows
 pub record SurfaceView : Type 0 where
   pub live : Live
-  pub wraps : List Bool
+  pub wraps : List Wrap
 
 -- the view of a source: the reader, the live state of the terminal, and the flags of autowrap of the main screen's rows
 pub record SourceView : Type 0 where
   pub reader : View
   pub live : Live
-  pub wraps : List Bool
+  pub wraps : List Wrap
 
 -- ---- cells that are written one after another
 
-abbrev pub wraps_puts : List Glyph → Writing → Screen → List Bool → List Bool
+abbrev pub wraps_puts : List Glyph → Writing → Screen → List Wrap → List Wrap
 wraps_puts [] w s wraps = wraps
 wraps_puts (x ∷ xs) w s wraps = wraps_puts xs w (put_on x w s) (wraps_put x w s wraps)
 
-abbrev pub rows_by_puts : List Glyph → Writing → Screen → List Bool → List LeftRow
+abbrev pub rows_by_puts : List Glyph → Writing → Screen → List Wrap → List LeftRow
 rows_by_puts [] w s wraps = []
 rows_by_puts (x ∷ xs) w s wraps = rows_with (left_by_put x w s) wraps ++ rows_by_puts xs w (put_on x w s) (wraps_put x w s wraps)
 
 -- REP (ECMA-48, section 8.3.103)
-abbrev pub wraps_again : ℕ → Option ℕ → Live → List Bool → List Bool
+abbrev pub wraps_again : ℕ → Option ℕ → Live → List Wrap → List Wrap
 wraps_again n None s wraps = wraps
 wraps_again n (Some c) s wraps =
     if (width_of c == 0) then wraps else wraps_puts (replicate n (glyph_in c s.pen)) (writing_under s.modes) s.screen wraps
 
-abbrev pub rows_again : ℕ → Option ℕ → Live → List Bool → List LeftRow
+abbrev pub rows_again : ℕ → Option ℕ → Live → List Wrap → List LeftRow
 rows_again n None s wraps = []
 rows_again n (Some c) s wraps =
     if (width_of c == 0) then [] else rows_by_puts (replicate n (glyph_in c s.pen)) (writing_under s.modes) s.screen wraps
 
 -- ---- one function after another
 
-abbrev pub wraps_commanded : Command → Live → List Bool → List Bool
+abbrev pub wraps_commanded : Command → Live → List Wrap → List Wrap
 wraps_commanded (Repeats n) s wraps = wraps_on_main s.alternate (wraps_again n s.printed s wraps) wraps
 wraps_commanded command s wraps = wraps_by command s wraps
 
-abbrev pub rows_commanded : Command → Live → List Bool → List LeftRow
+abbrev pub rows_commanded : Command → Live → List Wrap → List LeftRow
 rows_commanded (Repeats n) s wraps = if s.alternate then [] else rows_again n s.printed s wraps
 rows_commanded command s wraps = rows_with (on_main s.alternate (left_by command s)) wraps
 
 -- from which rows autowrap went on after a function
-unfoldable pub wraps_after : Function → Live → List Bool → List Bool
+unfoldable pub wraps_after : Function → Live → List Wrap → List Wrap
 wraps_after (Size rows cols) s wraps = wraps_sized rows cols s wraps
 wraps_after f s wraps = wraps_commanded (command_of f) s wraps
 
 -- the rows that leave by it, the topmost first, on the state before it
-unfoldable pub rows_leaving : Function → Live → List Bool → List LeftRow
+unfoldable pub rows_leaving : Function → Live → List Wrap → List LeftRow
 rows_leaving (Size rows cols) s wraps = rows_with (on_main s.alternate (top_rows (leaving rows s.screen) s.screen)) wraps
 rows_leaving f s wraps = rows_commanded (command_of f) s wraps
 
-abbrev pub wraps_through : Live → List Function → List Bool → List Bool
+abbrev pub wraps_through : Live → List Function → List Wrap → List Wrap
 wraps_through l [] wraps = wraps
 wraps_through l (f ∷ fs) wraps = wraps_through (changed_by f l) fs (wraps_after f l wraps)
 
-abbrev pub rows_through : Live → List Function → List Bool → List LeftRow
+abbrev pub rows_through : Live → List Function → List Wrap → List LeftRow
 rows_through l [] wraps = []
 rows_through l (f ∷ fs) wraps = rows_leaving f l wraps ++ rows_through (changed_by f l) fs (wraps_after f l wraps)
 
 -- all rows of the screen that is shown, from the top; from none of the other screen's autowrap is known to have gone on
-abbrev pub rows_shown : Live → List Bool → List LeftRow
+abbrev pub rows_shown : Live → List Wrap → List LeftRow
 rows_shown s wraps = rows_with (top_rows s.screen.rows s.screen) (if s.alternate then no_wraps else wraps)
 
 -- whether a function erases what left: ED with 3 (xterm's control sequences), which leaves the screen as it is

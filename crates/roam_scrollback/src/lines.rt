@@ -1,18 +1,24 @@
 //! Rows that left, as lines that wait to be written somewhere.
-ghost use Rattle.std.specs.Prelude.{◌≡◌, ◌≤◌, ◌+◌, ◌∷◌, ◌++◌, ℕ, [], true, replicate, OnOk, OnErr};
+ghost use Rattle.std.specs.Prelude.{◌≡◌, ◌≤◌, ◌+◌, ◌∷◌, ◌++◌, ℕ, [], true, map, min, replicate, take, OnOk, OnErr};
 ghost use Rattle.roam_cells.specs.Glyph.{blank};
-ghost use Rattle.roam_scrollback.specs.Lines.{Writes, is_full, most_lost, no_lines};
+ghost use Rattle.roam_scrollback.specs.Lines.{Keeps, Writes, is_full, left_of, most_lost, no_lines};
 ghost use Rattle.roam_scrollback.specs.RowText.{line_text};
+ghost use Rattle.roam_scrollback.specs.Wraps.{is_on};
 
+use crate::kept::RecentRows;
 use crate::row_texts::push_line;
+use crate::wraps::Wrap;
 use roam_cells::Cell;
+use roam_rewrap::Row;
 use std::alloc::{AllocError, Global};
 use std::marker::Model;
+use std::mem::swap;
 
 /// The number of queued bytes from which no more rows are written until they are taken.
 pub const MANY: usize = 65536;
 
-/// The lines of rows that left: their bytes, how many they are, and how many more rows there was no memory for.
+/// The lines of rows that left: their bytes, how many they are, and how many more rows there was no memory for. With them the last rows
+/// that left of one terminal, as text.
 #[derive(Drop)]
 pub struct LeftLines {
     text: Vec<u8>,
@@ -20,6 +26,7 @@ pub struct LeftLines {
     lost: usize,
     // Where a line is made before it is added, so that none is added in part.
     line: Vec<u8>,
+    kept: RecentRows,
 }
 
 impl Model for LeftLines {
@@ -28,7 +35,7 @@ impl Model for LeftLines {
 
     ghost Value = { LinesView };
 
-    ghost view = { λ a. record { text = a.text.items; count = a.count; lost = a.lost } };
+    ghost view = { λ a. record { text = a.text.items; count = a.count; lost = a.lost; kept = a.kept } };
 
     ghost invariant = { λ a. (a.count ≤ length a.text.items) × (a.lost ≤ most_lost) };
 }
@@ -43,6 +50,7 @@ impl LeftLines {
             count: 0,
             lost: 0,
             line: Vec::new(alloc),
+            kept: RecentRows::new(alloc),
         }
     }
 
@@ -88,6 +96,29 @@ impl LeftLines {
         self.text.clear();
         self.count = 0;
         self.lost = 0;
+        self.kept.clear();
+    }
+
+    /// The last rows that left, as text.
+    pub fn kept(&self) -> &RecentRows
+        ensures kept { result.now ≡ self.now.kept }
+    {
+        &self.kept
+    }
+
+    /// Exchanges the last rows that left for others, of another terminal, say.
+    pub fn swap_kept(&mut self, kept: &mut RecentRows)
+        ensures lines { self.new ≡ record self.old { kept = kept.old } }
+        ensures kept { kept.new ≡ self.old.kept }
+    {
+        swap(&mut self.kept, kept);
+    }
+
+    /// Keeps only the first of the rows that are kept: the others are back on the screen.
+    pub fn keep_first(&mut self, count: usize)
+        ensures first { self.new ≡ record self.old { kept = take count self.old.kept } }
+    {
+        self.kept.keep_first(count);
     }
 
     // Adds the line of a row.
@@ -105,17 +136,57 @@ impl LeftLines {
         Ok(())
     }
 
-    /// Writes the line of a row that left. The row may be lent without blanks at its end if it doesn't go on. If memory is refused for its
-    /// line, it and each later one are lost until the lines are taken.
-    pub fn push(&mut self, goes_on: bool, front: &[Cell])
-        ensures written { (n : ℕ) → (goes_on ≡ true → n ≡ 0)
-            → Writes self.old self.new (record { goes_on = goes_on; cells = front.now ++ replicate n blank } ∷ []) }
+    // A row is kept, as text.
+    fn keep(&mut self, wrap: Wrap, front: &[Cell])
+        ensures lines { self.new ≡ record self.old { kept = self.new.kept } }
+        ensures kept { (n : ℕ) → (is_on wrap ≡ true → n ≡ 0)
+            → Keeps self.old.kept (record { wrap = wrap; cells = front.now ++ replicate n blank } ∷ []) self.new.kept }
+    {
+        self.kept.push(wrap, front);
+    }
+
+    // A row is lost, and no row is kept.
+    fn lose(&mut self)
+        ensures lost { self.new ≡ record self.old { lost = min most_lost (self.old.lost + 1); kept = [] } }
+    {
+        self.kept.clear();
+        self.lost = self.lost.saturating_add(1);
+    }
+
+    /// A row left, which may be lent without some of the blanks at its end if it ends. Where there is no memory for its line it
+    /// is lost, and so is each that comes after it, until the lines are taken.
+    pub fn push(&mut self, wrap: Wrap, front: &[Cell])
+        ensures written { (n : ℕ) → (is_on wrap ≡ true → n ≡ 0)
+            → Writes self.old self.new (record { wrap = wrap; cells = front.now ++ replicate n blank } ∷ []) }
     {
         if self.lost == 0 {
-            if let Ok(()) = self.add(goes_on, front) {
+            if let Ok(()) = self.add(wrap.is_on(), front) {
+                self.keep(wrap, front);
                 return;
             }
         }
-        self.lost = self.lost.saturating_add(1);
+        self.lose();
+    }
+
+    // A row of text left.
+    fn push_text(&mut self, row: &Row)
+        ensures written { Writes self.old self.new (left_of row.now ∷ []) }
+    {
+        let wrap = if row.goes_on() {
+            Wrap::Full
+        } else {
+            Wrap::Ends
+        };
+        self.push(wrap, row.cells());
+    }
+
+    /// Rows of text left, the first one first.
+    pub fn push_texts(&mut self, rows: &[Row])
+        ensures written { Writes self.old self.new (map left_of rows.now) }
+    {
+        self.facts();
+        for row in rows {
+            self.push_text(row);
+        }
     }
 }

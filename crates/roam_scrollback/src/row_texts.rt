@@ -1,5 +1,5 @@
 //! A row as the text that paints it.
-ghost use Rattle.std.specs.Prelude.{◌≡◌, ◌≤◌, ◌∷◌, ◌++◌, [], length, take, OnOk, IfOk, if◌then◌else◌};
+ghost use Rattle.std.specs.Prelude.{◌≡◌, ◌≤◌, ◌∷◌, ◌++◌, [], ℕ, replicate, true, length, take, OnOk, IfOk, if◌then◌else◌};
 ghost use Rattle.std.specs.Char.{encode_utf8};
 ghost use Rattle.std.specs.List.{flat_map};
 ghost use Rattle.roam_cells.specs.Glyph.{blank, default_style};
@@ -8,8 +8,10 @@ ghost use Rattle.roam_cells.specs.Same.{same, same_style};
 ghost use Rattle.roam_paint.specs.Painting.{styling};
 ghost use Rattle.roam_paint.specs.Sequences.{spelling_of};
 ghost use Rattle.roam_term.specs.ControlFunctions.{restyle};
-ghost use Rattle.roam_scrollback.specs.RowText.{used, cell_words, style_behind, row_words, row_text, line_text};
+ghost use Rattle.roam_scrollback.specs.RowText.{used, cell_words, style_behind, row_words, row_text, line_text, text_cells, without_blank};
+ghost use Rattle.roam_scrollback.specs.Wraps.{is_on};
 
+use crate::wraps::Wrap;
 use roam_cells::{Cell, Style};
 use roam_paint::{push_points, push_restyle};
 use std::alloc::AllocError;
@@ -26,8 +28,8 @@ fn is_same_style(one: Style, other: Style) -> bool
     one.is_same(other)
 }
 
-// How many columns of a row are in use: up to its last cell that isn't blank.
-fn used(row: &[Cell]) -> usize
+/// How many columns of a row are in use: up to its last cell that isn't blank.
+pub fn used(row: &[Cell]) -> usize
     ensures used { result ≡ used row.now }
     ensures few { result ≤ length row.now }
 {
@@ -36,6 +38,28 @@ fn used(row: &[Cell]) -> usize
         count -= 1;
     }
     count
+}
+
+// Cells without a blank at their end.
+#[tactic(auto, unfolding(crate::specs::RowText::without_blank))]
+fn without_blank(cells: &[Cell]) -> &[Cell]
+    ensures cells { result.now ≡ without_blank cells.now }
+{
+    match cells {
+        [front @ .., last] if is_blank(last) => front,
+        _ => cells,
+    }
+}
+
+/// Returns the cells of a row that are text. A row that ends may be lent without some of the blanks at its end.
+pub fn text_cells(wrap: Wrap, row: &[Cell]) -> &[Cell]
+    ensures cells { result.now ≡ text_cells wrap row.now }
+{
+    match wrap {
+        Wrap::Ends => &row[..used(row)],
+        Wrap::Full => row,
+        Wrap::Early => without_blank(row),
+    }
 }
 
 fn restyle(text: &mut Vec<u8>, same: bool, style: Style) -> Result<(), AllocError>

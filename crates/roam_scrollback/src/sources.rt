@@ -1,15 +1,18 @@
 //! A terminal as the source of the rows that leave it.
-ghost use Rattle.std.specs.Prelude.{◌≡◌, ◌⊎◌, ◌↔◌, ◌<◌, ◌≤◌, ◌∷◌, [], length, map, take, IfOk, IfErr, IsErrOf, OnOk, OnErr, false, true};
+ghost use Rattle.std.specs.Prelude.{◌≡◌, ◌⊎◌, ◌↔◌, ◌<◌, ◌≤◌, ◌∷◌, [], List, length, map, take, IfOk, IfErr, IsErrOf, OnOk, OnErr, false, true};
 ghost use Rattle.roam_cells.specs.Limits.{IsSize};
 ghost use Rattle.roam_controls.specs.Commands.{command_of, parameters_of};
 ghost use Rattle.roam_controls.specs.Parameters.{first};
-ghost use Rattle.roam_text.specs.Log.{Byte, Resized};
+ghost use Rattle.roam_text.specs.Log.{Byte, Item, Resized};
+ghost use Rattle.roam_text.specs.Stands.{Stands as Reads};
 ghost use Rattle.roam_text.specs.Dispatched.{function_of, functions_by};
 ghost use Rattle.roam_term.specs.Terminal.{changed_by, live_after};
 ghost use Rattle.roam_scrollback.specs.Lines.{Writes, is_full};
+ghost use Rattle.roam_scrollback.specs.Rewraps.{Follows, IsRewrapped};
 ghost use Rattle.roam_scrollback.specs.Sources.{IsCleared, IsSource, Sheds, clears, rows_leaving, rows_shown, rows_through, wraps_after, wraps_through};
 
 use crate::lines::LeftLines;
+use crate::rewraps::{NotRewrapped, Prepared, Rewrap, prepare, push_left, wraps_of};
 use crate::surfaces::Surface;
 use roam_cells::Fault;
 use roam_cells::limits::is_size;
@@ -307,6 +310,62 @@ impl RowSource {
         self.surface.size(alloc, rows, cols, lines)?;
         self.reader.size(rows, cols);
         Ok(())
+    }
+
+    // Reads a whole text; the lines of rows that leave by it are dropped.
+    fn read_all(&mut self, text: &[u8], dropped: &mut LeftLines)
+        ensures follows { (log : List Item) → Reads self.old.reader log → Follows self.old self.new (map Byte text.now) log }
+    {
+        let mut at = 0;
+        while at < text.len() {
+            dropped.clear();
+            at += self.feed(&text[at..], dropped).count;
+        }
+    }
+
+    /// Gives the terminal another size with its text whole. The newest rows that left come back as far as they fit, rows wrap at the new
+    /// width, and the lines of the rows that leave then are written. The lines must be those of this terminal. After an error, which
+    /// `NotRewrapped` explains, nothing changed.
+    pub fn rewrap(
+        &mut self,
+        alloc: Global,
+        rows: u16,
+        cols: u16,
+        lines: &mut LeftLines,
+    ) -> Result<Rewrap, NotRewrapped>
+        ensures rewrapped { IfOk result (λ done. IsRewrapped self.old self.new lines.old lines.new rows cols done.back done.text.items) }
+        ensures err { OnErr result ((self.new ≡ self.old) × (lines.new ≡ lines.old)) }
+        ensures other { IsErrOf result NotRewrapped.OtherScreen → self.old.live.alternate ≡ true }
+    {
+        if !is_size(rows, cols) {
+            return Err(NotRewrapped::Refused);
+        }
+        if !self.reader.is_at_rest() {
+            return Err(NotRewrapped::Later);
+        }
+        if self.surface.canvas().is_alternate() {
+            return Err(NotRewrapped::OtherScreen);
+        }
+        if !self.surface.canvas().prints_ascii() {
+            return Err(NotRewrapped::Later);
+        }
+        let Ok(Some(prepared)) = prepare(alloc, &self.surface, lines.kept(), rows, cols) else {
+            return Err(NotRewrapped::Refused);
+        };
+        let Prepared {
+            reflow,
+            first,
+            back,
+            text,
+        } = prepared;
+        let mut dropped = LeftLines::new(alloc);
+        let Ok(()) = self.size(alloc, rows, cols, &mut dropped) else {
+            return Err(NotRewrapped::Refused);
+        };
+        self.read_all(&text, &mut dropped);
+        self.surface.wrap_as(wraps_of(&reflow, rows, cols));
+        push_left(lines, first, &reflow);
+        Ok(Rewrap { back, text })
     }
 
     /// Writes the lines of all rows of the screen that is shown, from the top.

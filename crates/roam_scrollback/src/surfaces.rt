@@ -13,7 +13,7 @@ ghost use Rattle.roam_grid.specs.Writing.{put_all};
 ghost use Rattle.roam_scrollback.specs.Lines.{rows_with, Writes};
 ghost use Rattle.roam_scrollback.specs.Sources.{rows_shown, rows_by_puts, rows_again, rows_commanded, wraps_again, wraps_commanded, wraps_puts};
 ghost use Rattle.roam_cells.specs.Place.{row_of};
-ghost use Rattle.roam_scrollback.specs.Wraps.{goes_on, wraps_put, wraps_by, wraps_by_character, wraps_by_motion, wraps_by_edit, wraps_by_erasure, wraps_on_main, wraps_sized, no_wraps};
+ghost use Rattle.roam_scrollback.specs.Wraps.{wrap_at, wraps_put, wraps_by, wraps_by_character, wraps_by_motion, wraps_by_edit, wraps_by_erasure, wraps_on_main, wraps_sized, no_wraps};
 ghost use Rattle.roam_term.specs.Leaving.{top_rows, left_by_put, left_by_motion, left_by_edit};
 ghost use Rattle.roam_term.specs.Terminal.{commanded_by, glyph_in, left_by, left_by_character, on_main, printed_all, repeated_on, sized_to, started_live, writing_under};
 
@@ -43,15 +43,16 @@ fn push_top(grid: &Grid, wraps: &Wraps, n: usize, lines: &mut LeftLines)
 fn push_row(grid: &Grid, wraps: &Wraps, row: usize, lines: &mut LeftLines)
     requires row_in { row < grid.now.screen.rows }
     ensures written { Writes lines.old lines.new (record {
-      goes_on = goes_on wraps.now row;
+      wrap = wrap_at wraps.now row;
       cells = row_of grid.now.screen.cols grid.now.screen.cells row;
     } ∷ []) }
 {
     grid.facts();
-    if wraps.goes_on(row) {
-        lines.push(true, grid.row(row));
+    let wrap = wraps.at(row);
+    if wrap.is_on() {
+        lines.push(wrap, grid.row(row));
     } else {
-        lines.push(false, grid.front_of_row(row));
+        lines.push(wrap, grid.front_of_row(row));
     }
 }
 
@@ -146,6 +147,27 @@ impl Surface {
             wraps: Wraps::new(),
             none,
         })
+    }
+
+    /// The screens.
+    pub fn canvas(&self) -> &Canvas
+        ensures live { result.now.live ≡ self.now.live }
+    {
+        &self.canvas
+    }
+
+    /// How the rows of the main screen end.
+    pub fn wraps(&self) -> &Wraps
+        ensures wraps { result.now ≡ self.now.wraps }
+    {
+        &self.wraps
+    }
+
+    /// The rows of the main screen end so.
+    pub fn wrap_as(&mut self, wraps: Wraps)
+        ensures wraps { self.new ≡ record self.old { wraps = wraps } }
+    {
+        self.wraps = wraps;
     }
 
     fn leave_by_character(&mut self, c: char, lines: &mut LeftLines)

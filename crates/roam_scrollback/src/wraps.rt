@@ -1,48 +1,73 @@
 //! From which rows of the main screen autowrap went on in the next row.
-ghost use Rattle.std.specs.Prelude.{◌≡◌, ◌+◌, ◌-◌, ◌≤◌, ◌<◌, set, false, ◌==◌, if◌then◌else◌};
+ghost use Rattle.std.specs.Prelude.{◌≡◌, ◌+◌, ◌-◌, ◌≤◌, ◌<◌, ◌++◌, length, map, replicate, set, ◌==◌, if◌then◌else◌};
 ghost use Rattle.roam_cells.specs.Limits.{most_rows};
 ghost use Rattle.roam_grid.specs.Editing.{is_between_margins};
 ghost use Rattle.roam_grid.specs.Frames.{leaving};
-ghost use Rattle.roam_scrollback.specs.Wraps.{goes_on, no_wraps, part_up, part_down, moved_up, moved_down, first_kept, first_ended, wraps_next, wraps_reverse_indexed, is_wrapped, wraps_put, wraps_by_motion, wraps_by_edit, wraps_by_page, wraps_by_line, wraps_by_erasure, wraps_on_main};
+ghost use Rattle.roam_scrollback.specs.Wraps.{is_on, wrap_at, no_wraps, part_up, part_down, moved_up, moved_down, first_kept, first_ended, wraps_next, wraps_reverse_indexed, is_wrapped, wraps_put, wraps_by_motion, wraps_by_edit, wraps_by_page, wraps_by_line, wraps_by_erasure, wraps_on_main, wrap_of, wraps_of};
 
 use roam_cells::limits::MOST_ROWS;
 use roam_cells::{Cell, Extent};
 use roam_controls::{Edit, Erasure, Motion};
 use roam_grid::{Grid, Writing};
+use roam_rewrap::Row;
 use std::marker::Model;
 
-/// A flag for each of 200 rows, from 0: whether autowrap went on from it.
+/// How a row ends.
+#[derive(Clone, Copy, Debug, PartialEq, Eq)]
+pub enum Wrap {
+    /// A line ends in it.
+    Ends,
+    /// Autowrap went on from its last column.
+    Full,
+    /// A wide character that the last column would have cut went on to the next row: that column is no text.
+    Early,
+}
+
+impl Wrap {
+    /// Returns true if autowrap went on from the row.
+    pub fn is_on(self) -> bool
+        ensures on { result ≡ is_on self }
+    {
+        match self {
+            Wrap::Ends => false,
+            Wrap::Full | Wrap::Early => true,
+        }
+    }
+}
+
+/// How each of 200 rows ends, from 0.
 #[derive(Drop)]
 pub struct Wraps {
-    rows: [bool; MOST_ROWS as usize],
+    rows: [Wrap; MOST_ROWS as usize],
 }
 
 impl Model for Wraps {
-    ghost use Rattle.std.specs.Prelude.{List, Bool};
+    ghost use Rattle.std.specs.Prelude.{List};
+    ghost use Rattle.roam_scrollback.specs.declared.wraps.Wrap.{Wrap};
 
-    ghost Value = { List Bool };
+    ghost Value = { List Wrap };
 
     ghost view = { λ a. a.rows };
 }
 
 // So many rows go out at the front of a part, and as many come in at its end.
-fn part_up(part: &mut [bool], n: usize)
+fn part_up(part: &mut [Wrap], n: usize)
     ensures part { part.new ≡ part_up n part.old }
 {
     let n = n.min(part.len());
     let kept = part.len() - n;
     part.copy_within(n..kept + n, 0);
-    part[kept..].fill(false);
+    part[kept..].fill(Wrap::Ends);
 }
 
 // So many rows come in at the front of a part, and as many go out at its end.
-fn part_down(part: &mut [bool], n: usize)
+fn part_down(part: &mut [Wrap], n: usize)
     ensures part { part.new ≡ part_down n part.old }
 {
     let n = n.min(part.len());
     let kept = part.len() - n;
     part.copy_within(0..kept, n);
-    part[..n].fill(false);
+    part[..n].fill(Wrap::Ends);
 }
 
 impl Wraps {
@@ -52,14 +77,34 @@ impl Wraps {
         ensures none { result ≡ no_wraps }
     {
         Wraps {
-            rows: [false; MOST_ROWS as usize],
+            rows: [Wrap::Ends; MOST_ROWS as usize],
         }
     }
 
-    /// Returns true if autowrap went on from a row, from 0.
-    pub fn goes_on(&self, row: usize) -> bool
+    // A row ends so.
+    fn set(&mut self, row: usize, wrap: Wrap)
         requires row_in { row < most_rows }
-        ensures on { result ≡ goes_on self.now row }
+        ensures set { self.new ≡ set self.old row wrap }
+    {
+        self.rows[row] = wrap;
+    }
+
+    /// Rows of text from the top of a screen of so many columns.
+    pub fn of(rows: &[Row], cols: usize) -> Self
+        requires few { length rows.now ≤ most_rows }
+        ensures wraps { result ≡ wraps_of cols rows.now }
+    {
+        let mut wraps = Wraps::new();
+        for (i, row) in rows.iter().enumerate() {
+            wraps.set(i, wrap_of(row, cols));
+        }
+        wraps
+    }
+
+    /// How a row ends, from 0.
+    pub fn at(&self, row: usize) -> Wrap
+        requires row_in { row < most_rows }
+        ensures wrap { result ≡ wrap_at self.now row }
     {
         self.rows[row]
     }
@@ -85,7 +130,7 @@ impl Wraps {
         requires few { n ≤ most_rows }
         ensures kept { self.new ≡ first_kept n self.old }
     {
-        self.rows[n..].fill(false);
+        self.rows[n..].fill(Wrap::Ends);
     }
 
     #[tactic(auto, unfolding(crate::specs::Wraps::first_ended))]
@@ -93,29 +138,29 @@ impl Wraps {
         requires few { n ≤ most_rows }
         ensures ended { self.new ≡ first_ended n self.old }
     {
-        self.rows[..n].fill(false);
+        self.rows[..n].fill(Wrap::Ends);
     }
 
-    // The cursor goes to the next row, which goes on from its own or doesn't.
+    // The cursor goes to the next row, and its own ends so.
     #[tactic(auto, unfolding(crate::specs::Wraps::wraps_next))]
-    fn next(&mut self, on: bool, grid: &Grid)
-        ensures next { self.new ≡ wraps_next on grid.now.screen self.old }
+    fn next(&mut self, wrap: Wrap, grid: &Grid)
+        ensures next { self.new ≡ wraps_next wrap grid.now.screen self.old }
     {
         grid.facts();
         let (row, _) = grid.cursor();
         let (top, bottom) = grid.margins();
-        self.rows[row - 1] = on;
+        self.rows[row - 1] = wrap;
         if row == bottom + 1 {
             self.move_up(top, bottom, 1);
         }
     }
 
     fn end_row(&mut self, grid: &Grid)
-        ensures ended { self.new ≡ set self.old grid.now.screen.row false }
+        ensures ended { self.new ≡ set self.old grid.now.screen.row Wrap.Ends }
     {
         grid.facts();
         let (row, _) = grid.cursor();
-        self.rows[row - 1] = false;
+        self.rows[row - 1] = Wrap::Ends;
     }
 
     /// A cell will be written.
@@ -124,8 +169,13 @@ impl Wraps {
         ensures put { self.new ≡ wraps_put cell.now writing grid.now.screen self.old }
     {
         let columns = if cell.is_wide() { 2 } else { 1 };
+        let wrap = if grid.pending() {
+            Wrap::Full
+        } else {
+            Wrap::Early
+        };
         if is_wrapped(columns, writing, grid) {
-            self.next(true, grid);
+            self.next(wrap, grid);
         }
     }
 
@@ -134,7 +184,7 @@ impl Wraps {
         ensures moved { self.new ≡ wraps_by_motion motion grid.now.screen self.old }
     {
         match motion {
-            Motion::LineFeed | Motion::Index | Motion::NextLine => self.next(false, grid),
+            Motion::LineFeed | Motion::Index | Motion::NextLine => self.next(Wrap::Ends, grid),
             Motion::ReverseIndex => self.reverse(grid),
             _ => {}
         }
@@ -239,6 +289,20 @@ impl Wraps {
             self.leave(grid.leaving(rows));
         }
         self.keep_first(rows);
+    }
+}
+
+// How a row of text ends at a width.
+fn wrap_of(row: &Row, cols: usize) -> Wrap
+    ensures wrap { result ≡ wrap_of cols row.now }
+{
+    if !row.goes_on() {
+        return Wrap::Ends;
+    }
+    if row.cells().len() < cols {
+        Wrap::Early
+    } else {
+        Wrap::Full
     }
 }
 

@@ -12,7 +12,7 @@ use Rattle.roam_tokens.proofs.Wording.{IsWord, digits_are_word, word_again, word
 use Rattle.roam_scrollback_stream.specs.ReadRequests.{count_in, counted_at, counted_in, pair_of, short_in, size_at, size_in, sized_at, sized_in, terminal_in, three_of}
 use Rattle.roam_scrollback_stream.specs.Requests.{IsRequest, IsSized, counted_text, most_terminals, request_text, sized_text}
 use Rattle.roam_scrollback_stream.specs.declared.requests.Request.{Request}
-use Rattle.roam_scrollback_stream.specs.declared.requests.Request.TheVariants.{Pane, Size, Bytes, Screen, Gone}
+use Rattle.roam_scrollback_stream.specs.declared.requests.Request.TheVariants.{Pane, Size, Rewrap, Bytes, Screen, Gone}
 
 word : (n : ℕ) → n < 2 ^ 64 → IsWord (decimal n)
 word n small = digits_are_word 10 (decimal n) (lit≤ tt) (decimal_is_IsNumeral n (omega (arith, small))).0.1
@@ -123,6 +123,8 @@ pane_only text o r read is (Pane n rows cols) h e =
     is (n, rows, cols) (read ∙ ap sized_in same ∙ sized_again n rows cols h)
 pane_only text o r read is (Size n rows cols) h e =
     apart 0 (codes "pane " ++ text) (codes "size " ++ sized_text n rows cols) (λ d. omega (arith, d)) e
+pane_only text o r read is (Rewrap n rows cols) h e =
+    apart 0 (codes "pane " ++ text) (codes "rewrap " ++ sized_text n rows cols) (λ d. omega (arith, d)) e
 pane_only text o r read is (Bytes n count) h e =
     apart 0 (codes "pane " ++ text) (codes "bytes " ++ counted_text n count) (λ d. omega (arith, d)) e
 pane_only text o r read is (Screen n) h e = apart 0 (codes "pane " ++ text) (codes "screen " ++ decimal n) (λ d. omega (arith, d)) e
@@ -136,10 +138,27 @@ size_only text o r read is (Pane n rows cols) h e =
 size_only text o r read is (Size n rows cols) h e =
     let same : text ≡ sized_text n rows cols = ap (drop 5) e in
     is (n, rows, cols) (read ∙ ap sized_in same ∙ sized_again n rows cols h)
+size_only text o r read is (Rewrap n rows cols) h e =
+    apart 0 (codes "size " ++ text) (codes "rewrap " ++ sized_text n rows cols) (λ d. omega (arith, d)) e
 size_only text o r read is (Bytes n count) h e =
     apart 0 (codes "size " ++ text) (codes "bytes " ++ counted_text n count) (λ d. omega (arith, d)) e
 size_only text o r read is (Screen n) h e = apart 1 (codes "size " ++ text) (codes "screen " ++ decimal n) (λ d. omega (arith, d)) e
 size_only text o r read is (Gone n) h e = apart 0 (codes "size " ++ text) (codes "gone " ++ decimal n) (λ d. omega (arith, d)) e
+
+pub rewrap_only : (text : List ℕ) (o : Option (ℕ × ℕ × ℕ)) (r : Option Request) → o ≡ sized_in text
+    → ((p : ℕ × ℕ × ℕ) → o ≡ Some p → r ≡ Some (Rewrap p.0 p.1 p.2))
+    → (s : Request) → IsRequest s → codes "rewrap " ++ text ≡ request_text s → r ≡ Some s
+rewrap_only text o r read is (Pane n rows cols) h e =
+    apart 0 (codes "rewrap " ++ text) (codes "pane " ++ sized_text n rows cols) (λ d. omega (arith, d)) e
+rewrap_only text o r read is (Size n rows cols) h e =
+    apart 0 (codes "rewrap " ++ text) (codes "size " ++ sized_text n rows cols) (λ d. omega (arith, d)) e
+rewrap_only text o r read is (Rewrap n rows cols) h e =
+    let same : text ≡ sized_text n rows cols = ap (drop 7) e in
+    is (n, rows, cols) (read ∙ ap sized_in same ∙ sized_again n rows cols h)
+rewrap_only text o r read is (Bytes n count) h e =
+    apart 0 (codes "rewrap " ++ text) (codes "bytes " ++ counted_text n count) (λ d. omega (arith, d)) e
+rewrap_only text o r read is (Screen n) h e = apart 0 (codes "rewrap " ++ text) (codes "screen " ++ decimal n) (λ d. omega (arith, d)) e
+rewrap_only text o r read is (Gone n) h e = apart 0 (codes "rewrap " ++ text) (codes "gone " ++ decimal n) (λ d. omega (arith, d)) e
 
 pub bytes_only : (text : List ℕ) (o : Option (ℕ × ℕ)) (r : Option Request) → o ≡ counted_in text
     → ((p : ℕ × ℕ) → o ≡ Some p → r ≡ Some (Bytes p.0 p.1))
@@ -148,6 +167,8 @@ bytes_only text o r read is (Pane n rows cols) h e =
     apart 0 (codes "bytes " ++ text) (codes "pane " ++ sized_text n rows cols) (λ d. omega (arith, d)) e
 bytes_only text o r read is (Size n rows cols) h e =
     apart 0 (codes "bytes " ++ text) (codes "size " ++ sized_text n rows cols) (λ d. omega (arith, d)) e
+bytes_only text o r read is (Rewrap n rows cols) h e =
+    apart 0 (codes "bytes " ++ text) (codes "rewrap " ++ sized_text n rows cols) (λ d. omega (arith, d)) e
 bytes_only text o r read is (Bytes n count) h e =
     let same : text ≡ counted_text n count = ap (drop 6) e in
     is (n, count) (read ∙ ap counted_in same ∙ counted_again n count h.0 h.1)
@@ -161,6 +182,8 @@ screen_only text o r read is (Pane n rows cols) h e =
     apart 0 (codes "screen " ++ text) (codes "pane " ++ sized_text n rows cols) (λ d. omega (arith, d)) e
 screen_only text o r read is (Size n rows cols) h e =
     apart 1 (codes "screen " ++ text) (codes "size " ++ sized_text n rows cols) (λ d. omega (arith, d)) e
+screen_only text o r read is (Rewrap n rows cols) h e =
+    apart 0 (codes "screen " ++ text) (codes "rewrap " ++ sized_text n rows cols) (λ d. omega (arith, d)) e
 screen_only text o r read is (Bytes n count) h e =
     apart 0 (codes "screen " ++ text) (codes "bytes " ++ counted_text n count) (λ d. omega (arith, d)) e
 screen_only text o r read is (Screen n) h e =
@@ -175,6 +198,8 @@ gone_only text o r read is (Pane n rows cols) h e =
     apart 0 (codes "gone " ++ text) (codes "pane " ++ sized_text n rows cols) (λ d. omega (arith, d)) e
 gone_only text o r read is (Size n rows cols) h e =
     apart 0 (codes "gone " ++ text) (codes "size " ++ sized_text n rows cols) (λ d. omega (arith, d)) e
+gone_only text o r read is (Rewrap n rows cols) h e =
+    apart 0 (codes "gone " ++ text) (codes "rewrap " ++ sized_text n rows cols) (λ d. omega (arith, d)) e
 gone_only text o r read is (Bytes n count) h e =
     apart 0 (codes "gone " ++ text) (codes "bytes " ++ counted_text n count) (λ d. omega (arith, d)) e
 gone_only text o r read is (Screen n) h e = apart 0 (codes "gone " ++ text) (codes "screen " ++ decimal n) (λ d. omega (arith, d)) e

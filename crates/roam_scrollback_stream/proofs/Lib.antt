@@ -1,3 +1,4 @@
 mod Asking
 pub mod Telling
+pub mod Going
 mod Reading

@@ -1,5 +1,6 @@
 -- A reader models the bytes that it read and wrote, step by step.
 use Rattle.std.proofs.Math.Seq.{take-add, take-suc}
+use Rattle.roam_scrollback_stream.specs.Runs.AnswersRewrap.{is_brought, is_later, is_other, is_refused}
 use Rattle.roam_scrollback_stream.specs.Runs.IsBad.{long}
 use Rattle.std.proofs.Common.{length-append, length-take, length-drop, take_all, take-append-drop, drop, ◌≡◌, ◌≢◌, ◌<◌, ◌≤◌, ◌+◌, ◌-◌, ◌^◌, ℕ, suc, min, Bool, true, List, [], ◌∷◌, ◌++◌, map, length, take, Option, Some, None, is_some, refl, sym, ap, subst, ◌∙◌, append_assoc, append-nil, slice_set, slice_index_or, inl, inr, replicate, Result, Ok, Err, IfOk, OnOk}
 use native.Mathlib.Omega.{arith}
@@ -7,15 +8,16 @@ use Rattle.std.specs.List.{flat_map}
 use Rattle.std.proofs.lemmas.List.{get_or_default, replicate-append-replicate, get_or_past, get_or-set_same, set-get_or}
 use Rattle.std.proofs.lemmas.List.Elements.{All-append, All-nil}
 use Rattle.roam_scrollback.specs.Sources.{SourceView}
-use Rattle.roam_scrollback_stream.specs.Panes.{PaneView, ShowsAll, TellsAll, fed_for, held_for}
+use Rattle.roam_scrollback_stream.specs.Panes.{PaneView, ShowsAll, TellsAll, TellsFrom, fed_for, held_for}
+use Rattle.roam_scrollback_stream.proofs.Going.{from-behind}
 use Rattle.roam_scrollback_stream.specs.Readings.{DoesOrNot, InputView, Reaches, ReadingView, TerminalsView, reading_of}
 use Rattle.roam_scrollback_stream.specs.Records.{part_text, screen_text}
 use Rattle.roam_scrollback_stream.specs.Requests.{IsRequest, most_terminals, request_text}
-use Rattle.roam_scrollback_stream.specs.Runs.{Answers, IsBad, IsFed, IsLineStart, Ran, RanTo, RunView, bytes_after, longest_line, terminal_at, terminal_of}
+use Rattle.roam_scrollback_stream.specs.Runs.{Answers, AnswersRewrap, IsBad, IsFed, IsLineStart, Ran, RanTo, RunView, bytes_after, longest_line, terminal_at, terminal_of}
 use Rattle.roam_scrollback_stream.specs.declared.faults.RowsFault.{RowsFault}
 use Rattle.roam_scrollback_stream.specs.declared.faults.RowsFault.TheVariants.{Record}
 use Rattle.roam_scrollback_stream.specs.declared.requests.Request.{Request}
-use Rattle.roam_scrollback_stream.specs.declared.requests.Request.TheVariants.{Pane, Size, Bytes, Screen, Gone}
+use Rattle.roam_scrollback_stream.specs.declared.requests.Request.TheVariants.{Pane, Size, Rewrap, Bytes, Screen, Gone}
 use Rattle.roam_cells.specs.declared.faults.Fault.{Fault}
 use Rattle.roam_text.specs.Log.{Byte, Item}
 
@@ -49,9 +51,28 @@ pub fed-behind : (w bytes : List ℕ) (old new : PaneView) (out out' : List ℕ)
     → IsFed bytes old new (w ++ out) (w ++ out')
 fed-behind w bytes old new out out' fed = record {
   tells = tells-behind w old.source new.source old.number out out' _ fed.tells;
+  from = from-behind w old.source new.source old.kept new.kept old.number out out' _ fed.from;
   held = fed.held;
   number = fed.number;
 }
+
+rewrap-behind : (w : List ℕ) (rows cols : ℕ) (old new : PaneView) (out out' : List ℕ) → AnswersRewrap rows cols old new out out'
+    → AnswersRewrap rows cols old new (w ++ out) (w ++ out')
+rewrap-behind w rows cols old new out out' (is_brought b) = is_brought (record {
+  is = b.is;
+  whole = b.whole;
+  lines = b.lines;
+  back = b.back;
+  text = b.text;
+  rewrapped = b.rewrapped;
+  kept = b.kept;
+  held = b.held;
+  number = b.number;
+  written = ap (λ l. w ++ l) b.written ∙ sym (append_assoc w out _);
+})
+rewrap-behind w rows cols old new out out' (is_later same text) = is_later same (ap (λ l. w ++ l) text ∙ sym (append_assoc w out _))
+rewrap-behind w rows cols old new out out' (is_other is same text) = is_other is same (ap (λ l. w ++ l) text ∙ sym (append_assoc w out _))
+rewrap-behind w rows cols old new out out' (is_refused same text) = is_refused same (ap (λ l. w ++ l) text ∙ sym (append_assoc w out _))
 
 pub answers-behind : (w : List ℕ) (normalize : Bool) (request : Request) (old new : Option PaneView) (out out' : List ℕ)
     → Answers normalize request old new out out' → Answers normalize request old new (w ++ out) (w ++ out')
@@ -64,10 +85,12 @@ answers-behind w normalize (Size n rows cols) old new out out' a = (
   record {
     is = a.4.is;
     tells = tells-behind w a.0.source a.1.source a.0.number out out' _ a.4.tells;
+    from = from-behind w a.0.source a.1.source a.0.kept a.1.kept a.0.number out out' _ a.4.from;
     held = a.4.held;
     number = a.4.number;
   },
 )
+answers-behind w normalize (Rewrap n rows cols) old new out out' a = (a.0, a.1, a.2, a.3, rewrap-behind w rows cols a.0 a.1 out out' a.4)
 answers-behind w normalize (Bytes n count) old new out out' a = (a.0, a.1, a.2, ap (λ l. w ++ l) a.3)
 answers-behind w normalize (Screen n) old new out out' a = (a.0, a.1, a.2, shows-behind w a.0.source a.0.number out out' a.3)
 answers-behind w normalize (Gone n) old new out out' a = (a.0, a.1, a.2, ap (λ l. w ++ l) a.3)
@@ -84,11 +107,12 @@ same-fed pane new place piece out out' was fed old is =
 
 pub fed-if-ok : (r : Result (Unit {0}) Fault) (pane new : PaneView) (place : Option PaneView) (piece out out' : List ℕ) → place ≡ Some pane
     → OnOk r (TellsAll pane.source new.source pane.number out out' (map Byte (fed_for pane.held piece)))
+    → OnOk r (TellsFrom pane.source pane.kept new.source new.kept pane.number out out' (map Byte (fed_for pane.held piece)))
     → OnOk r (new.held ≡ held_for pane.held piece) → OnOk r (new.number ≡ pane.number)
     → OnOk r ((old : PaneView) → place ≡ Some old → (x : PaneView) × (Some new ≡ Some x) × IsFed piece old x out out')
-fed-if-ok (Ok done) pane new place piece out out' was tells held number =
-    same-fed pane new place piece out out' was (record { tells = tells; held = held; number = number })
-fed-if-ok (Err fault) pane new place piece out out' was tells held number = tt
+fed-if-ok (Ok done) pane new place piece out out' was tells goes held number =
+    same-fed pane new place piece out out' was (record { tells = tells; from = goes; held = held; number = number })
+fed-if-ok (Err fault) pane new place piece out out' was tells goes held number = tt
 
 -- ---- places
 
@@ -105,6 +129,7 @@ in-list ts n there = grind (arith, get_or_past, there)
 pub in-range : (request : Request) → IsRequest request → terminal_of request < most_terminals
 in-range (Pane n rows cols) is = is.terminal
 in-range (Size n rows cols) is = is.terminal
+in-range (Rewrap n rows cols) is = is.terminal
 in-range (Bytes n count) is = is.0
 in-range (Screen n) is = is
 in-range (Gone n) is = is
@@ -153,6 +178,7 @@ pub there-after : (normalize : Bool) (request : Request) (ts : List (Option Pane
     → is_some (terminal_at (slice_set ts (terminal_of request) place) (terminal_of request)) ≡ true
 there-after normalize (Pane n rows cols) ts place out out' a some = absurd (omega (arith, some))
 there-after normalize (Size n rows cols) ts place out out' a some = absurd (omega (arith, some))
+there-after normalize (Rewrap n rows cols) ts place out out' a some = absurd (omega (arith, some))
 there-after normalize (Bytes n count) ts place out out' a some =
     ap (λ (p : Option PaneView). is_some (terminal_at (slice_set ts n p) n)) a.2
     ∙ ap (λ (l : List (Option PaneView)). is_some (terminal_at l n)) (set-get_or ts n None) ∙ ap is_some a.1

@@ -1,18 +1,25 @@
 -- A terminal whose rows are reported, with the filter before it.
-use Rattle.std.specs.Prelude.{◌≡◌, ℕ, List, [], ◌∷◌, ◌++◌, Option, Some, None}
-use Rattle.roam_scrollback.specs.Lines.{LeftRow, LinesView, Writes, no_lines}
-use Rattle.roam_scrollback.specs.Sources.{SourceView, IsCleared, IsSource, left_through, rows_shown}
+use Rattle.std.specs.Prelude.{◌≡◌, ℕ, ◌||◌, nat_lt, Bool, false, if◌then◌else◌, List, [], ◌∷◌, ◌++◌, length, Option, Some, None}
+use Rattle.std.specs.List.{flat_map}
+use Rattle.roam_rewrap.specs.Lines.{TextRow}
+use Rattle.roam_scrollback.specs.Lines.{Keeps, LeftRow, LinesView, Writes, no_lines}
+use Rattle.roam_scrollback.specs.Sources.{SourceView, IsCleared, IsSource, left_through, rows_shown, rows_through, wraps_through}
+use Rattle.roam_scrollback.specs.declared.wraps.Wrap.{Wrap}
 use Rattle.roam_normalize.specs.Normalized.{normalized_part, held_part}
-use Rattle.roam_scrollback_stream.specs.Records.{Part, Tells, screen_text}
+use Rattle.roam_scrollback_stream.specs.Records.{Part, Tells, part_text, screen_text}
+use Rattle.roam_term.specs.Terminal.{Live, live_after}
 use Rattle.roam_text.specs.Functions.{functions_of}
 use Rattle.roam_text.specs.Log.{Item}
+use Rattle.roam_text.specs.Stands.{Stands as Reads}
 use Rattle.roam_text.specs.declared.functions.Function.{Function}
 
--- the view of a terminal: its number, the terminal, and the bytes that its filter keeps back, if it has one
+-- the view of a terminal: its number, the terminal, the bytes that its filter keeps back, if it has one, and the last rows that left, as
+-- text
 pub record PaneView : Type 0 where
   pub number : ℕ
   pub source : SourceView
   pub held : Option (List ℕ)
+  pub kept : List TextRow
 
 -- the output, and the lines that are made for it
 pub record TellingsView : Type 0 where
@@ -27,6 +34,15 @@ fed_for (Some held) piece = normalized_part (held ++ piece)
 abbrev pub held_for : Option (List ℕ) → List ℕ → Option (List ℕ)
 held_for None piece = None
 held_for (Some held) piece = Some (held_part (held ++ piece))
+
+-- the filter keeps bytes back
+abbrev pub is_holding : Option (List ℕ) → Bool
+is_holding None = false
+is_holding (Some held) = nat_lt 0 (length held)
+
+-- the rows that are kept behind lines: none once what left is erased, or a row was lost
+abbrev pub kept_behind : Bool → LinesView → List TextRow
+kept_behind cleared lines = if (cleared || nat_lt 0 lines.lost) then [] else lines.kept
 
 -- A part of the items behind a log. Its rows are those that left by it. It reports that the earlier rows are erased exactly if the last of
 -- its functions erases them.
@@ -53,6 +69,49 @@ pub record Told (new : SourceView) (n : ℕ) (out out' : List ℕ) (rows cols : 
 abbrev pub TellsAll : SourceView → SourceView → ℕ → List ℕ → List ℕ → List Item → Type 0
 TellsAll old new n out out' items =
     (rows cols : ℕ) (log : List Item) → IsSource old rows cols log → Told new n out out' rows cols log (log ++ items)
+
+-- ---- from whatever a terminal is, as behind another size with its text whole
+
+-- a part, and the functions that made its rows leave
+pub record Piece : Type 0 where
+  pub part : Part
+  pub came : List Function
+
+abbrev pub came_in : Piece → List Function
+came_in piece = piece.came
+
+abbrev pub rows_in : Piece → List LeftRow
+rows_in piece = piece.part.rows
+
+-- A piece of the items behind a log, from a terminal in a state. Its rows are those that leave by it. It reports that the earlier rows are
+-- erased exactly if the last of its functions erases them.
+pub record IsPiece (l : Live) (wraps : List Wrap) (log : List Item) (piece : Piece) : Type 0 where
+  pub functions : functions_of (log ++ piece.part.items) ≡ functions_of log ++ piece.came
+  pub rows : piece.part.rows ≡ rows_through l piece.came wraps
+  pub cleared : IsCleared piece.part.is_cleared piece.came
+
+-- the pieces of the items between one log and a later one, in order
+abbrev pub ArePieces : Live → List Wrap → List Item → List Item → List Piece → Type 0
+ArePieces l wraps log later [] = later ≡ log
+ArePieces l wraps log later (piece ∷ pieces) =
+    IsPiece l wraps log piece
+    × ArePieces (live_after l piece.came) (wraps_through l piece.came wraps) (log ++ piece.part.items) later pieces
+
+-- the items behind a log were read, the rows that left by them were reported, and the last of them are kept
+pub record ToldFrom (old : SourceView) (before : List TextRow) (new : SourceView) (after : List TextRow) (n : ℕ) (out out' : List ℕ)
+    (log later : List Item) : Type 0 where
+  pub reads : Reads new.reader later
+  pub pieces : List Piece
+  pub are : ArePieces old.live old.wraps log later pieces
+  pub live : new.live ≡ live_after old.live (flat_map came_in pieces)
+  pub wraps : new.wraps ≡ wraps_through old.live (flat_map came_in pieces) old.wraps
+  pub text : out' ≡ out ++ flat_map (λ (piece : Piece). part_text n piece.part) pieces
+  pub kept : Keeps before (flat_map rows_in pieces) after
+
+-- for every log that its reader has read
+abbrev pub TellsFrom : SourceView → List TextRow → SourceView → List TextRow → ℕ → List ℕ → List ℕ → List Item → Type 0
+TellsFrom old kept new kept' n out out' items =
+    (log : List Item) → Reads old.reader log → ToldFrom old kept new kept' n out out' log (log ++ items)
 
 -- all rows of the shown screen were reported
 pub record ShowsAll (source : SourceView) (n : ℕ) (out out' : List ℕ) : Type 0 where

@@ -2,6 +2,8 @@
 use Rattle.std.specs.Prelude.{◌≡◌, ℕ, ◌==◌, Bool, List, [], ◌++◌, length, codes, decimal, if◌then◌else◌}
 use Rattle.std.specs.List.{flat_map}
 use Rattle.roam_scrollback.specs.Lines.{LeftRow, LinesView, Writes, no_lines}
+use Rattle.roam_scrollback.specs.declared.rewraps.NotRewrapped.{NotRewrapped}
+use Rattle.roam_scrollback.specs.declared.rewraps.NotRewrapped.TheVariants.{Later, OtherScreen, Refused}
 use Rattle.roam_text.specs.Log.{Item}
 
 -- the record of a terminal's lines: their number and bytes; empty for none
@@ -22,6 +24,24 @@ cleared_text n cleared = if cleared then codes "cleared " ++ decimal n ++ codes 
 abbrev pub screen_text : ℕ → LinesView → List ℕ
 screen_text n lines =
     codes "screen " ++ decimal n ++ codes " " ++ decimal lines.count ++ codes " " ++ decimal (length lines.text) ++ codes "\n" ++ lines.text
+
+-- a word and a terminal
+abbrev pub named_text : List ℕ → ℕ → List ℕ
+named_text word n = word ++ decimal n ++ codes "\n"
+
+-- why a terminal was not brought to another size
+abbrev pub refusal_word : NotRewrapped → List ℕ
+refusal_word Later = codes "later "
+refusal_word OtherScreen = codes "other "
+refusal_word Refused = codes "none "
+
+-- so many rows that were reported are back on the screen, or are reported anew behind this
+abbrev pub back_text : ℕ → ℕ → List ℕ
+back_text n back = if (back == 0) then [] else codes "back " ++ decimal n ++ codes " " ++ decimal back ++ codes "\n"
+
+-- the text that brings another terminal to the new size
+abbrev pub brought_text : ℕ → List ℕ → List ℕ
+brought_text n text = codes "text " ++ decimal n ++ codes " " ++ decimal (length text) ++ codes "\n" ++ text
 
 -- a terminal's items, the rows that left by them, their lines, and true if the earlier rows are erased
 pub record Part : Type 0 where

@@ -1,7 +1,7 @@
 -- The records that are asked with (this project's profile), a line each, without its LF.
 use Rattle.std.specs.Prelude.{ℕ, ◌^◌, ◌<◌, List, ◌∷◌, ◌++◌, codes, decimal}
 use Rattle.roam_scrollback_stream.specs.declared.requests.Request.{Request}
-use Rattle.roam_scrollback_stream.specs.declared.requests.Request.TheVariants.{Pane, Size, Bytes, Screen, Gone}
+use Rattle.roam_scrollback_stream.specs.declared.requests.Request.TheVariants.{Pane, Size, Rewrap, Bytes, Screen, Gone}
 
 -- so many terminals, numbered from 0
 abbrev pub most_terminals : ℕ
@@ -19,6 +19,7 @@ counted_text n count = decimal n ++ 0x20 ∷ decimal count
 abbrev pub request_text : Request → List ℕ
 request_text (Pane n rows cols) = codes "pane " ++ sized_text n rows cols
 request_text (Size n rows cols) = codes "size " ++ sized_text n rows cols
+request_text (Rewrap n rows cols) = codes "rewrap " ++ sized_text n rows cols
 request_text (Bytes n count) = codes "bytes " ++ counted_text n count
 request_text (Screen n) = codes "screen " ++ decimal n
 request_text (Gone n) = codes "gone " ++ decimal n
@@ -33,6 +34,7 @@ pub record IsSized (n rows cols : ℕ) : Type 0 where
 abbrev pub IsRequest : Request → Type 0
 IsRequest (Pane n rows cols) = IsSized n rows cols
 IsRequest (Size n rows cols) = IsSized n rows cols
+IsRequest (Rewrap n rows cols) = IsSized n rows cols
 IsRequest (Bytes n count) = (n < most_terminals) × (count < 2 ^ 64)
 IsRequest (Screen n) = n < most_terminals
 IsRequest (Gone n) = n < most_terminals

@@ -1,12 +1,15 @@
 -- A run of `roam rows`: which records it reads and how it answers each (this project's profile). Cited by `run_rows`.
-use Rattle.std.specs.Prelude.{◌≡◌, ◌≢◌, ◌⊎◌, ℕ, zero, suc, ◌-◌, ◌^◌, ◌<◌, ◌≤◌, min, Bool, List, [], ◌∷◌, ◌++◌, length, map, replicate, slice_index_or, slice_set, Option, Some, None, if◌then◌else◌}
+use Rattle.std.specs.Prelude.{◌≡◌, ◌≢◌, ◌⊎◌, ℕ, zero, suc, ◌-◌, ◌^◌, ◌<◌, ◌≤◌, min, Bool, List, [], ◌∷◌, ◌++◌, codes, false, length, map, replicate, slice_index_or, slice_set, Option, Some, None, true, if◌then◌else◌}
 use Rattle.std.specs.List.{All}
 use Rattle.roam_cells.specs.Limits.{IsSize}
+use Rattle.roam_scrollback.specs.Lines.{LinesView, lines_behind}
+use Rattle.roam_scrollback.specs.Rewraps.{IsRewrapped}
 use Rattle.roam_scrollback.specs.Sources.{IsSource}
-use Rattle.roam_scrollback_stream.specs.Panes.{PaneView, ShowsAll, TellsAll, fed_for, held_for}
+use Rattle.roam_scrollback_stream.specs.Panes.{PaneView, ShowsAll, TellsAll, TellsFrom, fed_for, held_for, is_holding, kept_behind}
+use Rattle.roam_scrollback_stream.specs.Records.{back_text, brought_text, lost_text, named_text, rows_text}
 use Rattle.roam_scrollback_stream.specs.Requests.{IsRequest, most_terminals, request_text}
 use Rattle.roam_scrollback_stream.specs.declared.requests.Request.{Request}
-use Rattle.roam_scrollback_stream.specs.declared.requests.Request.TheVariants.{Pane, Size, Bytes, Screen, Gone}
+use Rattle.roam_scrollback_stream.specs.declared.requests.Request.TheVariants.{Pane, Size, Rewrap, Bytes, Screen, Gone}
 use Rattle.roam_text.specs.Log.{Byte, Resized}
 
 -- the most bytes of a record's line, without its LF
@@ -17,6 +20,7 @@ longest_line = 64
 abbrev pub terminal_of : Request → ℕ
 terminal_of (Pane n rows cols) = n
 terminal_of (Size n rows cols) = n
+terminal_of (Rewrap n rows cols) = n
 terminal_of (Bytes n count) = n
 terminal_of (Screen n) = n
 terminal_of (Gone n) = n
@@ -39,19 +43,45 @@ pub record IsNewPane (normalize : Bool) (n rows cols : ℕ) (pane : PaneView) : 
   pub number : pane.number ≡ n
   pub source : IsSource pane.source rows cols []
   pub held : pane.held ≡ (if normalize then Some [] else None)
+  pub kept : pane.kept ≡ []
 
 -- a terminal is given another size, and the rows that leave by it are written
 pub record IsResized (rows cols : ℕ) (old new : PaneView) (out out' : List ℕ) : Type 0 where
   pub is : IsSize rows cols
   pub tells : TellsAll old.source new.source old.number out out' (Resized rows cols ∷ [])
+  pub from : TellsFrom old.source old.kept new.source new.kept old.number out out' (Resized rows cols ∷ [])
   pub held : new.held ≡ old.held
   pub number : new.number ≡ old.number
 
 -- a terminal is fed bytes, through the filter if there is one, and the rows that leave by them are written
 pub record IsFed (bytes : List ℕ) (old new : PaneView) (out out' : List ℕ) : Type 0 where
   pub tells : TellsAll old.source new.source old.number out out' (map Byte (fed_for old.held bytes))
+  pub from : TellsFrom old.source old.kept new.source new.kept old.number out out' (map Byte (fed_for old.held bytes))
   pub held : new.held ≡ held_for old.held bytes
   pub number : new.number ≡ old.number
+
+-- A terminal gets another size with its text whole: the rows that come back are withdrawn, the rows that leave then are written, and so is
+-- the text that leads another terminal there.
+pub record IsBrought (rows cols : ℕ) (old new : PaneView) (out out' : List ℕ) : Type 0 where
+  pub is : IsSize rows cols
+  pub whole : is_holding old.held ≡ false
+  pub lines : LinesView
+  pub back : ℕ
+  pub text : List ℕ
+  pub rewrapped : IsRewrapped old.source new.source (lines_behind old.kept) lines rows cols back text
+  pub kept : new.kept ≡ kept_behind false lines
+  pub held : new.held ≡ old.held
+  pub number : new.number ≡ old.number
+  pub written : out' ≡ out ++ (back_text old.number back ++ (rows_text old.number lines ++ (lost_text old.number lines ++ brought_text old.number text)))
+
+-- Either that is done; or nothing changes, and a word gives the reason: the terminal is within a sequence or a character, the other screen
+-- is shown, or it can't be done.
+pub data AnswersRewrap (rows cols : ℕ) (old new : PaneView) (out out' : List ℕ) : Type 0 where
+  is_brought : IsBrought rows cols old new out out' → AnswersRewrap rows cols old new out out'
+  is_later : new ≡ old → out' ≡ out ++ named_text (codes "later ") old.number → AnswersRewrap rows cols old new out out'
+  is_other : old.source.live.alternate ≡ true → new ≡ old → out' ≡ out ++ named_text (codes "other ") old.number
+      → AnswersRewrap rows cols old new out out'
+  is_refused : new ≡ old → out' ≡ out ++ named_text (codes "none ") old.number → AnswersRewrap rows cols old new out out'
 
 -- the effect of a request on its terminal's place, and the output for it; its bytes are fed afterwards
 abbrev pub Answers : Bool → Request → Option PaneView → Option PaneView → List ℕ → List ℕ → Type 0
@@ -59,6 +89,8 @@ Answers normalize (Pane n rows cols) old new out out' =
     (pane : PaneView) × (new ≡ Some pane) × IsNewPane normalize n rows cols pane × (out' ≡ out)
 Answers normalize (Size n rows cols) old new out out' =
     (pane sized : PaneView) × (old ≡ Some pane) × (new ≡ Some sized) × IsResized rows cols pane sized out out'
+Answers normalize (Rewrap n rows cols) old new out out' =
+    (pane sized : PaneView) × (old ≡ Some pane) × (new ≡ Some sized) × AnswersRewrap rows cols pane sized out out'
 Answers normalize (Bytes n count) old new out out' = (pane : PaneView) × (old ≡ Some pane) × (new ≡ old) × (out' ≡ out)
 Answers normalize (Screen n) old new out out' = (pane : PaneView) × (old ≡ Some pane) × (new ≡ old) × ShowsAll pane.source pane.number out out'
 Answers normalize (Gone n) old new out out' = (pane : PaneView) × (old ≡ Some pane) × (new ≡ None) × (out' ≡ out)
@@ -67,6 +99,7 @@ Answers normalize (Gone n) old new out out' = (pane : PaneView) × (old ≡ Some
 abbrev pub IsMisplaced : Request → Option PaneView → Type 0
 IsMisplaced (Pane n rows cols) old = ¬ IsSize rows cols
 IsMisplaced (Size n rows cols) old = (old ≡ None) ⊎ (¬ IsSize rows cols)
+IsMisplaced (Rewrap n rows cols) old = (old ≡ None) ⊎ (¬ IsSize rows cols)
 IsMisplaced request old = old ≡ None
 
 -- ---- a whole run

@@ -1,6 +1,6 @@
 //! The records about rows.
 ghost use Rattle.std.specs.Prelude.{◌≡◌, ◌++◌, ◌==◌, [], codes, decimal, length, OnOk, if◌then◌else◌};
-ghost use Rattle.roam_scrollback_stream.specs.Records.{rows_text, lost_text, cleared_text, screen_text};
+ghost use Rattle.roam_scrollback_stream.specs.Records.{back_text, brought_text, cleared_text, lost_text, named_text, rows_text, screen_text};
 
 use itoa::{Buffer, Integer};
 use roam_scrollback::LeftLines;
@@ -68,4 +68,34 @@ pub fn push_screen(out: &mut Vec<u8>, number: u16, lines: &LeftLines) -> Result<
     ensures text { OnOk result (out.new.items ≡ out.old.items ++ screen_text number lines.now) }
 {
     push_lines(out, "screen ", number, lines)
+}
+
+/// A word and a terminal.
+pub fn push_named(out: &mut Vec<u8>, word: &str, number: u16) -> Result<(), AllocError>
+    ensures text { OnOk result (out.new.items ≡ out.old.items ++ named_text word.now number) }
+{
+    push_number(out, word, number)?;
+    out.extend_from_slice(b"\n")
+}
+
+/// So many rows that were reported are back.
+pub fn push_back(out: &mut Vec<u8>, number: u16, back: usize) -> Result<(), AllocError>
+    ensures text { OnOk result (out.new.items ≡ out.old.items ++ back_text number back) }
+{
+    if back == 0 {
+        return Ok(());
+    }
+    push_number(out, "back ", number)?;
+    push_number(out, " ", back)?;
+    out.extend_from_slice(b"\n")
+}
+
+/// The text that brings another terminal to the new size.
+pub fn push_text(out: &mut Vec<u8>, number: u16, text: &[u8]) -> Result<(), AllocError>
+    ensures text { OnOk result (out.new.items ≡ out.old.items ++ brought_text number text.now) }
+{
+    push_number(out, "text ", number)?;
+    push_number(out, " ", text.len())?;
+    out.extend_from_slice(b"\n")?;
+    out.extend_from_slice(text)
 }

@@ -17,6 +17,8 @@ pub enum Request {
     Pane(u16, u16, u16),
     /// Another size, of so many rows and columns.
     Size(u16, u16, u16),
+    /// Another size with its text whole, of so many rows and columns.
+    Rewrap(u16, u16, u16),
     /// So many bytes follow, which its program wrote.
     Bytes(u16, u64),
     /// The rows of its screen are asked for.
@@ -33,6 +35,7 @@ impl Request {
         match self {
             Request::Pane(number, ..)
             | Request::Size(number, ..)
+            | Request::Rewrap(number, ..)
             | Request::Bytes(number, _)
             | Request::Screen(number)
             | Request::Gone(number) => number,
@@ -108,6 +111,15 @@ fn behind_size(text: &[u8]) -> Option<Request>
     Some(Request::Size(number, rows, cols))
 }
 
+// Reads the text behind `rewrap `.
+fn behind_rewrap(text: &[u8]) -> Option<Request>
+    ensures found { IfSome result (λ request. IsRequest request × (codes "rewrap " ++ text.now ≡ request_text request)) }
+    ensures only { (request : RequestOf) → IsRequest request → codes "rewrap " ++ text.now ≡ request_text request → result ≡ Some request }
+{
+    let (number, rows, cols) = sized(text)?;
+    Some(Request::Rewrap(number, rows, cols))
+}
+
 // Reads the text behind `bytes `.
 fn behind_bytes(text: &[u8]) -> Option<Request>
     ensures found { IfSome result (λ request. IsRequest request × (codes "bytes " ++ text.now ≡ request_text request)) }
@@ -145,6 +157,9 @@ pub fn request_of(line: &[u8]) -> Option<Request>
     }
     if let Some(text) = line.strip_prefix(b"size ".as_slice()) {
         return behind_size(text);
+    }
+    if let Some(text) = line.strip_prefix(b"rewrap ".as_slice()) {
+        return behind_rewrap(text);
     }
     if let Some(text) = line.strip_prefix(b"bytes ".as_slice()) {
         return behind_bytes(text);

@@ -8,7 +8,7 @@ ghost use Rattle.roam_scrollback_stream.specs.Requests.{IsRequest, most_terminal
 ghost use Rattle.roam_scrollback_stream.specs.Runs.{IsFed, IsLineStart, Ran, RanTo, bytes_after, longest_line, no_terminals, terminal_at, terminal_of};
 ghost use Rattle.roam_scrollback_stream.specs.declared.faults.RowsFault.TheVariants.{Read as ReadFailed, Record as BadRecord, Write as WriteFailed};
 ghost use Rattle.roam_scrollback_stream.specs.declared.requests.Request.{Request as RequestOf};
-ghost use Rattle.roam_scrollback_stream.specs.declared.requests.Request.TheVariants.{Pane as Opens, Size as Resizes, Screen as Shows};
+ghost use Rattle.roam_scrollback_stream.specs.declared.requests.Request.TheVariants.{Pane as Opens, Rewrap as Rewraps, Size as Resizes, Screen as Shows};
 
 use crate::faults::RowsFault;
 use crate::panes::{Pane, Tellings};
@@ -67,6 +67,30 @@ fn resize(
     Ok(true)
 }
 
+// Gives the terminal at a place another size with its text whole, or says why it can't. Returns false if none is there, or the size is no
+// size of a screen.
+fn rewrap(
+    place: &mut Option<Pane>,
+    alloc: Global,
+    rows: u16,
+    cols: u16,
+    tellings: &mut Tellings,
+) -> Result<bool, Fault>
+    requires none { tellings.old.lines ≡ no_lines }
+    ensures rewraps { IfOk result (λ done. (normalize : Bool) (n : ℕ)
+        → DoesOrNot done normalize (Rewraps n rows cols) place.old place.new tellings.old.out tellings.new.out) }
+    ensures none { OnOk result (tellings.new.lines ≡ no_lines) }
+{
+    let Some(pane) = place else {
+        return Ok(false);
+    };
+    if !is_size(rows, cols) {
+        return Ok(false);
+    }
+    pane.rewrap(alloc, rows, cols, tellings)?;
+    Ok(true)
+}
+
 // Writes the rows of the screen of the terminal at a place. Returns false if none is there.
 fn show(place: &Option<Pane>, tellings: &mut Tellings) -> Result<bool, Fault>
     requires none { tellings.old.lines ≡ no_lines }
@@ -96,6 +120,7 @@ fn answer(
     match request {
         Request::Pane(number, rows, cols) => open(place, alloc, normalize, number, rows, cols),
         Request::Size(_, rows, cols) => resize(place, alloc, rows, cols, tellings),
+        Request::Rewrap(_, rows, cols) => rewrap(place, alloc, rows, cols, tellings),
         Request::Bytes(..) => Ok(place.is_some()),
         Request::Screen(_) => show(place, tellings),
         Request::Gone(_) => Ok(place.take().is_some()),
@@ -464,6 +489,7 @@ fn read_all<R: Read, W: Write>(
 /// |---|---|
 /// | `pane N ROWS COLS` | puts a new terminal at N, 0 to 1,023, of 2 to 200 rows and 4 to 500 columns |
 /// | `size N ROWS COLS` | gives the terminal another size |
+/// | `rewrap N ROWS COLS` | gives the terminal another size with its text whole, or writes the reason against it |
 /// | `bytes N LENGTH`, and that many bytes | feeds the bytes to the terminal |
 /// | `screen N` | writes the rows of the terminal's screen |
 /// | `gone N` | removes the terminal |

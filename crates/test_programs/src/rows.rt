@@ -274,6 +274,175 @@ fn sizes_clearings_and_meanings(rt: HostRuntime) {
     assert!(rt; are_told(alloc, again, false, BLANK));
 }
 
+// What a terminal is fed first at another size, before the rows of its screen: IRM and DECSCNM are reset; ASCII to G0
+// and SI, DECAWM, full margins, the default style; the cursor is hidden, and all is erased.
+const HEAD: &str = "\x1B[4l\x1B[?5l\x1B(B\x0F\x1B[?7h\x1B[0r\x1B[0m\x1B[?25l\x1B[2J";
+
+// Cases of another size with its text whole, with a line = between them: the rows and columns of the screen, those that it gets, and a
+// name; what is fed; behind a line => what is told, in this order: behind `<` how many rows are back, behind a bar the lines of rows that
+// leave, and behind `@` what the terminal is fed behind the head above. Behind `!` stands a word in place of all of these.
+const REWRAPS: &str = "\
+2 8 2 4 narrower: the first row leaves, and the cursor stays behind y
+abcdefgh\r\nxy
+=>
+|+abcd
+@\x1B[1;1Hefgh\x1B[2;1Hxy\x1B[0m\x1B[2;3H\x1B[?25h\x1B[0m
+=
+2 4 2 8 wider: the row that autowrap left is back
+abcdefghxy
+=>
+<1
+@\x1B[1;1Habcdefgh\x1B[2;1Hxy\x1B[0m\x1B[2;3H\x1B[?25h\x1B[0m
+=
+3 4 3 8 none is back while rows at the bottom are blank
+a\r\nb\r\nc\r\nd\x1B[H\x1B[J1
+=>
+@\x1B[1;1H1\x1B[0m\x1B[1;2H\x1B[?25h\x1B[0m
+=
+2 4 2 8 the column that a wide character left is no text
+abc\u{4E2D}d
+=>
+@\x1B[1;1Habc\u{4E2D}d\x1B[0m\x1B[1;7H\x1B[?25h\x1B[0m
+=
+2 4 2 8 a space that was written there is
+abc \u{4E2D}d
+=>
+@\x1B[1;1Habc\x1B[1;5H\u{4E2D}d\x1B[0m\x1B[1;8H\x1B[?25h\x1B[0m
+=
+2 8 2 5 a wide character that the last column would cut
+abcd\u{4E2D}
+=>
+@\x1B[1;1Habcd\x1B[2;1H\u{4E2D}\x1B[0m\x1B[2;3H\x1B[?25h\x1B[0m
+=
+2 8 2 4 a wrap is pending behind a full row
+\x1B[1mabcd
+=>
+@\x1B[1;1H\x1B[0;1mabcd\x1B[0m\x1B[1;4H\x1B[?25h\x1B[0;1md\x1B[0;1m
+=
+2 4 2 8 none is behind a row that is no longer full
+abcd
+=>
+@\x1B[1;1Habcd\x1B[0m\x1B[1;5H\x1B[?25h\x1B[0m
+=
+3 8 2 8 fewer rows: those below the cursor go first if they are blank
+a\r\nb
+=>
+@\x1B[1;1Ha\x1B[2;1Hb\x1B[0m\x1B[2;2H\x1B[?25h\x1B[0m
+=
+2 8 3 8 more rows: one that left is back
+a\r\nb\r\nc
+=>
+<1
+@\x1B[1;1Ha\x1B[2;1Hb\x1B[3;1Hc\x1B[0m\x1B[3;2H\x1B[?25h\x1B[0m
+=
+2 8 3 8 ED 3 erases it
+a\r\nb\x1B[3J\r\nc\x1B[3J
+=>
+@\x1B[1;1Hb\x1B[2;1Hc\x1B[0m\x1B[2;2H\x1B[?25h\x1B[0m
+=
+2 8 2 4 modes are as they were
+ab\x1B[4h\x1B[?5h\x1B[?7l\x1B[?25l
+=>
+@\x1B[1;1Hab\x1B[0m\x1B[1;3H\x1B[0m\x1B[?7l\x1B[4h\x1B[?5h
+=
+2 8 2 4 within a sequence
+a\x1B[1
+=>
+!later
+=
+2 8 2 4 behind ESC
+a\u{4E2D}\x1B
+=>
+!later
+=
+2 8 2 4 a character that is not ASCII comes next
+\x1B(0
+=>
+!later
+=
+2 8 2 4 the other screen
+\x1B[?1049h
+=>
+!other
+=
+2 8 2 4 rows count from a margin
+\x1B[?6h
+=>
+!none
+=
+2 8 2 4 a cell is guarded
+\x1B[1\"qa\x1B[0\"q
+=>
+!none
+=
+2 8 2 4 the guard is on
+\x1B[1\"q
+=>
+!none";
+
+// Adds what a line of a case says is told.
+fn push_told(alloc: Global, told: &mut String, line: &str) -> Result<(), AllocError> {
+    if let Some(back) = line.strip_prefix("<") {
+        told.push_str(format!(in alloc; "back 7 {back}\n")?.as_str())?;
+    } else if let Some(row) = line.strip_prefix("|") {
+        told.push_str(format!(in alloc;
+            "rows 7 1 {}\n{row}\n",
+            row.len().saturating_add(1)
+        )?.as_str())?;
+    } else if let Some(rest) = line.strip_prefix("@") {
+        let count = HEAD.len().saturating_add(rest.len());
+        told.push_str(format!(in alloc; "text 7 {count}\n{HEAD}{rest}")?.as_str())?;
+    } else if let Some(word) = line.strip_prefix("!") {
+        told.push_str(format!(in alloc; "{word} 7\n")?.as_str())?;
+    }
+    Ok(())
+}
+
+// Whether a run tells this for the last record, behind what it tells for those before it.
+fn tells_last(
+    alloc: Global,
+    asked: &str,
+    last: &str,
+    normalize: bool,
+    told: &str,
+) -> Result<bool, AllocError> {
+    let all = format!(in alloc; "{asked}{last}")?;
+    let Ok(before) = told_of(alloc, asked, normalize) else {
+        return Ok(false);
+    };
+    let Ok(after) = told_of(alloc, all.as_str(), normalize) else {
+        return Ok(false);
+    };
+    let count = before.len().min(after.len());
+    Ok(after.as_slice().split_at(count).1 == told.as_bytes())
+}
+
+fn is_rewrapped(alloc: Global, case: &str) -> Result<bool, AllocError> {
+    let (head, rest) = case.split_once('\n').unwrap_or((case, ""));
+    let (bytes, lines) = rest.split_once("\n=>\n").unwrap_or((rest, ""));
+    let mut words = head.split(' ');
+    let rows = number_in(words.next());
+    let cols = number_in(words.next());
+    let later_rows = number_in(words.next());
+    let later_cols = number_in(words.next());
+    let asked = format!(in alloc; "pane 7 {rows} {cols}\nbytes 7 {}\n{bytes}", bytes.len())?;
+    let last = format!(in alloc; "rewrap 7 {later_rows} {later_cols}\n")?;
+    let mut told = String::new(alloc);
+    for line in lines.split('\n') {
+        push_told(alloc, &mut told, line)?;
+    }
+    let is_plain = tells_last(alloc, asked.as_str(), last.as_str(), false, told.as_str())?;
+    let is_filtered = tells_last(alloc, asked.as_str(), last.as_str(), true, told.as_str())?;
+    Ok(is_plain && is_filtered)
+}
+
+#[test]
+fn sizes_with_their_text_whole(rt: HostRuntime) {
+    for case in REWRAPS.split("\n=\n") {
+        assert!(rt; is_rewrapped(rt.alloc(), case) == Ok(true), "{case:?}");
+    }
+}
+
 // How a run ends that fails at a read, or at a call of its writer.
 fn ends(alloc: Global, read: u32, call: u32) -> Result<(), RowsFault> {
     let mut reader = Cut::new(b"pane 0 2 8\nscreen 0\n", 20, 20);

@@ -1,0 +1,36 @@
+use Rattle.std.proofs.Common.{◌≡◌, ◌+◌, ◌-◌, ◌++◌, drop, ap, subst, ◌∙◌, arith}
+use Rattle.roam_controls.specs.declared.modes.Modes.{Modes}
+use Rattle.roam_grid.specs.Screen.{Screen}
+use Rattle.roam_rewrap.specs.Windows.{reflowed}
+use Rattle.roam_scrollback.specs.Rewraps.{IsHeight, IsRewrapText, columns_before, screen_text}
+use Rattle.roam_scrollback.proofs.rewraps.prepare.Goals as goal
+use Rattle.roam_term.specs.Terminal.{Live}
+
+pub returns : goal.returns
+returns c =
+    let live = c.args.surface.now.live in
+    let first = c.first_row-first.result in
+    let back = c.len-count.result - first in
+    let screen : c.grid-grid.result.now.screen ≡ live.screen =
+    c.grid-grid.ensures.screen ∙ ap (λ (l : Live). l.screen) c.canvas-canvas.ensures.live in
+    let all : c.deref-2.result.now ≡ c.args.kept.now ++ screen_text c.height_of-height.result live.screen c.args.surface.now.wraps =
+    c.deref-2.ensures.value ∙ c.in_ok-all.ensures.rows in
+    let row : back + (c.cursor-row.result.0 - 1) ≡ back + live.screen.row =
+    omega (arith, c.cursor-row.ensures.row, ap (λ (s : Screen). s.row) screen) in
+    let col : c.columns_before.result ≡ columns_before live.screen = c.columns_before.ensures.columns ∙ ap columns_before screen in
+    let visible : c.modes-visible.result.cursor_visible ≡ live.modes.cursor_visible =
+    ap (λ (m : Modes). m.cursor_visible) (c.modes-visible.ensures.modes ∙ ap (λ (l : Live). l.modes) c.canvas-canvas.ensures.live) in
+    let reflow : c.in-Some.reflow ≡ reflowed (drop first c.deref-2.result.now)
+    (record { row = back + (c.cursor-row.result.0 - 1); col = c.columns_before.result }) c.args.rows c.args.cols
+    c.modes-visible.result.cursor_visible = rw c.in-Some.is at c.in_ok-reflow.ensures.reflowed in
+    let text : IsRewrapText c.canvas-canvas.result.now.live c.in-Some.reflow c.in-Some-2.text.items =
+    rw c.in-Some-2.is at c.in_ok-text.ensures.text in
+    record {
+      prepared = record {
+        height = c.height_of-height.result;
+        is_height = subst (λ s. IsHeight s c.height_of-height.result) screen c.height_of-height.ensures.height;
+        counted = omega (arith, c.first_row-first.ensures.within, c.len-count.ensures.len);
+        is = reflow ∙ (λ i. reflowed (drop first (all i)) (record { row = row i; col = col i }) c.args.rows c.args.cols (visible i));
+        brings = subst (λ (l : Live). IsRewrapText l c.in-Some.reflow c.in-Some-2.text.items) c.canvas-canvas.ensures.live text;
+      };
+    }

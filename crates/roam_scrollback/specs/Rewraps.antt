@@ -1,0 +1,153 @@
+-- The main screen at another size, with its text whole. The kept rows that left and the screen's rows are text, which wraps at the new
+-- width (this project's profile).
+use Rattle.std.specs.Prelude.{◌≡◌, ℕ, zero, suc, ◌+◌, ◌-◌, ◌==◌, ◌&&◌, ◌<◌, ◌≤◌, max, not, Bool, true, false, List, [], ◌∷◌, ◌++◌, codes, drop, length, map, take, None, if◌then◌else◌}
+use Rattle.roam_cells.specs.Glyph.{Glyph, IsStyle}
+use Rattle.roam_cells.specs.Place.{cell_at, row_of}
+use Rattle.roam_charset.specs.declared.charsets.Charset.TheVariants.{Ascii}
+use Rattle.roam_charset.specs.declared.sets.Element.TheVariants.{G0}
+use Rattle.roam_controls.specs.declared.modes.Modes.{Modes}
+use Rattle.roam_grid.specs.Screen.{Screen}
+use Rattle.roam_repaint.specs.Repainted.{MayPend, column_after}
+use Rattle.roam_repaint.specs.Repainting.{Repaint, repaint_text}
+use Rattle.roam_rewrap.specs.Lines.{TextRow}
+use Rattle.roam_rewrap.specs.Windows.{ReflowView, reflowed, shown_rows}
+use Rattle.roam_screens.specs.Screenshot.{IsScreenshot}
+use Rattle.roam_scrollback.specs.Lines.{LinesView, Writes, left_of}
+use Rattle.roam_scrollback.specs.RowText.{text_cells, used}
+use Rattle.roam_scrollback.specs.Sources.{SourceView}
+use Rattle.roam_scrollback.specs.Wraps.{is_on, wrap_at, wraps_of}
+use Rattle.roam_scrollback.specs.declared.wraps.Wrap.{Wrap}
+use Rattle.roam_term.specs.Ground.{shown_at}
+use Rattle.roam_term.specs.Terminal.{Live, live_after, sized_to}
+use Rattle.roam_text.specs.Functions.{functions_of}
+use Rattle.roam_text.specs.Log.{Item, Byte, Resized}
+use Rattle.roam_text.specs.Resting.{AtRest}
+use Rattle.roam_text.specs.Stands.{Stands as Reads}
+use Rattle.roam_text.specs.declared.functions.Function.{Function}
+
+-- ---- the screen as text
+
+-- how many columns come before the cursor: all of them if a wrap is pending
+abbrev pub columns_before : Screen → ℕ
+columns_before s = if s.pending then s.cols else s.col
+
+-- whether the cursor is in a row, and a line ends there
+abbrev pub ends_at_cursor : Screen → List Wrap → ℕ → Bool
+ends_at_cursor s wraps r = (r == s.row) && not (is_on (wrap_at wraps r))
+
+-- the cells of a row as far as they are text; those before the cursor are
+unfoldable pub screen_cells : Screen → List Wrap → ℕ → List Glyph
+screen_cells s wraps r =
+    if ends_at_cursor s wraps r then take (max (used (row_of s.cols s.cells r)) (columns_before s)) (row_of s.cols s.cells r)
+    else text_cells (wrap_at wraps r) (row_of s.cols s.cells r)
+
+abbrev pub screen_row : Screen → List Wrap → ℕ → TextRow
+screen_row s wraps r = record { goes_on = is_on (wrap_at wraps r); cells = screen_cells s wraps r }
+
+-- the first rows
+abbrev pub screen_text : ℕ → Screen → List Wrap → List TextRow
+screen_text zero s wraps = []
+screen_text (suc n) s wraps = screen_text n s wraps ++ screen_row s wraps n ∷ []
+
+-- so many rows of a screen are text: the cursor's is, and those below them are blank
+pub record IsHeight (s : Screen) (height : ℕ) : Type 0 where
+  pub cursor : s.row < height
+  pub within : height ≤ s.rows
+  pub below : (r : ℕ) → height ≤ r → r < s.rows → used (row_of s.cols s.cells r) ≡ 0
+
+-- ---- the text that brings a terminal there
+
+-- IRM and DECSCNM are reset (ECMA-48 7.2.10; DECSCNM, VT220 Programmer Reference)
+abbrev pub opening : List ℕ
+opening = 0x1B ∷ codes "[4l" ++ 0x1B ∷ codes "[?5l"
+
+-- and set again if they were
+abbrev pub closing : Modes → List ℕ
+closing modes = (if modes.insert then 0x1B ∷ codes "[4h" else []) ++ (if modes.reverse_screen then 0x1B ∷ codes "[?5h" else [])
+
+-- The guard is off, and rows count from the first. The text paints a screen, and sets its cursor and style. A wrap is pending if one can
+-- be.
+pub record IsRewrapText (l : Live) (reflow : ReflowView) (text : List ℕ) : Type 0 where
+  pub unguarded : l.pen.guarded ≡ false
+  pub origin : l.modes.origin ≡ false
+  pub repaint : Repaint
+  pub painted : IsScreenshot repaint.shot
+  pub styled : IsStyle repaint.style
+  pub shot : repaint.shot ≡ reflow.shot
+  pub style : repaint.style ≡ l.pen.style
+  pub wraps : repaint.wraps ≡ l.modes.autowrap
+  pub asked : repaint.pending ≡ true → reflow.pending ≡ true
+  pub pends : repaint.pending ≡ true → MayPend repaint
+  pub is : text ≡ opening ++ (repaint_text repaint ++ closing l.modes)
+
+-- ---- the whole
+
+-- the effect of a size and then of a text on a source, except for the ends of its rows
+pub record Follows (old new : SourceView) (items : List Item) (log : List Item) : Type 0 where
+  pub reads : Reads new.reader (log ++ items)
+  pub more : List Function
+  pub functions : functions_of (log ++ items) ≡ functions_of log ++ more
+  pub live : new.live ≡ live_after old.live more
+
+-- the kept rows from one on and the screen are text
+abbrev pub text_from : ℕ → ℕ → List TextRow → Live → List Wrap → List TextRow
+text_from first height kept l wraps = drop first (kept ++ screen_text height l.screen wraps)
+
+-- The screen of a terminal with its main screen at another size, the number of kept rows that stay away and that come back, and the text
+-- that paints that screen.
+pub record IsPrepared (l : Live) (wraps : List Wrap) (kept : List TextRow) (rows cols first back : ℕ) (reflow : ReflowView)
+    (text : List ℕ) : Type 0 where
+  pub height : ℕ
+  pub is_height : IsHeight l.screen height
+  pub counted : first + back ≡ length kept
+  pub is : reflow ≡ reflowed (text_from first height kept l wraps)
+      (record { row = back + l.screen.row; col = columns_before l.screen }) rows cols l.modes.cursor_visible
+  pub brings : IsRewrapText l reflow text
+
+-- A source is brought to another size. The newest kept rows are taken back, and they and the screen's rows wrap at the new width. The rows
+-- that leave then are written, and the text makes a terminal of that size what this one becomes.
+pub record IsRewrapped (old new : SourceView) (lines lines' : LinesView) (rows cols back : ℕ) (text : List ℕ) : Type 0 where
+  pub main : old.live.alternate ≡ false
+  pub single : old.live.sets.single ≡ None
+  pub rests : (log : List Item) → Reads old.reader log → AtRest log
+  pub first : ℕ
+  pub reflow : ReflowView
+  pub prepared : IsPrepared old.live old.wraps lines.kept rows cols first back reflow text
+  pub follows : (log : List Item) → Reads old.reader log → Follows old new (Resized rows cols ∷ map Byte text) log
+  pub wraps : new.wraps ≡ wraps_of cols (shown_rows rows reflow.off reflow.rows)
+  pub written : Writes (record lines { kept = take first lines.kept }) lines' (map left_of (take reflow.off reflow.rows))
+
+-- ---- the law
+
+-- a terminal at the new size, with a screen painted; all else is as it was
+pub record IsBroughtTo (old : Live) (rows cols : ℕ) (r : Repaint) (new : Live) : Type 0 where
+  pub cells : List Glyph
+  pub is : new ≡ record {
+    screen =
+        record {
+          rows = rows;
+          cols = cols;
+          cells = cells;
+          row = r.shot.cursor_row - 1;
+          col = column_after r;
+          pending = r.pending;
+          top = 0;
+          bottom = rows - 1;
+          stops = old.screen.stops;
+        };
+    other = (sized_to rows cols old).other;
+    alternate = false;
+    pen = old.pen;
+    modes = old.modes;
+    sets = record old.sets { g0 = Ascii; locked = G0 };
+    saved = old.saved;
+    saved_alternate = old.saved_alternate;
+    printed = None;
+  }
+  pub places : (i j : ℕ) → i < rows → j < cols → cell_at cols cells i j ≡ shown_at r.shot i j
+
+-- a source that was brought to another size shows its text there
+abbrev pub RewrapShows : Type 0
+RewrapShows =
+    (old new : SourceView) (lines lines' : LinesView) (rows cols back : ℕ) (text : List ℕ) (log : List Item) → Reads old.reader log
+    → (is : IsRewrapped old new lines lines' rows cols back text) → IsBroughtTo old.live rows cols is.prepared.brings.repaint new.live
