@@ -179,7 +179,11 @@ class Kept(Host):
         panes = self.begin()
         self.host.rows.shed = mock.Mock()
         read = host_pane.read
-        with mock.patch.object(host_pane, "read", lambda end: self.short() if end == self.host.panes[1].terminal else read(end)):
+
+        def fails(end, *most):
+            return self.short() if end == self.host.panes[1].terminal else read(end, *most)
+
+        with mock.patch.object(host_pane, "read", fails):
             self.made[0].send(b"kept")
             for _ in range(5):
                 self.turn()

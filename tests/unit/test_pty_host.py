@@ -663,7 +663,10 @@ class Rows(Host):
         self.assertEqual(self.handed(), b"pane 0 23 39\nbytes 0 3\noutpane 1 23 40\nbytes 1 3\ntwo")
         self.patch_of(host_pane.tty, "set_size")
         self.tell("1 1 1 10 39 4", "2 gone", "focus 1")
-        self.assertEqual(self.handed(), b"size 0 10 39\ngone 1\n")
+        self.turn()
+        self.assertEqual(self.fake.taken(), b"rewrap 0 10 39\ngone 1\n")
+        self.fake.prints(b"none 0\n")
+        self.assertEqual(self.handed(), b"size 0 10 39\n")
         self.made[0].send(b"last")
         self.turn()
         self.ended[71] = True

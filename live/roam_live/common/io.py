@@ -92,10 +92,14 @@ class LinePeer:
         return is_there
 
 
-def read(source: int) -> bytes | None:
-    """Return the bytes that arrived: None if there are none yet, and empty at the end of file."""
+# The most bytes of one read.
+MOST_READ = 65536
+
+
+def read(source: int, most: int = MOST_READ) -> bytes | None:
+    """Return the bytes that arrived, at most so many: None if there are none yet, and empty at the end of file."""
     try:
-        return os.read(source, 65536)
+        return os.read(source, most)
     except BlockingIOError:
         return None
     except OSError:

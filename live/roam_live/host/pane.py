@@ -11,7 +11,7 @@ from roam_live.common import spawn, tty
 from roam_live.common.errors import reason, say
 from roam_live.common.event_loop import Loop, always, comes
 from roam_live.common.fault_log import SoonFaults
-from roam_live.common.io import UNREAD_LIMIT, read, write
+from roam_live.common.io import MOST_READ, UNREAD_LIMIT, read, write
 from roam_live.common.signals import signal
 from roam_live.common.suppress import suppress
 from roam_live.common.unix_socket import SO_SNDBUF, SOL_SOCKET, connected_now
@@ -91,6 +91,9 @@ class PaneCommand:
         # Takes all output of the pane, for the scrollback, and returns True if it accepts more now.
         self.keeps: Callable[[bytes], object] = lambda data: None
         self.hears: Callable[[], bool] = always
+        # The number of further bytes to read while a new size is in progress, None for any number; and the call once some were read.
+        self.quota: int | None = None
+        self.passed_on: Callable[[], object] = lambda: None
         # Exceptions in callbacks of this pane, and a call after too many.
         self.faults = SoonFaults(loop.clock)
         self.gives_up: Callable[[], object] = lambda: None
@@ -117,9 +120,13 @@ class PaneCommand:
 
     def show(self, text: bytes) -> None:
         """Send output to the pane, at once as far as it accepts it, and to the scrollback."""
+        self.keeps(text)
+        self.show_alone(text)
+
+    def show_alone(self, text: bytes) -> None:
+        """Send text to the pane, and not to the scrollback rows."""
         is_first = not self.to_pane
         self.to_pane += text
-        self.keeps(text)
         if is_first:
             self.write_pane()
         if self.to_pane:
@@ -151,7 +158,17 @@ class PaneCommand:
 
     def has_room(self) -> bool:
         """Return True if more output is read now."""
-        return len(self.to_pane) < LIMIT and self.hears()
+        return len(self.to_pane) < LIMIT and self.quota != 0 and self.hears()
+
+    def hold(self, quota: int, passed_on: Callable[[], object] = lambda: None) -> None:
+        """Read at most `quota` more bytes of output until `release`; call `passed_on` once some were read."""
+        self.quota, self.passed_on = quota, passed_on
+        self.see_to_ends()
+
+    def release(self) -> None:
+        """Read output without a limit again."""
+        self.quota = None
+        self.see_to_ends()
 
     def resize(self, size: tty.Size) -> None:
         """Set the programs' terminal to a new size."""
@@ -286,14 +303,19 @@ class PaneCommand:
         """Take the programs' output up to the limit. A program that writes line by line produces little at once."""
         chunks: list[bytes] = []
         room, written = LIMIT - len(self.to_pane), None
+        if self.quota is not None:
+            room = min(room, self.quota)
         while self.terminal is not None and room > 0:
-            written = read(self.terminal)
+            written = read(self.terminal, MOST_READ if self.quota is None else room)
             if not written:
                 break
             chunks.append(written)
             room -= len(written)
         if chunks:
             self.take(b"".join(chunks))
+        if chunks and self.quota:
+            self.quota = 0
+            self.passed_on()
         if written == b"":
             self.take(written)
         elif self.state.has_ended:

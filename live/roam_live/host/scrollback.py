@@ -12,8 +12,9 @@ from roam_live.common.process import program
 from roam_live.common.retry import Retry
 from roam_live.common.suppress import suppress
 from roam_live.config.environment import DEFAULT_ROWS, chosen_history
-from roam_live.host.scrollback_process import (CLEARED, LEAST_SIZE, LOST, MOST_SIZE, MOST_TERMINALS, ROWS, ScrollbackProcess,
-                                               ScrollbackRecord)
+from roam_live.host.pane_scrollback import PaneScrollback
+from roam_live.host.scrollback_process import (ANSWERS, BACK, CLEARED, LEAST_SIZE, LOST, MOST_SIZE, MOST_TERMINALS, NONE, ROWS, SCREEN,
+                                               TEXT, ScrollbackProcess, ScrollbackRecord)
 from roam_live.host.scrollback_store import PaneRows, RowsRoom, Snapshot
 
 TYPE_CHECKING = False
@@ -21,9 +22,7 @@ if TYPE_CHECKING:
     from collections.abc import Callable
 
     from roam_live.common.tty import Size
-
-    # Called with a snapshot; None if there is none.
-    Told = Callable[["Snapshot | None"], object]
+    from roam_live.host.pane_scrollback import Rewrapped, Told
 
 # Bytes in the queue of the scrollback process above which no pane is read, until half of them are left; and the most seconds of such a
 # pause.
@@ -77,22 +76,6 @@ def chosen_rows() -> tuple[int, str]:
         return DEFAULT_ROWS, f"{fault}; {DEFAULT_ROWS} rows are stored for each pane"
 
 
-class PaneScrollback:
-    """A generation of a pane: its rows, its size, and its terminal in the scrollback process, or -1."""
-
-    def __init__(self, rows: PaneRows, size: Size) -> None:
-        self.rows, self.size = rows, size
-        self.terminal = -1
-        # True if some output was not sent to the scrollback process; and True if rows are lost that no row reports yet.
-        self.lacks = self.is_cut = False
-        # The callers that wait for its screen; None for one that was already refused.
-        self.awaited: deque[Told | None] = deque()
-        # The number of log readers, which get its last screen too.
-        self.logs = 0
-        # True once it has ended, so that the last screen completes it; and True once its rows are dropped.
-        self.has_last = self.is_gone = False
-
-
 class Scrollback:
     """The rows of all panes, and the scrollback process. A call takes messages for the user."""
 
@@ -106,8 +89,9 @@ class Scrollback:
         # Ended panes whose last screen is awaited.
         self.leaving: list[PaneScrollback] = []
         self.process: ScrollbackProcess | None = None
-        # The panes of the scrollback process's terminals, and the terminals to end once it accepts more.
+        # The panes of the scrollback process's terminals, and of second ones; and the terminals to end once it accepts more.
         self.terminals: dict[int, PaneScrollback] = {}
+        self.seconds: dict[int, PaneScrollback] = {}
         self.last = -1
         self.ending: list[int] = []
         # True while the scrollback process is behind, so that no pane is read; and True if that took too long, so that output is lost.
@@ -120,7 +104,7 @@ class Scrollback:
         self.logs = 0
         self.logs_came: Callable[[PaneRows], object] = lambda rows: None
         self.waits_for_logs: Callable[[], bool] = lambda: False
-        # Called when rows came or a pane is gone, which a peer may want to know; and when panes are read from now on, or no longer.
+        # Called if rows arrived or a pane closed, for a waiting peer; and if panes are read from now on, or aren't any more.
         self.came: Callable[[], object] = lambda: None
         self.hears_changed: Callable[[], object] = lambda: None
         # Returns True if a pane's program is known to show the alternate screen. No row scrolls off that, even in a new terminal.
@@ -154,6 +138,7 @@ class Scrollback:
         self.process = None
         self.loop.drop("rows are behind")
         self.terminals.clear()
+        self.seconds.clear()
         self.ending.clear()
         self.is_losing = False
         self.set_behind(False)
@@ -229,12 +214,61 @@ class Scrollback:
     def resize(self, number: int, size: Size) -> None:
         """Handle a new size of a pane."""
         pane = self.panes.get(number)
-        if pane and pane.size != size:
+        if pane and (pane.size != size or pane.second >= 0):
             pane.size = size
+            self.end_second(pane)
             if self.process and pane.terminal >= 0 and self.has_room():
                 self.process.add("size {} {} {}".format(pane.terminal, *allowed(size)))
             elif pane.terminal >= 0:
                 self.cut(pane)
+
+    def ask_rewrap(self, number: int, size: Size, takes: Rewrapped) -> bool:
+        """Ask for the text that paints a pane with its lines wrapped at a size; return False if the scrollback process can't know it."""
+        pane = self.panes.get(number)
+        if not pane or not pane.is_whole or pane.lacks or pane.terminal < 0 or not self.has_room() or size != allowed(size):
+            return False
+        pane.rewraps.append((size, takes))
+        assert self.process is not None
+        self.process.add("rewrap {} {} {}".format(pane.terminal, *size))
+        return True
+
+    def keep_main(self, number: int, size: Size) -> None:
+        """Keep the main screen of a pane at the size before, and show its alternate screen in a second terminal of the new size."""
+        pane = self.panes.get(number)
+        if not self.process or not pane or pane.terminal < 0:
+            return
+        pane.size = size
+        if pane.second >= 0:
+            self.process.add("size {} {} {}".format(pane.second, *allowed(size)))
+            return
+        pane.second = self.new_terminal(size)
+        self.seconds[pane.second] = pane
+        self.process.add_bytes(pane.second, SHOWS_OTHER)
+
+    def end_second(self, pane: PaneScrollback) -> None:
+        """End the second terminal of a pane, if it has one."""
+        if pane.second >= 0 and self.process:
+            self.ending.append(pane.second)
+            self.end_terminals()
+        pane.second = -1
+
+    def take_answer(self, pane: PaneScrollback, record: ScrollbackRecord) -> None:
+        """Hand on the answer to the oldest question about a new size."""
+        if not pane.rewraps or pane.terminal != record.terminal:
+            return
+        size, takes = pane.rewraps.popleft()
+        if record.word == TEXT:
+            pane.size = size
+            self.end_second(pane)
+        takes(record.word, record.data)
+
+    def cut_by(self, number: int, size: Size) -> None:
+        """Begin another terminal for a pane, of a new size, since it isn't known how the one before was resized."""
+        pane = self.panes.get(number)
+        if pane:
+            pane.rewraps.clear()
+            pane.size = size
+            self.cut(pane)
 
     def feed(self, number: int, data: bytes) -> None:
         """Take the output of a pane."""
@@ -247,6 +281,8 @@ class Scrollback:
         try:
             self.demand_terminal(pane)
             self.process.add_bytes(pane.terminal, data)
+            if pane.second >= 0:
+                self.process.add_bytes(pane.second, data)
         except MemoryError:
             pane.lacks = True
             self.shed()
@@ -257,22 +293,30 @@ class Scrollback:
         if not self.process or pane.terminal >= 0 and not pane.lacks:
             return
         self.cut(pane)
-        self.last = (self.last + 1) % MOST_TERMINALS
-        pane.terminal = self.last
-        self.terminals[self.last] = pane
-        self.process.add("pane {} {} {}".format(self.last, *allowed(pane.size)))
+        pane.terminal = self.new_terminal(pane.size)
+        self.terminals[pane.terminal] = pane
         if pane.is_cut and self.is_other(pane.rows.pane):
-            self.process.add_bytes(self.last, SHOWS_OTHER)
+            self.process.add_bytes(pane.terminal, SHOWS_OTHER)
+
+    def new_terminal(self, size: Size) -> int:
+        """Begin a terminal in the scrollback process, and return its number."""
+        assert self.process is not None
+        self.last = (self.last + 1) % MOST_TERMINALS
+        self.terminals.pop(self.last, None)
+        self.seconds.pop(self.last, None)
+        self.process.add("pane {} {} {}".format(self.last, *allowed(size)))
+        return self.last
 
     def cut(self, pane: PaneScrollback) -> None:
         """Detach a pane from its terminal, if any, because some of its output is missing there."""
         pane.is_cut = pane.is_cut or pane.lacks or pane.terminal >= 0
-        pane.lacks = False
+        pane.is_whole, pane.lacks = pane.is_whole and not pane.is_cut, False
         self.end_terminal(pane)
         self.answer_all(pane)
 
     def end_terminal(self, pane: PaneScrollback) -> None:
         """End the terminal of a pane. Earlier output of it may still come."""
+        self.end_second(pane)
         if pane.terminal >= 0 and self.process:
             self.ending.append(pane.terminal)
             self.end_terminals()
@@ -330,6 +374,9 @@ class Scrollback:
     def take(self, record: ScrollbackRecord) -> None:
         """Take a record about a terminal."""
         pane = self.terminals.get(record.terminal)
+        if record.terminal in self.seconds and record.word == SCREEN:
+            self.take_screen(self.seconds[record.terminal], record)
+            return
         if not pane or pane.is_gone:
             return
         if pane.is_cut and pane.terminal == record.terminal:
@@ -341,15 +388,23 @@ class Scrollback:
             pane.rows.lose(record.count)
         elif record.word == CLEARED:
             pane.rows.clear()
-        elif pane.awaited and pane.terminal == record.terminal:
-            told = pane.awaited.popleft()
-            if told:
-                told(self.room.snapshot(pane.rows, record.count, record.data))
+        elif record.word == BACK:
+            pane.rows.withdraw(record.count)
+        elif record.word in ANSWERS:
+            self.take_answer(pane, record)
+        elif pane.terminal == record.terminal:
+            self.take_screen(pane, record)
         if pane.logs or self.room.snapshots:
             pane.rows.settle()
             self.came()
         if pane.logs:
             self.logs_came(pane.rows)
+
+    def take_screen(self, pane: PaneScrollback, record: ScrollbackRecord) -> None:
+        """Answer the oldest request for the screen of a pane."""
+        told = pane.awaited.popleft() if pane.awaited and not pane.is_gone else None
+        if told:
+            told(self.room.snapshot(pane.rows, record.count, record.data))
 
     def add_rows(self, rows: PaneRows, record: ScrollbackRecord) -> None:
         """Store rows. If memory is short, older ones are dropped and these are lost."""
@@ -383,7 +438,7 @@ class Scrollback:
         self.demand_terminal(pane)
         pane.awaited.append(told)
         if self.process:
-            self.process.add(f"screen {pane.terminal}")
+            self.process.add(f"screen {pane.terminal if pane.second < 0 else pane.second}")
         name = f"screen of {id(pane)}"
         if name not in self.loop.due:
             self.loop.later(name, SCREEN_WAIT, lambda: self.tell_none(pane))
@@ -401,6 +456,9 @@ class Scrollback:
         self.loop.drop(f"screen of {id(pane)}")
         self.tell_none(pane)
         pane.awaited.clear()
+        rewraps, pane.rewraps = pane.rewraps, deque()
+        for _, takes in rewraps:
+            takes(NONE, b"")
 
     def close(self) -> None:
         """End the scrollback process by closing its input."""

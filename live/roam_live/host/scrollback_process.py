@@ -25,7 +25,14 @@ MOST_TERMINALS = 1024
 # The words of its records: rows, lost rows, cleared rows, and the rows of a screen. There are no other records. Then the most bytes of a
 # record, and of the line that begins one.
 ROWS, LOST, CLEARED, SCREEN = "rows", "lost", "cleared", "screen"
-WORDS = {ROWS: 4, LOST: 3, CLEARED: 2, SCREEN: 4}
+
+# Its answers to a new size. So many of the newest rows are on the screen again; the text that paints the screen; too early, within a
+# sequence or a character; the alternate screen is shown; or it isn't possible.
+BACK, TEXT, LATER, OTHER, NONE = "back", "text", "later", "other", "none"
+WORDS = {ROWS: 4, LOST: 3, CLEARED: 2, SCREEN: 4, BACK: 3, TEXT: 3, LATER: 2, OTHER: 2, NONE: 2}
+
+# The records behind whose line bytes follow, and those that end an answer to a new size.
+WITH_ROWS, ANSWERS = (ROWS, SCREEN), (TEXT, LATER, OTHER, NONE)
 MOST_RECORD = 1 << 24
 LONGEST_LINE = 64
 
@@ -64,10 +71,12 @@ def head_of(line: bytes) -> tuple[str, int, int, int]:
     word, *rest = line.decode("ascii", "replace").split(" ")
     if len(rest) + 1 != WORDS.get(word) or not all(one.isascii() and one.isdigit() and len(one) <= 15 for one in rest):
         raise BadRecord("it printed an invalid record")
-    numbers = [int(one) for one in rest] + [0, 0]
-    if numbers[0] >= MOST_TERMINALS or word in (ROWS, SCREEN) and numbers[2] > MOST_RECORD:
+    terminal, count, length = [*map(int, rest), 0, 0][:3]
+    if word == TEXT:
+        count, length = 0, count
+    if terminal >= MOST_TERMINALS or length > MOST_RECORD:
         raise BadRecord("it printed an impossible record")
-    return word, numbers[0], numbers[1], numbers[2] if word in (ROWS, SCREEN) else 0
+    return word, terminal, count, length
 
 
 class ScrollbackRecords:
@@ -123,7 +132,7 @@ class ScrollbackRecords:
     def made(self, data: bytes) -> ScrollbackRecord:
         """Return a record with its bytes, which have as many rows as it claims."""
         record = ScrollbackRecord(*self.head, data)
-        if record.word in (ROWS, SCREEN) and (data.count(b"\n") != record.count or data[-1:] not in (b"", b"\n")):
+        if record.word in WITH_ROWS and (data.count(b"\n") != record.count or data[-1:] not in (b"", b"\n")):
             raise BadRecord("it printed a wrong number of rows")
         return record
 

@@ -2,7 +2,8 @@
 from __future__ import annotations
 
 from roam_live.common.text import decimal_in
-from roam_live.host.scrollback import PaneScrollback, Scrollback, pane_key, pane_of_key
+from roam_live.host.pane_scrollback import PaneScrollback
+from roam_live.host.scrollback import Scrollback, pane_key, pane_of_key
 from roam_live.host.scrollback_store import ScrollbackRange, Search, Snapshot
 from roam_live.protocol.host_lines import (BACK, COUNT, END, FIND, FOUND, LOG, MORE, MOST_NUMBER, NONE, ON, RELEASE, ROWS, SNAPSHOT,
                                              led)
@@ -204,11 +205,12 @@ class RowAsker:
         """Report the number of rows since the snapshot if it has changed."""
         held = self.snapshot
         pane_scrollback = self.scrollback.pane(held.pane, held.generation) if held else None
-        if not held or not pane_scrollback or pane_scrollback.rows.end - held.scrollback_end == self.more:
+        more = max(0, pane_scrollback.rows.end - held.scrollback_end) if held and pane_scrollback else self.more
+        if not held or more == self.more:
             return None
         if now < self.more_due:
             return self.more_due
-        self.more, self.more_due = pane_scrollback.rows.end - held.scrollback_end, now + TELLS_MORE
+        self.more, self.more_due = more, now + TELLS_MORE
         self.tells(led(self.said_of(held.pane), f"{MORE} {pane_of_key(held.pane)[1]} {held.generation} {self.more}"))
         return None
 

@@ -1,7 +1,8 @@
-"""Rows scrolled off the screens of panes: the newest of each pane, up to a common limit.
+"""Rows scrolled off the screens of panes, as the scrollback process printed them. They are kept as chunks, which are split into rows only
+on demand: the newest of each pane, within a limit for all.
 
-They are stored in the chunks that the scrollback process printed, and split into rows only on request. Chunks are append-only: their bytes
-only become more, and no row is changed. As bytes each has a header with the pane of its rows.
+Bytes are only appended to a chunk, and no row changes. Rows that are on the screen again, at another width, are removed at the end. As
+bytes each chunk has a header with the pane of its rows.
 """
 from __future__ import annotations
 
@@ -133,6 +134,18 @@ class PaneRows:
             self.room.charge(self.chunks[-1].charge())
         self.end += count
         self.keep_last()
+
+    def withdraw(self, count: int) -> None:
+        """Remove the newest rows, which are on the screen again. The chunk of a snapshot stays as it was."""
+        end = max(self.first, self.end - count)
+        while self.chunks and self.chunks[-1].end() > end:
+            chunk = self.chunks.pop()
+            self.room.let_go(chunk)
+            if chunk.first < end:
+                rest = b"".join(row + b"\n" for row in chunk.data.split(b"\n")[: end - chunk.first])
+                self.chunks.append(Chunk(chunk.first, end - chunk.first, rest, chunk.place))
+                self.room.charge(self.chunks[-1].charge())
+        self.end = end
 
     def lose(self, count: int | None) -> None:
         """Record that rows are lost here, with their number if known."""

@@ -14,10 +14,11 @@ from roam_live.host.foreground_watch import Fronts
 from roam_live.host.input_queue import TypedQueue
 from roam_live.host.options import Options, has_ended
 from roam_live.host.pane import PaneCommand, say_in
+from roam_live.host.rewrap import PaneResizer
 from roam_live.host.scrollback import pane_key
 from roam_live.host.state import PaneState
 from roam_live.host.window_channel import WindowChannel
-from roam_live.protocol.panes import BRACKETED, FOCUS, PanesState, Rect
+from roam_live.protocol.panes import BRACKETED, FOCUS, MODES, OTHER, PanesState, Rect
 from roam_live.protocol.panes_client import PROBE, HostSubscription
 from roam_live.protocol.queries import holds_frames, query_in
 from roam_live.session.foreground import working_folder
@@ -60,6 +61,7 @@ class WindowHost:
         self.state = common.state.window(asked.window)
         self.lasting = Lasting(asked.dir)
         self.panes: dict[int, PaneCommand] = {}
+        self.resizers: dict[int, PaneResizer] = {}
         # The panes without a report since the last subscription.
         self.untold: set[int] = set()
         # The reported state of the panes since the subscription, including modes of their programs.
@@ -113,6 +115,8 @@ class WindowHost:
         words, is_known = line.split(), self.panes_state.take(line)
         if not is_known:
             self.answer(line)
+        elif words[0] == MODES:
+            self.leave_other(int(words[1]))
         elif words[0] == "focus":
             before, self.state.focus, self.is_again = self.state.focus, int(words[1]), False
             self.report_focus(before)
@@ -126,6 +130,11 @@ class WindowHost:
         elif words[0].isdigit() and len(words) == 6:
             number, *rect, generation = map(int, words)
             self.there_is(number, Rect(*rect), generation)
+
+    def leave_other(self, number: int) -> None:
+        """Wrap the lines of a pane whose programs show the main screen again."""
+        if number in self.resizers and not self.panes_state.has_set(number, OTHER):
+            self.resizers[number].leave_other()
 
     def answer(self, line: str) -> None:
         """Type the answer to a program's terminal query, if the host knows one."""
@@ -147,8 +156,7 @@ class WindowHost:
         self.untold.discard(number)
         if pane and pane.state.generation == generation:
             self.channel.handed.moved(number, rect)
-            pane.resize(size)
-            self.rows.resize(self.key(number), size)
+            self.resizers[number].resize(size)
         else:
             folder, begins = self.folder_of_new(), self.handed_to(rect)
             self.drop(number)
@@ -162,6 +170,7 @@ class WindowHost:
             key = self.key(number)
             self.rows.begin(key, generation, size)
             pane.keeps, pane.hears = lambda data: self.rows.feed(key, data), self.rows.hears
+            self.resizers[number] = PaneResizer(self.loop, self.rows, key, pane)
             self.begin(pane)
 
     def awaited_size(self, told: Size) -> Size:
@@ -175,8 +184,7 @@ class WindowHost:
         self.awaited = None
         for number, rect in self.panes_state.rects.items():
             if number in self.panes:
-                self.panes[number].resize((rect.rows, rect.cols))
-                self.rows.resize(self.key(number), (rect.rows, rect.cols))
+                self.resizers[number].resize((rect.rows, rect.cols))
 
     def has_begun(self) -> bool:
         """Return True if a pane's command runs, or the pane shows the reason of a failure."""
@@ -239,6 +247,7 @@ class WindowHost:
         if pane:
             del self.state.panes[number]
             self.fronts.drop(number)
+            self.resizers.pop(number).close()
             self.rows.drop(self.key(number))
             pane.hang_up()
             self.common.hung += pane.running()

@@ -42,7 +42,8 @@ LONGEST_LINE = (1 << 17) + 64
 # The subscription to pane metadata, and the words that begin its lines; then the modes of bracketed paste and of focus reports.
 METADATA = "metadata"
 BELL = "bell"
-METADATA_WORDS = ("modes", "shape", "title", BELL)
+MODES = "modes"
+METADATA_WORDS = (MODES, "shape", "title", BELL)
 BRACKETED = "paste"
 FOCUS = "focus"
 OTHER = "other"
@@ -186,7 +187,7 @@ def is_generation(word: str) -> bool:
 def is_value(word: str, value: list[str]) -> bool:
     """Return True if these words are valid after a pane: modes, a shape, a title in hexadecimal, no words for a bell, or a clipboard text.
     """
-    if word == "modes":
+    if word == MODES:
         return len(value) <= MOST_MODES and all(0 < len(one) <= LONGEST_MODE and is_mode(one) for one in value)
     if word == BELL:
         return not value
@@ -299,7 +300,7 @@ class PanesState:
 
     def has_set(self, pane: int, mode: str) -> bool:
         """Return True if a pane's program is known to have set a mode."""
-        return mode in self.value("modes", pane).split()
+        return mode in self.value(MODES, pane).split()
 
     def title_and_shape(self, pane: int) -> tuple[str, int]:
         """Return a pane's title and cursor shape, as far as known."""
