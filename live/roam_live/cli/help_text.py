@@ -60,7 +60,7 @@ pane, the wheel scrolls, and dragging copies text or moves a border. Copied text
 ROAM_CLIPBOARD=on, programs may set the clipboard.
 
 Size: a session has one size. It grows to this terminal if nobody else types there. A smaller terminal shows the part around the cursor,
-and its last row shows the key that resizes the session, C-b r, which cuts longer lines.
+and its last row shows the key that resizes the session, C-b r.
 
 Predictions: if keys are slow to be shown, roam displays their predicted effect at this terminal alone. --predict always or never after
 attach, new or ssh, or ROAM_PREDICT, changes that.

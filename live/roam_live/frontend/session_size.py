@@ -35,7 +35,7 @@ class SessionSize:
         return self.requested or self.now()
 
     def ask(self) -> None:
-        """Set the session to this terminal's size, if permitted. Longer lines are cut for good."""
+        """Set the session to this terminal's size, if permitted."""
         size = self.acts.display.part.room()
         if self.acts.link.is_read_only:
             return

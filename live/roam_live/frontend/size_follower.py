@@ -20,7 +20,7 @@ if TYPE_CHECKING:
 FITS_AGAIN = 0.3
 
 # The message after the session takes this terminal's size because of input here.
-LATEST_TOLD = "resized to this terminal (window-size latest): longer lines were cut"
+LATEST_TOLD = "resized to this terminal (window-size latest)"
 SIZED_TOLD = 2.0
 
 # A session is new for so many seconds, and takes any size of its terminal. A window may get its size only then.
