@@ -5,7 +5,7 @@ use Rattle.std.specs.Prelude.{ℕ, ◌^◌}
 abbrev pub number_limit : ℕ
 number_limit = 2 ^ 62
 
--- the most acts of a start that may be unacknowledged
+-- the most acts of an instance that may be unacknowledged
 abbrev pub most_unacknowledged : ℕ
 most_unacknowledged = 1024
 

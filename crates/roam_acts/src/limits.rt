@@ -3,7 +3,7 @@
 /// Numbers of states, datagrams, instructions and acts are below this one.
 pub const NUMBER_LIMIT: u64 = 1 << 62;
 
-/// The most acts of a start that may be unacknowledged.
+/// The most acts of an instance that may be unacknowledged.
 pub const MOST_UNACKNOWLEDGED: usize = 1024;
 
 /// The most acts of an instruction.

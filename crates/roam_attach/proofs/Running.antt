@@ -25,7 +25,7 @@ use Rattle.roam_attach.specs.Runs.{IsHanded, IsOver, IsPending, Painted, RunsOn,
 abbrev pub turn_of : Option Act → Bool → Turn
 turn_of next took = record { next = next; took = took }
 
--- the turns of a start, one after another
+-- the turns of an instance, one after another
 turns_both : (to : Addr) (o o' o'' : Painted) (old mid new : ClientView) (xs ys : List Turn) → TakesTurns to xs o o' old mid
     → TakesTurns to ys o' o'' mid new → TakesTurns to (xs ++ ys) o o'' old new
 turns_both to o o' o'' old mid new [] ys (same, is) q =

@@ -5,7 +5,7 @@ use Rattle.roam_outer_terminal.specs.declared.silence.Silence.{Silence}
 use Rattle.roam_outer_terminal.specs.declared.silence.End.{End}
 use Rattle.roam_outer_terminal.specs.declared.silence.End.TheVariants.{Gone}
 
--- the end as a start sees it: the server has ended, or was last heard so long ago
+-- the end as an instance sees it: the server has ended, or was last heard so long ago
 abbrev pub end_by : Bool → Silence → End
 end_by ended s = if ended then Gone else end_of s
 

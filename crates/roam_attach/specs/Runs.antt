@@ -1,4 +1,4 @@
--- The acts that a run of a client start types: those that its turns take.
+-- The acts that a run of a client instance types: those that its turns take.
 use Rattle.std.specs.Prelude.{◌≡◌, ℕ, ◌-◌, ◌≤◌, Bool, true, false, List, [], ◌∷◌, ◌++◌, length, Option, Some, None}
 use Rattle.std.specs.Io.KnownBytes.{Appends, Consumes}
 use Rattle.roam_acts.specs.declared.acts.Act.{Act}
@@ -25,7 +25,7 @@ abbrev pub home_of : Home → Addr
 home_of (Port port) = record { host = 127 ∷ 0 ∷ 0 ∷ 1 ∷ []; port = port }
 home_of (Folder folder) = record { host = 0 ∷ 0 ∷ 0 ∷ 0 ∷ []; port = 0 }
 
--- a start only watches in version 2
+-- an instance only watches in version 2
 abbrev pub is_two : Version → Bool
 is_two One = false
 is_two Two = true
@@ -61,7 +61,7 @@ pub record Painted : Type 0 where
 abbrev pub painted_by : {R W : Type 0} → (W → Option (List ℕ)) → Option Noted → ClientPorts R W → Painted
 painted_by contents noted ports = record { noted = noted; written = contents ports.outer; notice = ports.silence.told }
 
--- A client start took such a turn with its outer terminal. The written bytes lead the terminal from the old noted screen to the new one,
+-- A client instance took such a turn with its outer terminal. The written bytes lead the terminal from the old noted screen to the new one,
 -- and the notice of silence stays.
 pub record TakesTurn (to : Addr) (turn : Turn) (outer outer' : Painted) (old new : ClientView) : Type 0 where
   pub makes : Makes client_step
@@ -97,7 +97,7 @@ pub record RunsOn (to : Addr) (before after : Option (List ℕ)) (old new : ActL
       → Stands new first (log ++ bytes) (taken ++ taken_in turns)
   pub counts : length turns ≡ count
 
--- every act that a start took is acknowledged
+-- every act that an instance took is acknowledged
 abbrev pub IsSettled : ClientView → Type 0
 IsSettled view = view.kept.acts.acts ≡ []
 
@@ -114,7 +114,7 @@ seen_at Open since moment = since
 seen_at (Spoiled number) since moment = since
 seen_at (SpoiledLast number) since moment = since
 
--- the milliseconds that a start waits at the end of its stream for acknowledgements of its acts
+-- the milliseconds that an instance waits at the end of its stream for acknowledgements of its acts
 abbrev pub longest_end : ℕ
 longest_end = 1000
 

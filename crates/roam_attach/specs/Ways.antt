@@ -1,4 +1,4 @@
--- The way of a client start to its server.
+-- The way of a client instance to its server.
 use Rattle.std.specs.Prelude.{◌≡◌, ◌⊎◌, ℕ, ◌∷◌, List, [], drop, Bool, true, false, None, IsOk}
 use Rattle.mio.specs.declared.net.uds.stream.UnixStream.{UnixStream}
 use Rattle.roam_stream_framing.specs.Queues.{IsLost, IsQueued, nothing_queued}

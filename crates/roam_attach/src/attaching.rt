@@ -1,4 +1,4 @@
-//! `roam attach`: a client start round its socket and the outer terminal.
+//! `roam attach`: a client instance round its socket and the outer terminal.
 ghost use Rattle.std.specs.Prelude.{◌≡◌, ◌⊎◌, ◌+◌, ◌-◌, ◌<◌, [], ◌&&◌, ℕ, true, false, Option, None, Some, Ok, Err, All, is_some, IfErr, IfOk, OnOk, IsOkUnless};
 ghost use Rattle.roam_acts.specs.Acts.{IsInRange};
 ghost use Rattle.roam_turns.specs.Painting.{IsBehind};
@@ -44,10 +44,10 @@ pub enum Typed<'a> {
     /// From a file, one a line.
     File(&'a str),
 
-    /// From the Unix socket at this path, to which the start connects at its beginning: one a line, as they come.
+    /// From the Unix socket at this path, to which the instance connects at its beginning: one a line, as they come.
     Socket(&'a str),
 
-    /// From the outer terminals that connect to the Unix socket at this path, which the start binds. Each is painted with the start's
+    /// From the outer terminals that connect to the Unix socket at this path, which the instance binds. Each is painted with the instance's
     /// screen.
     Terminals(&'a str),
 }
@@ -58,7 +58,7 @@ pub enum Home<'a> {
     /// At a port on loopback.
     Port(u16),
 
-    /// At the socket for client starts in its folder.
+    /// At the socket for client instances in its folder.
     Folder(&'a str),
 }
 
@@ -69,13 +69,13 @@ pub struct Attach<'a> {
     pub home: Home<'a>,
     /// The session's id; `None` asks for the id in the file `session` of the server's folder.
     pub session: Option<u64>,
-    /// The id of this client start; `None` asks for a random one.
+    /// The id of this client instance; `None` asks for a random one.
     pub client: Option<u64>,
     /// Where the acts to type come from.
     pub typed: Typed<'a>,
-    /// The version that this client start speaks.
+    /// The version that this client instance speaks.
     pub version: Version,
-    /// True if the start is read-only, in version 2. It then types no act, whatever `typed` says.
+    /// True if the instance is read-only, in version 2. It then types no act, whatever `typed` says.
     pub watches: bool,
     /// How many turns the run takes.
     pub turns: u64,
@@ -98,7 +98,7 @@ fn acts_in<R: Files + AllocGlobal>(rt: &R, path: &str) -> Result<Vec<Act>, RunFa
     }
 }
 
-// Returns the acts that are there from the beginning: none if the start is read-only, or there is no file.
+// Returns the acts that are there from the beginning: none if the instance is read-only, or there is no file.
 fn acts_for<R: Files + AllocGlobal>(rt: &R, attach: &Attach<'_>) -> Result<Vec<Act>, RunFault>
     ensures faults { IfErr result (λ fault. (fault ≡ RunFault.Core Fault.OutOfMemory) ⊎ (fault ≡ RunFault.Read)
         ⊎ ((k : ℕ) × (fault ≡ RunFault.Act (k + 1)))) }
@@ -146,7 +146,7 @@ fn session_for<R: Files + AllocGlobal>(rt: &R, attach: &Attach<'_>) -> Result<u6
     }
 }
 
-// The id of the client start that is asked for.
+// The id of the client instance that is asked for.
 fn id_for(chance: &impl RandomSource, attach: &Attach<'_>) -> Result<u64, RunFault>
     ensures given { (id : ℕ) → attach.now.client ≡ Some id → result ≡ Ok id }
     ensures fault { IsOkUnless result RunFault.Read }
@@ -157,8 +157,8 @@ fn id_for(chance: &impl RandomSource, attach: &Attach<'_>) -> Result<u64, RunFau
     }
 }
 
-/// Returns a client start with its session and id as given, else with the folder's session and a random id. It has the version asked for,
-/// and is read-only if that is asked for in version 2. `Read` if the session's file has no id, `OutOfMemory`.
+/// Returns a client instance with its session and id as given, else with the folder's session and a random id. It has the version asked
+/// for, and is read-only if that is asked for in version 2. `Read` if the session's file has no id, `OutOfMemory`.
 pub fn client_for<R: Files + RandomSource + AllocGlobal>(
     rt: &R,
     attach: &Attach<'_>,
@@ -194,8 +194,8 @@ fn tell<C: Clock + Drop, W: Write + Drop>(
     }
 }
 
-// Offers the next act to a turn of a start, if one waits; rests if none is taken; and shows a silence. `Act` if no act waits and the next
-// line is no act, `OutOfMemory`.
+// Offers the next act to a turn of an instance, if one waits; rests if none is taken; and shows a silence. `Act` if no act waits and the
+// next line is no act, `OutOfMemory`.
 fn type_turn<C: Clock + Drop, W: Write + Drop, T: Read>(
     alloc: Global,
     typist: &mut Typist<T>,
@@ -282,9 +282,9 @@ fn ended<C: Clock + Drop, W: Write + Drop>(ports: &ClientPorts<C, W>) -> Result<
     Ok(ports.end())
 }
 
-/// Takes the turns of a start that types the acts of a stream, and waits after a turn without input. Returns what was heard of the server
-/// at the end. `Write` if nobody reads the painted bytes any more, if showing them has failed for half a second, or if the outer terminal
-/// didn't take the last screen. `Act` at a line of the stream that is no act, once all acts before it were taken; `OutOfMemory`.
+/// Takes the turns of an instance that types the acts of a stream, and waits after a turn without input. Returns what was heard of the
+/// server at the end. `Write` if nobody reads the painted bytes any more, if showing them has failed for half a second, or if the outer
+/// terminal didn't take the last screen. `Act` at a line of the stream that is no act, once all acts before it were taken; `OutOfMemory`.
 pub fn follow<C: Clock + Drop, W: Write + Drop, T: Read>(
     alloc: Global,
     attach: &Attach<'_>,
@@ -330,7 +330,7 @@ pub fn follow<C: Clock + Drop, W: Write + Drop, T: Read>(
     ended(ports)
 }
 
-// The connection of a start to its server.
+// The connection of an instance to its server.
 fn connection_for<'r, R: Net + Clock + AllocGlobal>(
     rt: &'r R,
     attach: &Attach<'_>,
@@ -346,7 +346,7 @@ fn connection_for<'r, R: Net + Clock + AllocGlobal>(
     }
 }
 
-// The ports of a start that paints to a writer.
+// The ports of an instance that paints to a writer.
 fn ports_for<'r, R: Net + Clock + AllocGlobal, W: Write + Drop>(
     rt: &'r R,
     attach: &Attach<'_>,
@@ -401,7 +401,7 @@ fn follow_socket<R: Files + Net + Clock + RandomSource + AllocGlobal, W: Write +
     follow(rt.alloc(), attach, &mut typist, &mut client, &mut ports)
 }
 
-// Is the start of all outer terminals that connect to a socket.
+// Is the instance of all outer terminals that connect to a socket.
 fn follow_terminals<R: Files + Net + Clock + RandomSource + AllocGlobal>(
     rt: &R,
     attach: &Attach<'_>,
@@ -425,8 +425,9 @@ fn follow_terminals<R: Files + Net + Clock + RandomSource + AllocGlobal>(
     )
 }
 
-/// Follows a session and types acts, at most one a turn. It takes the turns, waits after one without input, and paints the start's screen.
-/// It shows a silence of ten seconds or more over the last row of the outer terminal. Returns what was heard of the server at the end.
+/// Follows a session and types acts, at most one a turn. It takes the turns, waits after one without input, and paints the instance's
+/// screen. It shows a silence of ten seconds or more over the last row of the outer terminal. Returns what was heard of the server at the
+/// end.
 ///
 /// It reads the acts of a file first: `Read` if it can't, `Act` if a line of it is no act. It connects to a socket first: `Read` if it
 /// can't. It then reads lines as they arrive, cut in any way, and stops reading while an act waits. LF ends each line but perhaps the last.

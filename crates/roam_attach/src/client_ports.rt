@@ -1,4 +1,4 @@
-//! The ports of a client start over sockets. They don't record their calls.
+//! The ports of a client instance over sockets. They don't record their calls.
 ghost use Rattle.std.specs.Prelude.{◌≡◌, ◌⊎◌, ◌↔◌, IsTrue, ◌-◌, ◌≤◌, [], ◌∷◌, ℕ, true, false, length, is_some, None, Some, IfOk, IfSome, IsSome, IfErr};
 ghost use Rattle.std.specs.Io.KnownBytes.{Appends, Keeps};
 ghost use Rattle.roam_outer_terminal.specs.Silence.{due_of, is_over, end_of, notice_of};
@@ -20,8 +20,8 @@ use std::time::Clock;
 /// How many milliseconds of failing are enough.
 const HALF_SECOND: u64 = 500;
 
-/// The ports of a client start: its connection, and the writer of the outer terminal's bytes. They know when the server was heard last, and
-/// since when showing fails.
+/// The ports of a client instance: its connection, and the writer of the outer terminal's bytes. They know when the server was heard last,
+/// and since when showing fails.
 #[derive(Drop)]
 pub struct ClientPorts<R, W> {
     connection: Connection<R>,
@@ -79,7 +79,7 @@ impl<R: Clock + Drop, W: Write + Drop> ClientPorts<R, W> {
         }
     }
 
-    /// Returns what was heard if the start ends now.
+    /// Returns what was heard if the instance ends now.
     pub fn end(&self) -> End
         ensures end { result ≡ end_of self.now.silence }
     {

@@ -1,4 +1,4 @@
-//! The way of a client start to its server, the clock and the wait. They don't record their bytes.
+//! The way of a client instance to its server, the clock and the wait. They don't record their bytes.
 ghost use Rattle.std.specs.Prelude.{◌≡◌, ◌⊎◌, ◌≤◌, ℕ, true, false, length, None, Some, IfOk, IfSome, IfErr};
 ghost use Rattle.roam_attach.specs.Ways.{AllWent, Goes, IsFreshStream, IsFreshUdp, IsFrom, MoreGoes, Sends, StillWaits, has_ended};
 
@@ -15,7 +15,7 @@ use std::net::Net;
 use std::os::fd::RawFd;
 use std::time::Clock;
 
-/// The way to the server: UDP on loopback, or a stream to its socket for client starts.
+/// The way to the server: UDP on loopback, or a stream to its socket for client instances.
 #[derive(Drop)]
 pub(crate) enum Way {
     Udp(Udp),
@@ -77,7 +77,7 @@ impl Way {
     }
 }
 
-/// The way of a client start to its server, the clock and the wait: its ports, but that nothing can be shown.
+/// The way of a client instance to its server, the clock and the wait: its ports, but that nothing can be shown.
 #[derive(Drop)]
 pub struct Connection<R> {
     moments: Moments<R>,
@@ -108,8 +108,8 @@ impl<R: Clock + Drop> Connection<R> {
         })
     }
 
-    /// Connects to the socket for client starts in a server's folder. `Connect` if nobody listens there, `Bind` if the system has no wait
-    /// to give, `OutOfMemory`.
+    /// Connects to the socket for client instances in a server's folder. `Connect` if nobody listens there, `Bind` if the system has no
+    /// wait to give, `OutOfMemory`.
     pub fn connect<N: Net>(
         net: &N,
         alloc: Global,

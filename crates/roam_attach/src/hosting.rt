@@ -1,4 +1,4 @@
-//! A client start that stays while outer terminals come and go at its socket.
+//! A client instance that stays while outer terminals come and go at its socket.
 ghost use Rattle.std.specs.Prelude.{◌≡◌, ◌≢◌, ◌⊎◌, ◌≤◌, ℕ, length, min, true, false, None, is_some, IfErr, IfSome};
 ghost use Rattle.roam_attach.specs.Ways.{Goes, IsFrom, MoreGoes, Sends, StillWaits, has_ended};
 ghost use Rattle.roam_sockets.specs.declared.moments.Moments.{Moments};
@@ -20,10 +20,10 @@ use std::fs::{Files, remove_file};
 use std::net::Net;
 use std::time::Clock;
 
-/// The server sends a heartbeat after three seconds of silence, unless it has forgotten the start: so many milliseconds are longer.
+/// The server sends a heartbeat after three seconds of silence, unless it has forgotten the instance: so many milliseconds are longer.
 const FORGOTTEN: u64 = 4_000;
 
-/// A terminal that comes to a start that was forgotten waits for the newest screen: at most so many times so many milliseconds.
+/// A terminal that comes to an instance that was forgotten waits for the newest screen: at most so many times so many milliseconds.
 const WAKES: u32 = 2;
 
 const WAKING: u64 = 50;
@@ -34,11 +34,11 @@ const DATAGRAM: usize = 2048;
 /// So many looks end with the machine.
 const FOR_GOOD: u64 = u64::MAX;
 
-// The socket at which outer terminals come, and the way of their start to its server.
+// The socket at which outer terminals come, and the way of their instance to its server.
 #[derive(Drop)]
 struct Doorway<R> {
     listener: UnixListener,
-    // One that came while the start slept.
+    // One that came while the instance slept.
     came: Option<UnixStream>,
     clock: R,
     connection: Connection<R>,
@@ -79,7 +79,7 @@ fn first_at<R: Clock + Drop>(
 }
 
 impl<R: Clock + Drop> Doorway<R> {
-    // Drops a datagram that came while the start sleeps, and returns true if it has news: the server sends those again.
+    // Drops a datagram that came while the instance sleeps, and returns true if it has news: the server sends those again.
     fn is_woken_by_server(&mut self) -> bool {
         let mut buf = [0; DATAGRAM];
         let Some((_, len)) = self.connection.receive(&mut buf) else {
@@ -92,7 +92,7 @@ impl<R: Clock + Drop> Doorway<R> {
         }
     }
 
-    // Looks whether a terminal came while the start sleeps.
+    // Looks whether a terminal came while the instance sleeps.
     fn is_woken_by_terminal(&mut self) -> bool
         ensures came { result ≡ is_some self.new.came }
     {
@@ -100,7 +100,7 @@ impl<R: Clock + Drop> Doorway<R> {
         self.came.is_some()
     }
 
-    // Notes that the start wakes for a terminal: if the server has forgotten the start, its screen may be old.
+    // Notes that the instance wakes for a terminal: if the server has forgotten the instance, its screen may be old.
     fn wake(&mut self)
         ensures others { self.new ≡ record self.old { waking = self.new.waking } }
     {
@@ -213,7 +213,7 @@ impl<R: Clock + Copy + Drop> Door<Opaque<Arrival<R>>> for Doorway<R> {
         self.connection.rest(wait);
     }
 
-    // Until something is due the start waits as ever. From then on it says nothing, so the server stops sending after a minute without
+    // Until something is due the instance waits as ever. From then on it says nothing, so the server stops sending after a minute without
     // news.
     fn sleep(&mut self, longest: u64, due: Option<u64>) {
         if self.waking > 0 {
@@ -244,7 +244,7 @@ impl<R: Clock + Copy + Drop> Door<Opaque<Arrival<R>>> for Doorway<R> {
     }
 }
 
-/// Runs the start of all outer terminals that connect to a socket, for at most so many rounds. `Bind` if the socket can't be bound.
+/// Runs the instance of all outer terminals that connect to a socket, for at most so many rounds. `Bind` if the socket can't be bound.
 pub(crate) fn host<R: Files + Net, C: Clock + Copy + Drop>(
     rt: &R,
     alloc: Global,

@@ -1,4 +1,4 @@
-//! `roam attach`: the turns of a client start round real sockets, the clock and its outer terminals.
+//! `roam attach`: the turns of a client instance round real sockets, the clock and its outer terminals.
 #![tactic(auto)]
 
 mod arriving;

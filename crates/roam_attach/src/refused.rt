@@ -1,4 +1,4 @@
-//! The messages about the end of a client start, each on a line of its own.
+//! The messages about the end of a client instance, each on a line of its own.
 use crate::attaching::{Attach, Home, Typed};
 use mio::net::UnixStream;
 use roam_faults::RunFault;
@@ -57,7 +57,7 @@ fn tell_session<R: Files + Eprint + AllocGlobal>(rt: &R, folder: &str) {
     }
 }
 
-// Tells why nothing listens for client starts in the server's folder.
+// Tells why nothing listens for client instances in the server's folder.
 fn tell_clients<R: Net + Eprint + AllocGlobal>(rt: &R, folder: &str) {
     if let Ok(path) = format!(in rt.alloc(); "{folder}/clients") {
         tell(

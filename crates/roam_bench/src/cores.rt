@@ -10,7 +10,7 @@ use std::time::Instant;
 
 const SESSION: u64 = 0x5E55;
 
-/// Where all client starts are, but for those of a crowd.
+/// Where all client instances are, but for those of a crowd.
 const THERE: Addr = Addr {
     host: [127, 0, 0, 1],
     port: 5001,
@@ -39,7 +39,7 @@ static SCROLLS: [&[u8]; 2] = [
 /// The output for a redraw: all places at once (DECALN), and none.
 static REDRAWS: [&[u8]; 2] = [b"\x1B#8", b"\x1B[2J"];
 
-/// A server and one client start, at a moment.
+/// A server and one client instance, at a moment.
 #[derive(Drop)]
 struct Pair {
     server: Server,
@@ -71,14 +71,14 @@ fn greet(alloc: Global, server: &mut Server, client: &mut Client) -> Result<(), 
     heard(alloc, server, &texts, 0)
 }
 
-// A client start whose first datagram came to the server.
+// A client instance whose first datagram came to the server.
 fn greeted(alloc: Global, server: &mut Server, id: u64) -> Result<Client, Fault> {
     let mut client = Client::new(alloc, SESSION, id)?;
     greet(alloc, server, &mut client)?;
     Ok(client)
 }
 
-// So many client starts are known, and the pane is written all over.
+// So many client instances are known, and the pane is written all over.
 fn fill(alloc: Global, server: &mut Server, starts: u64) -> Result<(), Fault> {
     for id in 0..starts {
         greeted(alloc, server, id)?;
@@ -90,7 +90,7 @@ fn fill(alloc: Global, server: &mut Server, starts: u64) -> Result<(), Fault> {
     Ok(())
 }
 
-// Returns a server with a full pane and so many client starts. An owner of a server does nothing else, since each of its exits is proved
+// Returns a server with a full pane and so many client instances. An owner of a server does nothing else, since each of its exits is proved
 // with all that is dropped there.
 fn server_of(alloc: Global, rows: u16, cols: u16, starts: u64) -> Result<Server, Fault> {
     let mut server = Server::new(alloc, SESSION, rows, cols)?;
@@ -98,7 +98,7 @@ fn server_of(alloc: Global, rows: u16, cols: u16, starts: u64) -> Result<Server,
     Ok(server)
 }
 
-// A server that knows so many client starts, of which the last is kept.
+// A server that knows so many client instances, of which the last is kept.
 fn pair_of(alloc: Global, rows: u16, cols: u16, starts: u64) -> Result<Pair, Fault> {
     let mut server = server_of(alloc, rows, cols, starts.saturating_sub(1))?;
     let client = greeted(alloc, &mut server, starts)?;
@@ -126,8 +126,8 @@ fn copies(alloc: Global, shot: &RowShot, times: u32) -> Result<u64, Fault> {
     Ok(sum)
 }
 
-// The nanoseconds of a tick after these bytes and of its datagrams at the client start, and the datagrams' bytes. The answer that is owed
-// goes back unmeasured.
+// The nanoseconds of a tick after these bytes and of its datagrams at the client instance, and the datagrams' bytes. The answer that is
+// owed goes back unmeasured.
 fn round(rt: &HostRuntime, pair: &mut Pair, piece: &[u8]) -> anyhow::Result<(u128, u64)> {
     let alloc = rt.alloc();
     pair.server.pane_bytes(1, piece)?;
@@ -162,7 +162,7 @@ fn rounds(
     Ok((passed, bytes))
 }
 
-// The address of one of several client starts: each is at a port of its own, its place among them.
+// The address of one of several client instances: each is at a port of its own, its place among them.
 fn at_port(port: u16) -> Addr {
     Addr {
         host: [127, 0, 0, 1],
@@ -170,7 +170,7 @@ fn at_port(port: u16) -> Addr {
     }
 }
 
-// Gives the server the datagrams of each client start.
+// Gives the server the datagrams of each client instance.
 fn answer_all(
     alloc: Global,
     server: &mut Server,
@@ -186,7 +186,7 @@ fn answer_all(
     Ok(())
 }
 
-// Datagrams come to the client starts at their ports.
+// Datagrams come to the client instances at their ports.
 fn bring(
     alloc: Global,
     clients: &mut [Client],
@@ -201,7 +201,8 @@ fn bring(
     Ok(())
 }
 
-// The nanoseconds of a tick after these bytes at a moment. Its datagrams come to the client starts, and their answers go back, unmeasured.
+// The nanoseconds of a tick after these bytes at a moment. Its datagrams come to the client instances, and their answers go back,
+// unmeasured.
 fn crowd_tick(
     rt: &HostRuntime,
     server: &mut Server,
@@ -236,7 +237,7 @@ fn crowd_ticks(
     Ok(passed)
 }
 
-// The nanoseconds of ticks of a server with these client starts.
+// The nanoseconds of ticks of a server with these client instances.
 fn measured_among(
     rt: &HostRuntime,
     server: &mut Server,
@@ -257,7 +258,7 @@ fn new_clients(alloc: Global, starts: u64) -> Result<Vec<Client>, Fault> {
     Ok(clients)
 }
 
-// The nanoseconds of ticks with so many client starts.
+// The nanoseconds of ticks with so many client instances.
 fn measured_crowd(
     rt: &HostRuntime,
     size: (u16, u16),
@@ -286,7 +287,7 @@ fn measure_copies(rt: &HostRuntime, shot: &RowShot, times: u32) -> anyhow::Resul
     Ok((start.elapsed(rt)?.as_nanos(), sum))
 }
 
-// The first tick brings the last start its first screen.
+// The first tick brings the last instance its first screen.
 fn measure_idle(rt: &HostRuntime, server: &mut Server, times: u32) -> anyhow::Result<(u128, u64)> {
     idle_ticks(rt.alloc(), server, 1)?;
     let start = Instant::now(rt)?;
@@ -323,7 +324,7 @@ fn measured(
     measure_what(rt, &mut pair, what, times)
 }
 
-// So many client starts, from each of which a datagram came to the server.
+// So many client instances, from each of which a datagram came to the server.
 fn starts_of(alloc: Global, server: &mut Server, starts: u64) -> Result<Vec<Client>, Fault> {
     let mut clients = Vec::new(alloc);
     for id in 0..starts {
@@ -332,7 +333,7 @@ fn starts_of(alloc: Global, server: &mut Server, starts: u64) -> Result<Vec<Clie
     Ok(clients)
 }
 
-// Offers one more screen, and gives each client start its own. None is acknowledged.
+// Offers one more screen, and gives each client instance its own. None is acknowledged.
 fn offer(alloc: Global, server: &mut Server, clients: &mut [Client], k: u64) -> Result<u64, Fault> {
     server.pane_bytes(1, ROWS[(k % 2) as usize])?;
     let mut sum: u64 = 0;
@@ -361,7 +362,7 @@ fn keep_for(
     Ok(sum)
 }
 
-// Keeps eight screens for each of so many starts, and, if the starts are kept too, eight at each.
+// Keeps eight screens for each of so many instances, and, if the instances are kept too, eight at each.
 fn keep(alloc: Global, starts: u64, with_starts: bool) -> Result<u64, Fault> {
     let mut server = server_of(alloc, 24, 80, 0)?;
     keep_for(alloc, &mut server, starts, with_starts)
@@ -377,12 +378,12 @@ pub fn try_once(rt: &HostRuntime) -> anyhow::Result<()> {
     Ok(())
 }
 
-/// Ticks, and takes rounds, at the size in the words, that many times. The ticks after a key are for one client start and for nine.
+/// Ticks, and takes rounds, at the size in the words, that many times. The ticks after a key are for one client instance and for nine.
 pub fn measure(rt: &HostRuntime, words: &mut Args) -> anyhow::Result<()> {
     let rows = words::size(words, "ROWS")?;
     let cols = words::size(words, "COLS")?;
     let times = words::number(words, "TIMES")?;
-    // By name, of a server that knows so many starts.
+    // By name, of a server that knows so many instances.
     let whats = [
         ("copy", 1, What::Copy),
         ("idle1", 1, What::Idle),
@@ -403,7 +404,7 @@ pub fn measure(rt: &HostRuntime, words: &mut Args) -> anyhow::Result<()> {
     Ok(())
 }
 
-/// Keeps eight screens for each of so many client starts, which are kept too or not.
+/// Keeps eight screens for each of so many client instances, which are kept too or not.
 pub fn measure_kept(rt: &HostRuntime, words: &mut Args, with_starts: bool) -> anyhow::Result<()> {
     let starts = words::number(words, "N")?;
     keep(rt.alloc(), u64::from(starts), with_starts)?;

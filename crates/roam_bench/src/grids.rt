@@ -13,7 +13,7 @@ use std::time::Instant;
 /// The slices that the work is done in.
 const SLICES: u64 = 10;
 
-// Prints a line of output: the work, the size, the count, and the microseconds since the start.
+// Prints a line of output: the work, the size, the count, and the microseconds since the instance.
 fn report(
     rt: &HostRuntime,
     name: &str,

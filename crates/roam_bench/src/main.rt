@@ -9,13 +9,13 @@
 //! `roam_bench update ROWS COLS STYLES TIMES` writes and applies changes of screens in both versions, that many times each. It prints the
 //! version, the change, the cells, TIMES, the microseconds of writing and of applying, and the bytes of the text.
 //!
-//! `roam_bench cores ROWS COLS TIMES` copies a screen, and ticks an idle server with one client start and with 64. It takes as many rounds
-//! of a tick and its datagrams after one changed row, a scroll, a redraw and a key. It takes as many ticks after a key with one client
-//! start and with nine. It prints the name, TIMES, the nanoseconds, and a number that depends on the work: for a key the bytes of all
-//! datagrams.
+//! `roam_bench cores ROWS COLS TIMES` copies a screen, and ticks an idle server with one client instance and with 64. It takes as many
+//! rounds of a tick and its datagrams after one changed row, a scroll, a redraw and a key. It takes as many ticks after a key with one
+//! client instance and with nine. It prints the name, TIMES, the nanoseconds, and a number that depends on the work: for a key the bytes of
+//! all datagrams.
 //!
-//! `roam_bench records N` makes a server that keeps eight screens for each of N client starts. `roam_bench clients N` keeps these starts too, with
-//! eight screens each. A caller can then read how much memory that takes.
+//! `roam_bench records N` makes a server that keeps eight screens for each of N client instances. `roam_bench clients N` keeps these
+//! instances too, with eight screens each. A caller can then read how much memory that takes.
 //!
 //! `roam_bench hops` and `roam_bench moved` measure nothing. For each line of standard input, which has two screens, they print texts that
 //! lead from one to the other. Without words the program does a little of each, and prints the texts of the lines of standard input.

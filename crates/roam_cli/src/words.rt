@@ -38,8 +38,8 @@ pub enum Request<'a> {
         normalize: bool,
     },
 
-    /// `roam attach`: a client start with this id, or a random one, for so many turns. Its session is served in this folder or on this port
-    /// of loopback. It types the acts of this source, has this version, and may be read-only.
+    /// `roam attach`: a client instance with this id, or a random one, for so many turns. Its session is served in this folder or on this
+    /// port of loopback. It types the acts of this source, has this version, and may be read-only.
     Attach {
         server: Server<'a>,
         session: Option<u64>,
@@ -58,7 +58,7 @@ pub enum Server<'a> {
     Port(u16),
 }
 
-/// Where the acts of a client start come from.
+/// Where the acts of a client instance come from.
 #[derive(Clone, Copy, Debug, PartialEq, Eq)]
 pub enum Source<'a> {
     /// From nowhere: nobody types.
@@ -74,7 +74,7 @@ pub enum Source<'a> {
     Terminals(&'a str),
 }
 
-/// The version of the protocol that a client start speaks.
+/// The version of the protocol that a client instance speaks.
 #[derive(Clone, Copy, Debug, PartialEq, Eq)]
 pub enum Wire {
     One,
@@ -135,7 +135,7 @@ fn serve_of<'a>(matches: &ArgMatches<'a>) -> Result<Request<'a>, Refusal>
     }
 }
 
-// Returns the version of a client start: the second, unless the first is asked for.
+// Returns the version of a client instance: the second, unless the first is asked for.
 fn wire_in(matches: &ArgMatches<'_>) -> Wire
     ensures wire { IsWireOf (found_of matches.now) result }
 {

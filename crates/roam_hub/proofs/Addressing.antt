@@ -1,4 +1,4 @@
--- The datagrams to the client start of a record, and the kept part of it then.
+-- The datagrams to the client instance of a record, and the kept part of it then.
 use Rattle.std.proofs.Common.{◌≡◌, ℕ, ◌+◌, ◌≤◌, List, [], ◌∷◌, ◌++◌, length, map, Option, Some, None, Bool, true, false, refl, sym, ap, ◌∙◌, subst, cond, arith, Vec}
 use Rattle.std.specs.Prelude.{nat_lt, ◌&&◌, ◌||◌, option_and_then}
 use Rattle.std.specs.List.{enumerate_from}
@@ -124,7 +124,7 @@ held_now v n s now b version sender same e f g =
     (λ i. record v { version = same i; sender = g i })
     ∙ sym (λ i. record v { sender = cond ((sym e ∙ f) i) (offered v.sender n (seen_by v.version s)) v.sender })
 
--- ---- the datagrams to a start
+-- ---- the datagrams to an instance
 
 as_many : (session client : ℕ) (v : RecordView) (texts : List (Vec ℕ Global))
     → texts_of texts ≡ map datagram_text (datagrams_for session (client, v)) → length texts ≡ length (fragments_due v)

@@ -181,7 +181,7 @@ was_kept v s d new was is st (added at few first same) = first ∙ sym (ap kept_
 
 -- ---- how many are known
 
--- as many records are of starts that only watch, or of others, as starts are
+-- as many records are of instances that only watch, or of others, as instances are
 alike_is : (w : Bool) (es : List (ℕ × RecordView)) (records : ℕ → Record) → AreKept es records
     → length (alike_entries w es) ≡ length (alike_in records w (keys_of es))
 alike_is w [] records k = refl

@@ -1,4 +1,4 @@
--- The effect of a datagram on a client start.
+-- The effect of a datagram on a client instance.
 use Rattle.std.proofs.Common.{◌≡◌, ◌⊎◌, ℕ, ◌-◌, ◌<◌, ◌≤◌, ◌^◌, max, List, Option, Some, None, Bool, true, false, inl, inr, refl, sym, ap, ◌∙◌, subst, cond, arith}
 use Rattle.std.proofs.lemmas.Bool.Decides.{nat_tests}
 use Rattle.std.specs.Prelude.{Result, Ok, Err, IsOk, nat_le, nat_lt, is_none, length, drop}
@@ -120,12 +120,12 @@ not_datagram v bytes now _ fits why only = absurd why
 
 -- ---- a datagram
 
--- the clauses about a start are those about an equal one
+-- the clauses about an instance are those about an equal one
 pub heard_alike : {v v' new : ClientView} {bytes : List ℕ} {now : ℕ} {result : Result Heard Fault} → v ≡ v'
     → Hears v bytes now result new → Hears v' bytes now result new
 heard_alike {v} {v'} {new} {bytes} {now} {result} same = subst (λ (x : ClientView). Hears x bytes now result new) same
 
--- a datagram of this start: the gathered fragments decide its effect
+-- a datagram of this instance: the gathered fragments decide its effect
 abbrev pub Admits : ClientView → DatagramValue → Type 0
 Admits v d = arriving v.session v.id v.kept d ≡ arriving_gathered (gather v.kept.gathering (fragment_of d))
 

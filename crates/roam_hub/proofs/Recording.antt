@@ -198,7 +198,7 @@ pub informed_as : (old : RecordView) (d : DatagramValue) (from : Address) (now :
 informed_as old d from now g u n version taken sender owed v e f h =
     λ i. record (heard_by old d from now g) { version = v i; taken = e i; sender = f i; owed = h i }
 
--- ---- the record of a start
+-- ---- the record of an instance
 
 pub with_both : (r : Result Taking Fault) (P : Taking → Type 0) (Q : Type 0) → IfOk r P → OnOk r Q → IfOk r (λ t. Q × P t)
 with_both (Ok t) P Q p q = (q, p)
@@ -299,7 +299,7 @@ is_fitted v d f =
       watches = same_kind v.watches (is_watching d.kind) f.watches_is i;
     }
 
--- a record of a new start is of its first datagram's version and kind
+-- a record of a new instance is of its first datagram's version and kind
 pub first_fits : (d : DatagramValue) → Fits d.version (is_watching d.kind) d
 first_fits d = record { version_is = versions.is_same-refl d.version; watches_is = go (is_watching d.kind) }
   where
@@ -333,7 +333,7 @@ known_not_noted id old was d fault same at none = go none
         subst (λ (x : RecordView). Fits x.version x.watches d) same_v f)
         (subst (λ (o : Option RecordView). NotNoted (entry_of o) d fault) (sym here) n)
 
--- a datagram that isn't noted in a record of a new start isn't noted in none
+-- a datagram that isn't noted in a record of a new instance isn't noted in none
 unfitted : (d : DatagramValue) (fault : Fault) → NotNoted (first_record d.version (is_watching d.kind)) d fault
     → NotNoted (kept_of no_record) d fault
 unfitted d fault (no_fragment e f) = no_fragment e f

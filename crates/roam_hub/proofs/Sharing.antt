@@ -182,7 +182,7 @@ have_numbered n old s now es new h is =
           (all_settled_made screens (n + 1) s now es last (next_all h.screens n s es h.made));
     }
 
--- the start of a tick, with and without a new number
+-- the beginning of a tick, with and without a new number
 pub together_newest : (n : ℕ) (s : Screenshot) (es : List (ℕ × RecordView)) (cs : List SharedChange) → HaveScreens n s es → cs ≡ []
     → GoTogether n s es cs
 together_newest n s es cs h none =

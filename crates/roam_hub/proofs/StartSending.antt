@@ -1,4 +1,4 @@
--- The datagrams that a client start sends.
+-- The datagrams that a client instance sends.
 use Rattle.std.proofs.Common.{◌≡◌, ◌⊎◌, ℕ, ◌+◌, ◌<◌, ◌≤◌, ◌^◌, arith, max, List, [], ◌∷◌, length, take, map, Option, Some, None, Bool, true, false, inl, inr, refl, sym, ap, ◌∙◌, subst, Vec}
 use Rattle.std.specs.Prelude.{Result, Ok, Err, ◌||◌}
 use Rattle.std.specs.List.{enumerate_from}
@@ -32,7 +32,7 @@ pub short_in : (v : Version) (n : ℕ) → n ≤ 1228800 → n ≤ most_bytes v
 short_in One n few = few
 short_in Two n few = omega (arith, few)
 
--- a datagram of a read-only start names it
+-- a datagram of a read-only instance names it
 pub from_watcher : (watches : Bool) → kind_from watches ≡ FromWatcher → watches ≡ true
 from_watcher true e = refl
 from_watcher false e = absurd (cc)
@@ -41,7 +41,7 @@ pub first_fits : (a b c : Bool) → a ≡ false → ((a || b) || c) ≡ (b || c)
 first_fits false b c e = refl
 first_fits true b c e = absurd (cc)
 
--- the clauses about a start are those about an equal one
+-- the clauses about an instance are those about an equal one
 pub sent_alike : {v v' new : ClientView} {now : ℕ} {result : Result (Vec (Vec ℕ Global) Global) Fault} → v ≡ v'
     → Sends v now result new → Sends v' now result new
 sent_alike {v} {v'} {new} {now} {result} same = subst (λ (x : ClientView). Sends x now result new) same

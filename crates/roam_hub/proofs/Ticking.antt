@@ -147,7 +147,7 @@ kept_settled n s now (e ∷ es) records k = (
   kept_settled n s now es records k.1,
 )
 
--- the parcels to a client start
+-- the parcels to a client instance
 abbrev parcels_for : ℕ → ℕ → Screenshot → ℕ → (ℕ → Record) → ℕ → List Parcel
 parcels_for session n s now records id =
     map (parcel (records id).address) (datagrams_to session id (records id) n (seen_by (records id).version s) now)

@@ -1,4 +1,4 @@
--- The model of a client start of the code, at its calls.
+-- The model of a client instance of the code, at its calls.
 use Rattle.std.proofs.Common.{◌≡◌, ◌⊎◌, ℕ, ◌<◌, Bool, false, List, [], ◌∷◌, length, inl, inr, refl, ◌∙◌, ap, sym, subst}
 use Rattle.std.specs.Prelude.{◌↔◌, Result, Ok, Err, OnOk, OnErr, IfErr, IsErrOf}
 use Rattle.std.specs.List.{All}
@@ -28,14 +28,14 @@ all_acts_typed (Err f) old new acts ok err all more = subst (λ (s : Typing). Al
 
 -- ---- several acts
 
--- the kept part of a start once several acts were typed
+-- the kept part of an instance once several acts were typed
 kept_typed : (k : Kept) (acts : List Act) → record k { acts = after_typing_all k.acts acts } ≡ after_typed_all k acts
 kept_typed k [] = ap (λ (xs : List Act). record k { acts = record k.acts { acts = xs } }) (append-nil k.acts.acts)
 kept_typed k (act ∷ acts) =
     ap (λ (xs : List Act). record k { acts = record k.acts { acts = xs } }) (sym (append_assoc k.acts.acts (act ∷ []) acts))
     ∙ kept_typed (after_typed k act) acts
 
--- the result of typing them, and the start afterwards
+-- the result of typing them, and the instance afterwards
 pub types_all : (v : ClientView) (acts : List Act) (r : Result (Unit {0}) Fault) (new : Typing) → v.kept.watches ≡ false
     → OnOk r (new ≡ after_typing_all v.kept.acts acts) → IsErrOf r Busy ↔ HasNoRoom v.kept.acts (length acts)
     → IsErrOf r Spent ↔ IsShort v.kept.acts (length acts) → (IsErrOf r OutOfMemory → 0 < length acts) → OnErr r (new ≡ v.kept.acts)

@@ -1,4 +1,4 @@
--- The effect of a datagram of a read-only start, whatever else its bytes are.
+-- The effect of a datagram of a read-only instance, whatever else its bytes are.
 use Rattle.std.proofs.Common.{◌≡◌, ◌⊎◌, ℕ, List, [], length, drop, Option, Some, None, Bool, true, false, inl, inr, refl, sym, ap, ◌∙◌, subst, cond, arith}
 use Rattle.std.specs.Prelude.{Result, Ok, Err, IfOk, IfErr, IfSome, OnErr, nat_eq, nat_lt, not}
 use Rattle.roam_cells.specs.declared.faults.Fault.{Fault}
@@ -30,7 +30,7 @@ use Rattle.roam_hub.specs.Records.{answer_to_datagram}
 
 -- ---- bytes
 
--- a datagram has the client start and the kind in its bytes
+-- a datagram has the client instance and the kind in its bytes
 record Tells (bytes : List ℕ) (d : DatagramValue) : Type 0 where
   client : d.client ≡ (header_at bytes).client
   kind : kind_tagged d.version (header_at bytes).kind ≡ Some d.kind

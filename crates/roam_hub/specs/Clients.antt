@@ -1,4 +1,4 @@
--- The model of a client start of the code, and the results and effects of its calls.
+-- The model of a client instance of the code, and the results and effects of its calls.
 use Rattle.std.specs.Prelude.{◌≡◌, ℕ, ◌+◌, ◌<◌, List, [], map, fold, length, Some, None, Result, Ok, Err, Bool, true, false, nat_lt, Vec}
 use Rattle.std.specs.declared.alloc.Global.{Global}
 use Rattle.roam_cells.specs.declared.faults.Fault.{Fault}
@@ -27,17 +27,17 @@ use Rattle.roam_model.specs.Sendings.{is_client_due, is_client_spent, datagrams_
 use Rattle.roam_hub.specs.declared.clients.Heard.{Heard}
 use Rattle.roam_hub.specs.declared.clients.Heard.TheVariants as heard
 
--- the value of a client start for contracts: its session, its id, and the kept part of the definitions
+-- the value of a client instance for contracts: its session, its id, and the kept part of the definitions
 pub record ClientView : Type 0 where
   pub session : ℕ
   pub id : ℕ
   pub kept : Kept
 
--- a start of this id in this session
+-- an instance of this id in this session
 abbrev pub view_of : ℕ → ℕ → Client → ClientView
 view_of session id c = record { session = session; id = id; kept = c.kept }
 
--- a start of the code models a start of the definitions: it has its kept part
+-- an instance of the code models an instance of the definitions: it has its kept part
 abbrev pub Stands : ClientView → ℕ → ℕ → Client → Type 0
 Stands v session id c = v ≡ view_of session id c
 
@@ -52,7 +52,7 @@ hearing_in heard.Old = IsOld
 hearing_in heard.Gap = IsGap
 hearing_in heard.New = IsNew
 
--- an act is typed: the start only watches; 1,024 are unacknowledged; numbers are spent; it is taken; or memory is wanting
+-- an act is typed: the instance only watches; 1,024 are unacknowledged; numbers are spent; it is taken; or memory is wanting
 pub data Types (v : ClientView) (act : Act) (result : Result (Unit {0}) Fault) (new : ClientView) : Type 0 where
   watching : v.kept.watches ≡ true → result ≡ Err Watching → new ≡ v → Types v act result new
   full : v.kept.watches ≡ false → IsFull v.kept.acts → result ≡ Err Busy → new ≡ v → Types v act result new
@@ -66,7 +66,7 @@ pub data Types (v : ClientView) (act : Act) (result : Result (Unit {0}) Fault) (
 abbrev pub after_typed_all : Kept → List Act → Kept
 after_typed_all k acts = fold after_typed k acts
 
--- Several acts are typed: the start is read-only; more than 1,024 would be unacknowledged; numbers are spent; all of them are taken; or
+-- Several acts are typed: the instance is read-only; more than 1,024 would be unacknowledged; numbers are spent; all of them are taken; or
 -- memory is refused.
 pub data TypesAll (v : ClientView) (acts : List Act) (result : Result (Unit {0}) Fault) (new : ClientView) : Type 0 where
   watching : v.kept.watches ≡ true → result ≡ Err Watching → new ≡ v → TypesAll v acts result new

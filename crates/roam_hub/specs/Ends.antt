@@ -1,4 +1,4 @@
--- The two ends of a link of screens, in the version of their start, with one form for their states.
+-- The two ends of a link of screens, in the version of their instance, with one form for their states.
 use Rattle.roam_screens.specs.Screenshot.{Screenshot}
 use Rattle.roam_sync.specs.Senders.{Sending}
 use Rattle.roam_sync.specs.Receivers.{Receiving}

@@ -1,4 +1,4 @@
--- The server's record of a client start, and the effects of its calls.
+-- The server's record of a client instance, and the effects of its calls.
 use Rattle.std.specs.Prelude.{◌≡◌, ℕ, Result, Ok, Err, ◌+◌, ◌%◌, ◌^◌, ◌<◌, ◌≤◌, max, nat_lt, nat_eq, ◌==◌, ◌&&◌, ◌||◌, List, [], ◌∷◌, ◌++◌, length, take, map, is_some, Option, Some, None, Bool, true, if◌then◌else◌, filter, false}
 use Rattle.std.specs.List.{flat_map, list_any}
 use Rattle.std.specs.Map.{lookup, set_value}
@@ -52,11 +52,11 @@ bare v =
 
 -- ---- a datagram
 
--- the record of a start of a version, which may only watch, from which nothing came
+-- the record of an instance of a version, which may only watch, from which nothing came
 abbrev pub first_record : Version → Bool → RecordView
 first_record version watches = record (kept_of no_record) { version = version; watches = watches }
 
--- a datagram is of the version and the kind of its start's first one
+-- a datagram is of the version and the kind of its instance's first one
 pub record Fits (version : Version) (watches : Bool) (d : DatagramValue) : Type 0 where
   pub version_is : is_same_version version d.version ≡ true
   pub watches_is : is_same watches (is_watching d.kind) ≡ true
@@ -133,16 +133,16 @@ pub data NotHeard (old : RecordView) (d : DatagramValue) (fault : Fault) : Type 
   other : IsOther old.version old.watches d fault → NotHeard old d fault
   fitting : Fits old.version old.watches d → NotNoted old d fault → NotHeard old d fault
 
--- the records of starts that only watch, or the others
+-- the records of instances that only watch, or the others
 abbrev pub alike_entries : Bool → List (ℕ × RecordView) → List (ℕ × RecordView)
 alike_entries watches es = filter (λ e. is_same e.1.watches watches) es
 
--- how many acts were taken of these starts, added to n, modulo 2^64
+-- how many acts were taken of these instances, added to n, modulo 2^64
 unfoldable pub acts_after : ℕ → List (ℕ × RecordView) → ℕ
 acts_after n [] = n
 acts_after n (e ∷ es) = acts_after ((n + e.1.taken) % 2 ^ 64) es
 
--- The record of a datagram's start changes: it was there, of the datagram's version and kind; or it is new, and there is room for it.
+-- The record of a datagram's instance changes: it was there, of the datagram's version and kind; or it is new, and there is room for it.
 pub data Puts (d : DatagramValue) (old new : List (ℕ × RecordView)) (v w : RecordView) : Type 0 where
   known : lookup (nat_eq d.client) old ≡ Some v → Fits v.version v.watches d → new ≡ set_value (nat_eq d.client) old w → Puts d old new v w
   added : lookup (nat_eq d.client) old ≡ None → length (alike_entries (is_watching d.kind) old) < most_of (is_watching d.kind)
@@ -152,7 +152,7 @@ pub data Puts (d : DatagramValue) (old new : List (ℕ × RecordView)) (v w : Re
 abbrev pub fitted_record : RecordView → DatagramValue → RecordView
 fitted_record v d = record v { version = d.version; watches = is_watching d.kind }
 
--- a datagram is noted in the record of its client start
+-- a datagram is noted in the record of its client instance
 pub record NotesIn (old : List (ℕ × RecordView)) (before : SessionView) (d : DatagramValue) (from : Address) (now : ℕ) (t : Taking)
     (new : List (ℕ × RecordView)) (after : SessionView) : Type 0 where
   pub was : RecordView
@@ -166,7 +166,7 @@ entry_of None = kept_of no_record
 entry_of (Some v) = v
 
 -- the reasons for which nothing is noted in any record: there is no room for one more; the one that is there is of another version or kind;
--- or nothing is noted in that of the client start
+-- or nothing is noted in that of the client instance
 pub data NotNotedIn (old : List (ℕ × RecordView)) (d : DatagramValue) (fault : Fault) : Type 0 where
   full : lookup (nat_eq d.client) old ≡ None → most_of (is_watching d.kind) ≤ length (alike_entries (is_watching d.kind) old)
       → fault ≡ ClientsFull → NotNotedIn old d fault
@@ -194,7 +194,7 @@ is_sent_to v now = is_live (bare v) now && (is_due v.sender now || is_overdue v.
 abbrev pub fragments_sent : RecordView → ℕ → Option ℕ
 fragments_sent v now = if is_sent_to v now then Some (length (fragments_due v)) else None
 
--- the datagrams of that instruction, for the start of an id
+-- the datagrams of that instruction, for the instance of an id
 abbrev pub datagrams_for : ℕ → ℕ × RecordView → List DatagramValue
 datagrams_for session e = datagrams_of e.1.version ToClient session e.0 e.1.datagrams (e.1.instructions + 1) (fragments_due e.1)
 
@@ -226,7 +226,7 @@ held_record v n s now = record v { sender = holds_after (bare v) n (seen_by v.ve
 abbrev pub held_entry : ℕ → Screenshot → ℕ → ℕ × RecordView → ℕ × RecordView
 held_entry n s now e = (e.0, held_record e.1 n s now)
 
--- the datagrams to its client start
+-- the datagrams to its client instance
 abbrev pub texts_for : ℕ → ℕ → Screenshot → ℕ → ℕ × RecordView → List (Address × List ℕ)
 texts_for session n s now e = parcels_for session now (held_entry n s now e)
 
@@ -242,7 +242,7 @@ settled_entry n s now e = (e.0, settled_with (held_record e.1 n s now) (fragment
 abbrev pub makes_at : ServerView → ℕ → Bool
 makes_at v now = v.made == 0 || (v.input && has_passed frame_interval v.made_at now)
 
--- all that goes to client starts
+-- all that goes to client instances
 abbrev pub sent_by_tick : ServerView → ℕ → Screenshot → ℕ → List (Address × List ℕ)
 sent_by_tick v n s now = flat_map (texts_for v.session n s now) v.records
 
@@ -270,7 +270,7 @@ numbered_by v face now =
 abbrev pub is_numbering_spent : ServerView → Screenshot → ℕ → Bool
 is_numbering_spent v face now = is_spent (v.made + 1) || is_any_spent v (v.made + 1) face now
 
--- the face of a session, a screen, got the next number, and these went to client starts
+-- the face of a session, a screen, got the next number, and these went to client instances
 abbrev pub Numbers : ServerView → Screenshot → ℕ → List (Address × List ℕ) → ServerView → Type 0
 Numbers v face now sent new =
     (sent ≡ sent_by_tick v (v.made + 1) face now) × (new ≡ numbered_by v face now) × IsScreenshot face

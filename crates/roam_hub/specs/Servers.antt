@@ -154,7 +154,7 @@ pub data Comes (s : Server) (from : Address) (bytes : List ℕ) (now : ℕ) (res
   no_memory : (d : DatagramValue) → IsTextOf bytes d → result ≡ stop_after OutOfMemory 0 → Stands new s
       → Comes s from bytes now result new
 
--- the bytes have the kind of a datagram from a read-only start, whatever else they are
+-- the bytes have the kind of a datagram from a read-only instance, whatever else they are
 abbrev pub ComesFromWatcher : List ℕ → Type 0
 ComesFromWatcher bytes = (header_at bytes).kind ≡ 3
 
@@ -163,7 +163,7 @@ abbrev pub taken_in : Result ℕ Stop → ℕ
 taken_in (Ok n) = n
 taken_in (Err stop) = stop.taken
 
--- no act is taken, and the server stays, but for its moments and the record of the start whose id is in the bytes
+-- no act is taken, and the server stays, but for its moments and the record of the instance whose id is in the bytes
 pub record TakesNothing (s : Server) (bytes : List ℕ) (result : Result ℕ Stop) (new : ServerView) : Type 0 where
   pub none : taken_in result ≡ 0
   pub left : Server
@@ -183,7 +183,7 @@ parcels_of all = map (λ p. (address_of p.0, p.1.items)) all
 abbrev pub parcel_text : Parcel → Address × List ℕ
 parcel_text p = (p.to, datagram_text p.datagram)
 
--- a tick offers the newest number to the record of a start, or sends something to it
+-- a tick offers the newest number to the record of an instance, or sends something to it
 abbrev pub is_touched : Server → ℕ → ℕ → Bool
 is_touched s now id =
     is_offered (s.records id) (number_after s now) now || sends (s.records id) (number_after s now) (screen_to s now id) now

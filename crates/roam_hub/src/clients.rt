@@ -1,4 +1,4 @@
-//! A client start: the acts typed there, the datagrams it takes, and those it sends.
+//! A client instance: the acts typed there, the datagrams it takes, and those it sends.
 ghost use Rattle.std.specs.Prelude.{◌≡◌, ◌+◌, ◌⊎◌, ◌↔◌, ◌<◌, ◌≤◌, ◌^◌, true, false, not, length, map, ℕ, List, [], IsTrue, IfOk, IfErr, IfSome, OnOk, OnErr, IsErrOf, IsOkUnless, if◌then◌else◌};
 ghost use Rattle.std.specs.List.{All};
 ghost use Rattle.roam_acts.specs.Acts.{HasKey, IsInRange};
@@ -37,7 +37,7 @@ use roam_wire::{
 use std::alloc::Global;
 use std::marker::Model;
 
-/// The kind of a datagram to a client start.
+/// The kind of a datagram to a client instance.
 #[derive(Clone, Copy, Debug, PartialEq, Eq)]
 pub enum Heard {
     /// A fragment of an instruction of which others are missing.
@@ -53,7 +53,7 @@ pub enum Heard {
     New,
 }
 
-/// One start of a client of a session.
+/// One instance of a client of a session.
 #[derive(Drop)]
 pub struct Client {
     session: u64,
@@ -146,7 +146,7 @@ fn is_to_client(kind: Kind) -> bool
     }
 }
 
-// Returns Ok if a datagram is for a start of this id in this session, and of its version.
+// Returns Ok if a datagram is for an instance of this id in this session, and of its version.
 fn admit(session: u64, id: u64, version: Version, datagram: &Datagram) -> Result<(), Fault>
     ensures ok { OnOk result ((k : Kept) → k.version ≡ version → arriving session id k (datagram_value datagram.now)
         ≡ arriving_gathered (gather k.gathering (fragment_of (datagram_value datagram.now)))) }
@@ -195,7 +195,7 @@ fn deliver(
     Ok((step, down.old < down.new))
 }
 
-// The kind of the datagrams that a start sends.
+// The kind of the datagrams that an instance sends.
 fn kind_of(watches: bool) -> Kind
     ensures kind { result ≡ kind_from watches }
 {
@@ -207,7 +207,7 @@ fn kind_of(watches: bool) -> Kind
 }
 
 impl Client {
-    // A start of this id in this session, of a version, which may only watch in version 2.
+    // An instance of this id in this session, of a version, which may only watch in version 2.
     fn begun(
         alloc: Global,
         session: u64,
@@ -236,7 +236,7 @@ impl Client {
         })
     }
 
-    /// Returns a start of this id in this session, of version 2: nothing was typed, and it shows the blank screen of 24 by 80 under the
+    /// Returns an instance of this id in this session, of version 2: nothing was typed, and it shows the blank screen of 24 by 80 under the
     /// number 0. `OutOfMemory`.
     pub fn new(alloc: Global, session: u64, id: u64) -> Result<Client, Fault>
         ensures stands { IfOk result (λ client. Stands client session id (new_client Two false)) }
@@ -261,8 +261,8 @@ impl Client {
         Client::begun(alloc, session, id, Version::Two, true)
     }
 
-    /// Takes an act that was typed here. `Watching` if the start is read-only, `Busy` if 1,024 acts are unacknowledged, `Spent` if its
-    /// number would be 2^62, `OutOfMemory`; an error leaves the start as it was.
+    /// Takes an act that was typed here. `Watching` if the instance is read-only, `Busy` if 1,024 acts are unacknowledged, `Spent` if its
+    /// number would be 2^62, `OutOfMemory`; an error leaves the instance as it was.
     pub fn typed(&mut self, act: Act) -> Result<(), Fault>
         requires in_range { IsInRange act }
         ensures typed { Types self.old act result self.new }
@@ -275,9 +275,9 @@ impl Client {
         self.acts.typed(act)
     }
 
-    /// Takes acts that were typed here, in their order: all of them, or none. `Watching` if the start is read-only, `Busy` if more than
-    /// 1,024 acts would be unacknowledged, `Spent` if a number that they need would be 2^62, `OutOfMemory`; an error leaves the start as it
-    /// was.
+    /// Takes acts that were typed here, in their order: all of them, or none. `Watching` if the instance is read-only, `Busy` if more than
+    /// 1,024 acts would be unacknowledged, `Spent` if a number that they need would be 2^62, `OutOfMemory`; an error leaves the instance as
+    /// it was.
     pub fn typed_all(&mut self, acts: &[Act]) -> Result<(), Fault>
         requires in_range { All IsInRange acts.now }
         ensures typed { TypesAll self.old acts.now result self.new }
@@ -316,7 +316,7 @@ impl Client {
 
     /// Takes the bytes of a datagram that came at a moment. `BadDatagram` for bytes that are no datagram to a client; then `OtherSession`;
     /// `OtherClient`; `BadDatagram` for one of the other version, and for an invalid fragment or instruction; `BadChange`; `OutOfMemory`.
-    /// An error leaves the start as it was.
+    /// An error leaves the instance as it was.
     pub fn datagram(&mut self, alloc: Global, bytes: &[u8], now: u64) -> Result<Heard, Fault>
         ensures heard { Hears self.old bytes.now now result self.new }
         ensures err { OnErr result (self.new ≡ self.old) }
@@ -431,7 +431,7 @@ impl Client {
     }
 
     /// Returns the texts of the datagrams to send at a moment, in their order; none if nothing is due. `Spent` exactly if something is due
-    /// and a number that it needs would be 2^62; `OutOfMemory`. An error leaves the start as it was.
+    /// and a number that it needs would be 2^62; `OutOfMemory`. An error leaves the instance as it was.
     pub fn tick(&mut self, alloc: Global, now: u64) -> Result<Vec<Vec<u8>>, Fault>
         ensures sent { Sends self.old now result self.new }
         ensures err { OnErr result (self.new ≡ self.old) }
@@ -458,7 +458,7 @@ impl Client {
         self.acts.waiting().1.is_empty()
     }
 
-    /// The number and the screen that the start shows. It takes no memory.
+    /// The number and the screen that the instance shows. It takes no memory.
     pub fn shown(&self) -> (u64, Shown<'_>)
         ensures shown { (result.0 ≡ self.now.kept.receiver.newest.number) × (shown_by result.1 ≡ self.now.kept.receiver.newest.state) }
     {

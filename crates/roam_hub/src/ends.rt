@@ -1,4 +1,4 @@
-//! The two ends of a link of screens, in the version of their start: each call is that of the end of its kind of screens.
+//! The two ends of a link of screens, in the version of their instance: each call is that of the end of its kind of screens.
 ghost use Rattle.std.specs.Prelude.{◌≡◌, ◌≢◌, ◌⊎◌, ◌<◌, ◌≤◌, Some, None, Ok, IfOk, IfErr, IfSome, OnOk, OnErr, IsErrOf, IsOkUnless};
 ghost use Rattle.roam_screens.specs.Narrow.{narrow};
 ghost use Rattle.roam_screens.specs.Screenshot.{Screenshot, blank_screenshot};
@@ -19,14 +19,14 @@ use roam_update::Synced;
 use roam_wire::Version;
 use std::alloc::Global;
 
-/// The sender of the screens that a client start is shown, in its version.
+/// The sender of the screens that a client instance is shown, in its version.
 #[derive(Drop)]
 pub enum AnySender {
     One(Sender<RowShot1>),
     Two(Sender<RowShot>),
 }
 
-/// The receiver of the screens that a client start shows, in its version.
+/// The receiver of the screens that a client instance shows, in its version.
 #[derive(Drop)]
 pub enum AnyReceiver {
     One(Receiver<RowShot1>),

@@ -1,4 +1,4 @@
-//! The records of client starts, by their ids, in the order of arrival.
+//! The records of client instances, by their ids, in the order of arrival.
 ghost use Rattle.std.specs.Prelude.{◌≡◌, ◌⊎◌, ◌+◌, ◌<◌, ◌^◌, nat_eq, length, if◌then◌else◌, IfOk, IfErr, IfSome, OnErr};
 ghost use Rattle.std.specs.List.{IsDistinct};
 ghost use Rattle.std.specs.Map.{keys_of};
@@ -16,7 +16,7 @@ use roam_session::Session;
 use roam_wire::Datagram;
 use std::alloc::Global;
 
-// How many starts that only watch may be known, or how many others.
+// How many instances that only watch may be known, or how many others.
 fn most(watches: bool) -> usize
     ensures most { result ≡ most_of watches }
 {
@@ -31,7 +31,7 @@ fn counted(count: usize, is_one: bool) -> usize
     if is_one { count + 1 } else { count }
 }
 
-/// How many of the records are of starts that only watch, or of others.
+/// How many of the records are of instances that only watch, or of others.
 pub fn alike(records: &IndexMap<u64, Record>, watches: bool) -> usize
     ensures count { result ≡ length (alike_entries watches records.now.entries) }
 {
@@ -43,7 +43,7 @@ pub fn alike(records: &IndexMap<u64, Record>, watches: bool) -> usize
     count
 }
 
-/// How many acts were taken of all starts, modulo 2^64.
+/// How many acts were taken of all instances, modulo 2^64.
 pub fn acts_taken(records: &IndexMap<u64, Record>) -> u64
     ensures taken { result ≡ acts_after 0 records.now.entries }
 {
@@ -55,8 +55,8 @@ pub fn acts_taken(records: &IndexMap<u64, Record>) -> u64
     taken
 }
 
-/// Notes a datagram in the record of its client start, which may be new, and does the new acts of an instruction that it completes. An
-/// error leaves the records and the session as they were. 64 starts that type and 16 read-only ones may be known.
+/// Notes a datagram in the record of its client instance, which may be new, and does the new acts of an instruction that it completes. An
+/// error leaves the records and the session as they were. 64 instances that type and 16 read-only ones may be known.
 pub fn hear_in(
     alloc: Global,
     session: &mut Session,

@@ -1,4 +1,4 @@
-//! The program's two cores: the server and a client start.
+//! The program's two cores: the server and a client instance.
 #![tactic(auto)]
 
 pub mod addresses;

@@ -9,7 +9,7 @@ pub(crate) const FRAME_INTERVAL: u64 = 20;
 /// An answer that is owed is given after so long.
 const ANSWER_DELAY: u64 = 100;
 
-/// A start from which nothing came for so long is sent nothing.
+/// An instance from which nothing came for so long is sent nothing.
 const FORGET_AFTER: u64 = 60_000;
 
 /// Returns true if so many milliseconds have passed since a moment.
@@ -78,7 +78,7 @@ pub(crate) fn owed_after(owed: Option<u64>, owes: bool, now: u64) -> Option<u64>
     }
 }
 
-/// Returns true if a datagram of a start came of late.
+/// Returns true if a datagram of an instance came of late.
 pub(crate) fn is_heard(heard_at: u64, now: u64) -> bool
     ensures heard { result ≡ nat_lt now (heard_at + forget_after) }
 {

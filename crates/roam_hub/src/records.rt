@@ -1,4 +1,4 @@
-//! The server's record of a client start.
+//! The server's record of a client instance.
 ghost use Rattle.std.specs.Prelude.{◌≡◌, ◌==◌, ◌⊎◌, ◌+◌, ◌++◌, ◌∷◌, [], ◌<◌, ◌≤◌, ◌^◌, ◌&&◌, ◌||◌, ℕ, List, length, map, max, nat_lt, true, false, is_some, if◌then◌else◌, IfOk, IfErr, IfSome, OnOk, OnErr, IsTrue, IsOkUnless};
 ghost use Rattle.roam_screens.specs.Narrow.{narrow};
 ghost use Rattle.roam_sync.specs.Senders.{newest, count, acked, is_due};
@@ -32,7 +32,7 @@ use roam_wire::{Datagram, Gathered, Gatherer, Kind, Version, read_up};
 use std::alloc::Global;
 use std::marker::Model;
 
-/// The server's record of a client start.
+/// The server's record of a client instance.
 #[derive(Drop)]
 pub struct Record {
     watches: bool,
@@ -45,7 +45,7 @@ pub struct Record {
     latest: u64,
     address: Addr,
     owed: Option<u64>,
-    /// When something was last sent to the start, 0 before the first.
+    /// When something was last sent to the instance, 0 before the first.
     sent_at: u64,
     datagrams: u64,
     instructions: u64,
@@ -59,7 +59,7 @@ pub struct News {
     pub now: u64,
 }
 
-/// The result of preparing a record at a tick: whether the newest number was offered, and how many datagrams go to its client start.
+/// The result of preparing a record at a tick: whether the newest number was offered, and how many datagrams go to its client instance.
 #[derive(Clone, Copy)]
 pub struct Prepared {
     offered: bool,
@@ -129,7 +129,7 @@ fn acknowledge(sender: &mut AnySender, base: &mut u64, number: u64)
     *base = base_after(*base, held, sender.len(), number);
 }
 
-// Returns true if a number may be offered to a start: it is new to its sender, and there are fewer than eight.
+// Returns true if a number may be offered to an instance: it is new to its sender, and there are fewer than eight.
 fn has_room_for(sender: &AnySender, number: u64) -> bool
     ensures room { result ≡ (nat_lt (newest (sending_of sender.now)).number number
         && nat_lt (count (sending_of sender.now)) most_held) }
@@ -137,8 +137,8 @@ fn has_room_for(sender: &AnySender, number: u64) -> bool
     sender.newest_number() < number && sender.len() < MOST_HELD
 }
 
-// Returns true if a number is offered to a start: a datagram of it came of late, the number is new to its sender, and there are fewer than
-// eight.
+// Returns true if a number is offered to an instance: a datagram of it came of late, the number is new to its sender, and there are fewer
+// than eight.
 fn may_be_offered(sender: &AnySender, heard_at: u64, number: u64, now: u64) -> bool
     ensures offered { result ≡ (nat_lt now (heard_at + forget_after) && nat_lt (newest (sending_of sender.now)).number number
         && nat_lt (count (sending_of sender.now)) most_held) }
@@ -146,7 +146,7 @@ fn may_be_offered(sender: &AnySender, heard_at: u64, number: u64, now: u64) -> b
     is_heard(heard_at, now) && has_room_for(sender, number)
 }
 
-// Returns true if a start is sent to: a datagram of it came of late, and its sender is due or an answer is overdue.
+// Returns true if an instance is sent to: a datagram of it came of late, and its sender is due or an answer is overdue.
 fn is_sent_to(sender: &AnySender, heard_at: u64, owed: Option<u64>, now: u64) -> bool
     ensures sent_to { result ≡ (nat_lt now (heard_at + forget_after) && (is_due (sending_of sender.now) now || is_overdue owed now)) }
 {
@@ -175,7 +175,7 @@ fn owed_for(owed: Option<u64>, acts: &[Act], now: u64) -> Option<u64>
     owed_after(owed, true, now)
 }
 
-/// Returns true if a datagram of this kind comes from a read-only start.
+/// Returns true if a datagram of this kind comes from a read-only instance.
 pub fn is_watching(kind: Kind) -> bool
     ensures watching { result ≡ is_watching_kind kind }
 {
@@ -185,7 +185,7 @@ pub fn is_watching(kind: Kind) -> bool
     }
 }
 
-/// Returns true if two starts are both read-only, or neither is.
+/// Returns true if two instances are both read-only, or neither is.
 pub fn is_same(one: bool, other: bool) -> bool
     ensures same { result ≡ are_same one other }
 {
@@ -199,7 +199,7 @@ pub fn is_same_version(one: Version, other: Version) -> bool
     one == other
 }
 
-// Returns Ok if a datagram is of the version and the kind of its start's first one.
+// Returns Ok if a datagram is of the version and the kind of its instance's first one.
 fn admit(version: Version, watches: bool, datagram: &Datagram) -> Result<(), Fault>
     ensures fits { OnOk result (Fits version watches (datagram_value datagram.now)) }
     ensures fault { IfErr result (λ fault. IsOther version watches (datagram_value datagram.now) fault) }
@@ -214,7 +214,7 @@ fn admit(version: Version, watches: bool, datagram: &Datagram) -> Result<(), Fau
 }
 
 impl Record {
-    /// The record of a client start of a version, which may only watch, and from which nothing has come. Refuses want of memory.
+    /// The record of a client instance of a version, which may only watch, and from which nothing has come. Refuses want of memory.
     pub fn new(alloc: Global, version: Version, watches: bool) -> Result<Record, Fault>
         ensures new { IfOk result (λ r. r ≡ first_record version watches) }
         ensures fault { IsOkUnless result Fault.OutOfMemory }
@@ -239,14 +239,14 @@ impl Record {
         })
     }
 
-    /// How many acts of the start were taken.
+    /// How many acts of the instance were taken.
     pub fn taken(&self) -> u64
         ensures taken { result ≡ self.now.taken }
     {
         self.taker.taken()
     }
 
-    /// Returns true if the start is read-only.
+    /// Returns true if the instance is read-only.
     pub fn watches(&self) -> bool
         ensures watches { result ≡ self.now.watches }
     {
@@ -409,9 +409,9 @@ impl Record {
         Ok(Some(fragments))
     }
 
-    /// Offers the newest number with its screen if it may be needed, and appends the texts of the datagrams to the client start, each with
-    /// its address, if it is sent to. `Spent` exactly if a number that this needs would be 2^62; `OutOfMemory`. An error leaves the record
-    /// as it was.
+    /// Offers the newest number with its screen if it may be needed, and appends the texts of the datagrams to the client instance, each
+    /// with its address, if it is sent to. `Spent` exactly if a number that this needs would be 2^62; `OutOfMemory`. An error leaves the
+    /// record as it was.
     pub fn prepare(
         &mut self,
         alloc: Global,
@@ -452,7 +452,7 @@ impl Record {
         }
     }
 
-    // Returns the moment from which on a number is offered to the start, or something sent to it, if a datagram of it came of late.
+    // Returns the moment from which on a number is offered to the instance, or something sent to it, if a datagram of it came of late.
     fn active_from(&self, number: u64) -> Option<u64>
         ensures from { PassesFrom result (is_active self.now number) }
     {
@@ -462,7 +462,7 @@ impl Record {
         earlier(self.sender.due_from(self.sent_at), answer_from(self.owed))
     }
 
-    /// Returns the first moment at which a tick offers the start a number or sends something to it, if nothing comes before and no tick
+    /// Returns the first moment at which a tick offers the instance a number or sends something to it, if nothing comes before and no tick
     /// goes by a moment before the clock. `None` if no datagram of it came so late.
     pub fn next_due(&self, number: u64, clock: u64) -> Option<u64>
         ensures before { (now : ℕ) → clock ≤ now → now < 2 ^ 64 → has_come result now ≡ false

@@ -1,4 +1,4 @@
-//! The server: the session, its numbered screens, and the record of each client start.
+//! The server: the session, its numbered screens, and the record of each client instance.
 ghost use Rattle.std.specs.Prelude.{◌≡◌, ◌↔◌, ◌⊎◌, ◌≤◌, ◌<◌, ◌^◌, ◌-◌, ◌+◌, ◌||◌, ℕ, List, length, nat_eq, true, false, IfOk, IfErr, IfSome, OnOk, OnErr, IsErrOf, IsOkUnless};
 ghost use Rattle.std.specs.Option.{option_map};
 ghost use Rattle.roam_layout.specs.Layouts.{IsSessionSize};
@@ -179,12 +179,12 @@ impl Server {
     /// order, and returns their number.
     ///
     /// Errors that change nothing: `BadDatagram` for bytes that are no datagram to a server; `OtherSession`; `ClientsFull` for a new client
-    /// start if 64 are known, or 16 for a read-only one; `BadDatagram` for another version or kind than its first datagram had, and for an
-    /// invalid fragment or instruction; `OutOfMemory`.
+    /// instance if 64 are known, or 16 for a read-only one; `BadDatagram` for another version or kind than its first datagram had, and for
+    /// an invalid fragment or instruction; `OutOfMemory`.
     ///
     /// An act that finds its queue full (`Busy`) or no memory (`OutOfMemory`) stops there: this act and later ones aren't taken, earlier
-    /// ones are, and the same datagram can bring the rest. Whatever its bytes, a datagram of a read-only start takes no act, and leaves the
-    /// session and the record of every other start as they were.
+    /// ones are, and the same datagram can bring the rest. Whatever its bytes, a datagram of a read-only instance takes no act, and leaves
+    /// the session and the record of every other instance as they were.
     pub fn datagram(
         &mut self,
         alloc: Global,
@@ -261,21 +261,21 @@ impl Server {
         self.session.focus()
     }
 
-    /// How many client starts that don't only watch are known, of 64 that may be. It takes no memory.
+    /// How many client instances that don't only watch are known, of 64 that may be. It takes no memory.
     pub fn starts(&self) -> usize
         ensures count { (s : ServerOf) → Stands self.now s → result ≡ length (alike_of s false) }
     {
         alike(&self.records, false)
     }
 
-    /// How many client starts that only watch are known, of 16 that may be. It takes no memory.
+    /// How many client instances that only watch are known, of 16 that may be. It takes no memory.
     pub fn watchers(&self) -> usize
         ensures count { (s : ServerOf) → Stands self.now s → result ≡ length (alike_of s true) }
     {
         alike(&self.records, true)
     }
 
-    /// How many acts were taken of all client starts that are known, modulo 2^64. It takes no memory.
+    /// How many acts were taken of all client instances that are known, modulo 2^64. It takes no memory.
     pub fn acts_taken(&self) -> u64
         ensures taken { result ≡ acts_after 0 self.now.records }
     {
@@ -313,7 +313,7 @@ impl Server {
 
     /// Returns the moment at which a tick next does something if nothing comes before: 0 for at once and `None` for never. Before it, or
     /// before the greatest moment so far if that is earlier, a tick changes nothing but the clock and sends nothing. At it a number is
-    /// made, or a start is offered a screen or sent something. It takes no memory.
+    /// made, or an instance is offered a screen or sent something. It takes no memory.
     pub fn next_due(&self) -> Option<u64>
         ensures before { (s : ServerOf) → Stands self.now s → (now : ℕ) → now < 2 ^ 64 → has_come result now ≡ false
             → IsQuiet s (moment s now) }
@@ -396,8 +396,8 @@ impl Server {
     }
 
     /// Makes a number of the session's face if none was made yet, or if an input came since the last was made and 20 ms passed. Offers the
-    /// newest number, as its version shows it, to each client start whose last datagram came less than 60,000 ms ago and that has room for
-    /// it. Returns the datagrams to those that are due one, in the order of arrival, each with its address. `Spent` exactly if a number
+    /// newest number, as its version shows it, to each client instance whose last datagram came less than 60,000 ms ago and that has room
+    /// for it. Returns the datagrams to those that are due one, in the order of arrival, each with its address. `Spent` exactly if a number
     /// that it needs would be 2^62; `OutOfMemory`. An error changes nothing.
     pub fn tick(&mut self, alloc: Global, now: u64) -> Result<Vec<(Addr, Vec<u8>)>, Fault>
         ensures ticked { (s : ServerOf) → Stands self.old s → Ticks s now result self.new }

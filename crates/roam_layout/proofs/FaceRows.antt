@@ -13,7 +13,7 @@ use Rattle.roam_layout.specs.declared.rects.Way.TheVariants.{Right}
 abbrev halves : Plan
 halves = record (start 4 17) { tree = Two Right (pos 0) (One 1) (One 2); focus = 2 }
 
--- a picture of 3 by 8 with two characters at its start and the cursor after them
+-- a picture of 3 by 8 with two characters at its instance and the cursor after them
 abbrev written : ℕ → ℕ → Screenshot
 written a b =
     record {

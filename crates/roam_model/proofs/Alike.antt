@@ -1,4 +1,4 @@
--- How many starts are known that only watch, and how many others.
+-- How many instances are known that only watch, and how many others.
 use Rattle.std.proofs.Common.{◌≡◌, ℕ, ◌+◌, ◌<◌, ◌≤◌, List, [], ◌∷◌, ◌++◌, length, Bool, true, false, refl, sym, ap, ◌∙◌, subst, inl, inr, arith, cond}
 use Rattle.roam_model.specs.Lists.{IsIn, with_value}
 use Rattle.roam_model.specs.Servers.{Record}
@@ -44,13 +44,13 @@ alike_more f watches (x ∷ ids) id =
     go true n e = omega (arith, e)
     go false n e = e
 
--- the record of a start that isn't in the list changes
+-- the record of an instance that isn't in the list changes
 alike_put : (f : ℕ → Record) (r : Record) (watches : Bool) (ids : List ℕ) (id : ℕ) → (IsIn id ids → (f id).watches ≡ r.watches)
     → length (alike_in (with_value f id r) watches ids) ≡ length (alike_in f watches ids)
 alike_put f r watches ids id same =
     alike_same (with_value f id r) f watches ids (on_put (λ j x. IsIn j ids → x.watches ≡ (f j).watches) f id r (λ i. sym (same i)) (λ j e i. refl))
 
--- a start that is known is heard
+-- an instance that is known is heard
 pub alike_known : (f : ℕ → Record) (r : Record) (ids : List ℕ) (id : ℕ) → (f id).watches ≡ r.watches
     → ((watches : Bool) → length (alike_in f watches ids) ≤ most_of watches)
     → (watches : Bool) → length (alike_in (with_value f id r) watches ids) ≤ most_of watches

@@ -160,7 +160,7 @@ one_server_tick w now true r r' v v' x y = both r r' (Failed Spent) v v' w x y
 one_server_tick w now false r r' v v' x y = both r r' (Sent (length w.sent + 1) (length (sent_by w.server now))) v v'
     (after_server_tick w now) x y
 
--- at the start of an id: whether something is due, and whether numbers are spent
+-- at the instance of an id: whether something is due, and whether numbers are spent
 abbrev ByDue : World → ℕ → ℕ → Bool → Bool → Reply → World → Type 0
 ByDue w id now false past r v = Are r v (Sent (length w.sent + 1) 0) (with_kept w id (after_quiet (w.clients id).kept now))
 ByDue w id now true true r v = Are r v (Failed Spent) w
@@ -302,7 +302,7 @@ one_server : (w : World) (from : Address) (now : ℕ) (o : Option DatagramValue)
 one_server w from now None r r' v v' x y = both r r' Refused v v' w x y
 one_server w from now (Some d) r r' v v' x y = one_coming w from now d (coming w.server d) r r' v v' x y
 
--- ---- a datagram to a client start
+-- ---- a datagram to a client instance
 
 -- the result of a receiver for an update is unique
 delivers_one : (a : Version) (c r r' : Receiving Screenshot) (u : Update) → Delivers (applied_by a) c u r → Delivers (applied_by a) c u r' → r ≡ r'
@@ -429,9 +429,9 @@ one_client w now (Some id) None r r' v v' x y = both r r' Refused v v' w x y
 one_client w now (Some id) (Some d) r r' v v' x y =
     one_arriving w id (moment_of (w.clients id).kept now) (arriving w.server.session id (w.clients id).kept d) r r' v v' x y
 
--- ---- a start
+-- ---- an instance
 
--- of a start whose id was used, or not; that may not be, or may
+-- of an instance whose id was used, or not; that may not be, or may
 abbrev ByStart : World → ℕ → ℕ → Version → Bool → Bool → Bool → Reply → World → Type 0
 ByStart w slot id at watches true b r v = Are r v Refused w
 ByStart w slot id at watches false true r v = Are r v Refused w

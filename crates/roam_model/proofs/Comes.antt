@@ -103,7 +103,7 @@ to_server s d = go (is_to_server d.kind) (not (nat_eq d.session s.session)) (is_
     go true false false false true x = tt
     go true false false false false x = there x
 
--- ---- at a client start: the gathered fragments are of the record's instructions, and a whole text is that of one
+-- ---- at a client instance: the gathered fragments are of the record's instructions, and a whole text is that of one
 
 abbrev pub ArrivesWell : List DownValue → Arrival Hearing → Type 0
 ArrivesWell vs (turned_away fault) = fault ≡ BadChange → ⊥

@@ -1,4 +1,4 @@
--- One delivery of a fragment of the newest instruction to a start.
+-- One delivery of a fragment of the newest instruction to an instance.
 use Rattle.std.proofs.Common.{◌≡◌, ℕ, List, Option, Some, None, Bool, true, false, refl, sym, ap, ◌∙◌, subst, arith, cond}
 use Rattle.std.specs.Prelude.{nat_eq, not}
 use Rattle.std.proofs.lemmas.Bool.Decides.{nat_tests}
@@ -37,7 +37,7 @@ use Rattle.roam_wire.specs.Datagrams.{DatagramValue}
 abbrev pub Shows : ℕ → ℕ → Gathering → ℕ → Type 0
 Shows n m g shown = g.id ≡ n → all_there g.fragments ≡ true → shown ≡ m
 
--- a fragment of instruction n to this start
+-- a fragment of instruction n to this instance
 pub record IsOne (w : World) (id n : ℕ) (d : DatagramValue) : Type 0 where
   pub version_is : d.version ≡ (w.clients id).kept.version
   pub kind_is : d.kind ≡ ToClient
@@ -46,7 +46,7 @@ pub record IsOne (w : World) (id n : ℕ) (d : DatagramValue) : Type 0 where
   pub number_is : d.id ≡ n
   pub fragment_of_it : IsFragmentOf (cuts_of down_text (w.server.records id).instructions) (fragment_of d)
 
--- instruction n to this start is v, which leads to the newest number m
+-- instruction n to this instance is v, which leads to the newest number m
 pub record IsTop (w : World) (id n m : ℕ) (v : DownValue) : Type 0 where
   pub told : instruction_of (w.server.records id).instructions n ≡ Some v
   pub new : v.new ≡ m
@@ -115,7 +115,7 @@ pub record Delivered (w w' : World) (id n m : ℕ) (d : DatagramValue) : Type 0 
 pub some_same : {X : Type 0} (x y : X) (o : Option X) → o ≡ Some x → o ≡ Some y → x ≡ y
 some_same x y o e f = let z : Some x ≡ Some y = sym e ∙ f in cc
 
--- the arrival at the start in the slot is the one in the step
+-- the arrival at the instance in the slot is the one in the step
 same_arrival : (w : World) (id id' : ℕ) (d d' : DatagramValue) (a : Arrival Hearing) → id ≡ id' → d ≡ d'
     → arriving w.server.session id' (w.clients id').kept d' ≡ a
     → arriving w.server.session id (w.clients id).kept d ≡ a

@@ -228,7 +228,7 @@ all_of_it w h =
       count = (headline w h).1;
     }
 
--- ---- starts that only watch
+-- ---- instances that only watch
 
 pub watchers_take_no_part : (w : World) → Holds w → WatchersTakeNoPart w
 watchers_take_no_part w h id watches =

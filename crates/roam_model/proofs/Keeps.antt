@@ -1,4 +1,4 @@
--- Each event at a client start, and each input, keeps the invariant.
+-- Each event at a client instance, and each input, keeps the invariant.
 use Rattle.std.proofs.Common.{◌≡◌, ℕ, ◌+◌, ◌<◌, ◌≤◌, ◌⊎◌, ◌^◌, List, [], ◌∷◌, ◌++◌, length, All, Option, Some, Bool, true, false, refl, sym, ap, ◌∙◌, subst, inl, inr, arith, append-nil, length-append, length-drop, length-take}
 use Rattle.std.specs.Prelude.{◌||◌}
 use Rattle.std.proofs.lemmas.Bool.Decides.{nat_tests}
@@ -45,7 +45,7 @@ use Rattle.roam_wire.specs.declared.versions.Version.TheVariants.{One, Two}
 
 -- ---- an input
 
--- the log grows, but by no act of this start
+-- the log grows, but by no act of this instance
 pub link-more : (size : SessionSize) (log more : List Entry) (cuts : List ℕ) (taken taken' : List Act) (r : Record) (c : Client)
     → AreCuts log cuts
     → taken' ≡ taken → LinkOf size log cuts taken r c → LinkOf size (log ++ more) cuts taken' r c
@@ -86,13 +86,13 @@ keeps-input w entry none h =
       slots = h.slots;
     }
 
--- ---- a client start
+-- ---- a client instance
 
--- the link of a start and its record
+-- the link of an instance and its record
 abbrev pub Link : World → ℕ → Record → Client → Type 0
 Link w id r c = LinkOf w.server.size w.server.log w.server.cuts (acts_of id w.server.log) r c
 
--- a client start that was made changes, and sent nothing
+-- a client instance that was made changes, and sent nothing
 pub keeps-client : (w : World) (id : ℕ) (c : Client) → c.made ≡ true → c.kept.version ≡ (w.clients id).kept.version
     → c.kept.watches ≡ (w.clients id).kept.watches → OnlyWatches c → c.instructions ≡ (w.clients id).instructions
     → Link w id (w.server.records id) c
@@ -126,7 +126,7 @@ keeps-client w id c made version watches alone same link h =
     like false d p = p
     like true d p = subst (λ (us : List UpValue). IsFragmentOf (cuts_of up_text us) (fragment_of d)) (sym same) p
 
--- the datagrams of a start go to the server, and their kind names a read-only start
+-- the datagrams of an instance go to the server, and their kind names a read-only instance
 pub kind_goes : (watches : Bool) → is_to_server (kind_from watches) ≡ true
 kind_goes true = refl
 kind_goes false = refl
@@ -458,7 +458,7 @@ keeps-sending w id now made e h =
         (subst (λ (x : Client). IsFragment true d (w.server.records d.client) x)
         (sym (put_same w.clients id (after_instruction (w.clients id) now))) p.fragment)))
 
--- no record is known of a start that isn't made
+-- no record is known of an instance that isn't made
 unknown : (r : Record) (c : Client) → c.made ≡ false → Fits r c → r ≡ no_record
 unknown r c made f = go r.known refl
   where

@@ -1,4 +1,4 @@
--- One round: a tick sends to a start, just those datagrams come, each at least once, in any order.
+-- One round: a tick sends to an instance, just those datagrams come, each at least once, in any order.
 use Rattle.std.proofs.Common.{◌≡◌, ℕ, ◌+◌, ◌<◌, List, [], ◌∷◌, length, Option, Some, Bool, true, false, refl, sym, ap, ◌∙◌, subst, inl, inr, arith, cond}
 use Rattle.std.specs.Prelude.{map}
 use Rattle.std.specs.List.{enumerate_from}
@@ -111,7 +111,7 @@ goes w w'' slot id n m v (k ∷ ks) (r ∷ rs) h s t each run fine =
       ]);
     }
 
--- ---- the datagrams of a tick to one start
+-- ---- the datagrams of a tick to one instance
 
 packed_id : (v : Version) (session client before id : ℕ) (fragments : List (List ℕ)) (d : DatagramValue)
     → IsIn d (datagrams_of v ToClientKind session client before id fragments) → d.id ≡ id
@@ -119,7 +119,7 @@ packed_id v session client before id fragments d i =
     let m = IsIn-map (datagram_with v ToClientKind session client before id (length fragments)) d (enumerate_from 0 fragments) i in ap
     (λ (q : DatagramValue). q.id) (sym m.2)
 
--- a datagram of the tick to this start is one of those to its record
+-- a datagram of the tick to this instance is one of those to its record
 to_start : (s : Server) (now id : ℕ) (d : DatagramValue) → IsIn d (map (λ (p : Parcel). p.datagram) (sent_by s now)) → d.client ≡ id
     → IsIn id s.arrival × IsIn d (datagrams_to s.session id (s.records id) (number_after s now) (screen_to s now id) now)
 to_start s now id d i same =
@@ -147,7 +147,7 @@ sends_to session id r n s now d i = go (sends r n s now) refl i
     go true e i = (e, packed_id r.version session id r.datagrams (length r.instructions + 1) (fragments_to r n s now) d i)
     go false e i = absurd i
 
--- the effect of a tick that sends to this start
+-- the effect of a tick that sends to this instance
 record IsRound (w w' : World) (id : ℕ) : Type 0 where
   holds : Holds w'
   slots : w'.slots ≡ w.slots

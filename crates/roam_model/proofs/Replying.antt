@@ -138,7 +138,7 @@ back_other : (session id : ℕ) (c : Kept) (d : DatagramValue) (f : Fault) → a
 unfolding IsElse
 back_other session id c d f e = subst IsElse e (arriving_else session id c d)
 
--- ---- inputs, typing, ticks, starts
+-- ---- inputs, typing, ticks, instances
 
 pane_reply : (w : World) (pane : ℕ) (bytes : List ℕ) (o : Option Fault) → refuses_bytes w.server.size w.server.log pane bytes ≡ o
     → IsAnswered w (PaneBytes pane bytes)
@@ -320,7 +320,7 @@ server_reply w k from now h (Some d) e = go (coming w.server d) refl (comes w k 
           spelled = of.is;
         })
 
--- ---- a datagram to a client start
+-- ---- a datagram to a client instance
 
 -- an update that was sent is heard
 heard_by : (w : World) (id : ℕ) (v : DownValue) → IsIn v (w.server.records id).instructions → Holds w

@@ -43,7 +43,7 @@ was_sent w k d e = go (nat_eq k 0) e
     go true f = absurd (cc)
     go false f = IsIn-slice_get d (k - 1) w.sent f
 
--- the kind of a sent datagram at the server, and at a client start
+-- the kind of a sent datagram at the server, and at a client instance
 pub comes : (w : World) (k : ℕ) (d : DatagramValue) → datagram_at w.sent k ≡ Some d → Holds w
     → ComesWell (w.clients d.client).instructions (coming w.server d)
 comes w k d e h = coming_well w.server (w.server.records d.client) (w.clients d.client) d refl (h.fragments d (was_sent w k d e))
@@ -129,7 +129,7 @@ keeps-to_server w k from now r w' (no_memory_at_act d g text u n x y z lt e is) 
     (omega (arith, lt, reach_low w.server.size w.server.log d.client (new_acts w.server d u))) h)
 keeps-to_server w k from now r w' (no_memory e is) h = subst Holds (sym is) h
 
--- a whole instruction at a client start was sent to it
+-- a whole instruction at a client instance was sent to it
 pub arrived : (w : World) (id : ℕ) (text : List ℕ) (v : DownValue) → IsTextOf down_text (w.server.records id).instructions text
     → SaysDown text v → Holds w → IsIn v (w.server.records id).instructions
 arrived w id text v of says h =

@@ -1,4 +1,4 @@
--- Each datagram that was sent has a text, and as many starts are known as may be.
+-- Each datagram that was sent has a text, and as many instances are known as may be.
 use Rattle.std.proofs.Common.{◌≡◌, ◌⊎◌, ℕ, zero, suc, ◌+◌, ◌*◌, ◌<◌, ◌≤◌, ◌^◌, List, [], ◌∷◌, ◌++◌, length, get_or, map, Some, Bool, true, false, refl, sym, ap, ◌∙◌, subst, inl, inr, arith, cond, length-append, length-take}
 use Rattle.std.specs.Prelude.{slice_get, nat_le, nat_eq, not, ◌&&◌, ◌||◌}
 use Rattle.std.specs.List.{enumerate_from, list_any}
@@ -124,7 +124,7 @@ packed_sendable v kind session client before id text d s c low high numbers shor
     len : HasLength n.0 (length (fragments_of text)) (length (get_or (fragments_of text) n.0 []))
     len = can.lengths n.0 lt
 
--- ---- a client start sends
+-- ---- a client instance sends
 
 -- a text within the smaller limit is within each
 roomy : (v : Version) (n : ℕ) → n ≤ 1000 → n ≤ most_bytes v
@@ -231,7 +231,7 @@ watches_ticked r n s now = go (sends r n s now)
 
 -- ---- a datagram comes
 
--- if a datagram isn't turned away, there is room for its record, or it comes from a start that is read-only, or isn't, as before
+-- if a datagram isn't turned away, there is room for its record, or it comes from an instance that is read-only, or isn't, as before
 record Enters (s : Server) (d : DatagramValue) : Type 0 where
   room : (s.records d.client).known ≡ false → length (alike s (is_watching d.kind)) < most_of (is_watching d.kind)
   same : (s.records d.client).known ≡ true → (s.records d.client).watches ≡ is_watching d.kind
@@ -308,7 +308,7 @@ arrival_is w d r watches enters k = go (w.server.records d.client).known refl
               (subst (λ (b : Bool). length (alike_in w.server.records b w.server.arrival) < most_of b) (sym watches) (enters.room e)) k.few;
         }
 
--- the server hears from a start
+-- the server hears from an instance
 heard_counts : (w : World) (s : Server) (d : DatagramValue) (r : Record) → s.session ≡ w.server.session
     → s.records ≡ with_value w.server.records d.client r → s.arrival ≡ arrival_with w.server d.client
     → r.known ≡ true → r.watches ≡ is_watching d.kind → d.client < 2 ^ 64 → Enters w.server d → Counts w → Counts (record w { server = s })
@@ -336,7 +336,7 @@ heard_counts w s d r same records arrival known watches small enters k =
     other : (j : ℕ) → nat_eq j d.client ≡ false → d.client ≡ j → ⊥
     other j e z = grind (arith, nat_tests)
 
--- a client start changes that was made
+-- a client instance changes that was made
 client_counts : (w : World) (id : ℕ) (c : Client) → id < 2 ^ 64 → Counts w → Counts (with_client w id c)
 client_counts w id c small k =
     record {

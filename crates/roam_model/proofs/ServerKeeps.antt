@@ -67,13 +67,13 @@ latest_noted r number from e =
     go false f = let le : number ≤ r.latest = grind (arith, nat_tests) in let m : r.latest ≡ max r.latest number =
         omega arith in ap (λ (k : ℕ). noted_at k r.address) m
 
--- the record of a start changes, and nothing was sent to it
+-- the record of an instance changes, and nothing was sent to it
 fragment-record : (to : Bool) (d : DatagramValue) (r r' : Record) (c : Client) → r'.instructions ≡ r.instructions → IsFragment to d r c
     → IsFragment to d r' c
 fragment-record false d r r' c same p = subst (λ (vs : List DownValue). IsFragmentOf (cuts_of down_text vs) (fragment_of d)) (sym same) p
 fragment-record true d r r' c same p = p
 
--- the record of a datagram that was sent is one of its client start's version
+-- the record of a datagram that was sent is one of its client instance's version
 fits-heard : (r r' : Record) (c : Client) (d : DatagramValue) → r'.known ≡ true → r'.version ≡ d.version → r'.watches ≡ is_watching d.kind
     → is_to_server d.kind ≡ true → Bears d c → Fits r' c
 fits-heard r r' c d known version watches to b =
@@ -489,7 +489,7 @@ cuts_hold w now spent h = go (makes w.server now) refl (or_left _ _ spent)
     }
     go false e f = record { numbers = h.numbers; cuts_low = h.cuts; screens = h.screens; links = h.links }
 
--- the screen of the newest number for a record is one of its start's version
+-- the screen of the newest number for a record is one of its instance's version
 screen_for : (w : World) (now id : ℕ) → Fits (w.server.records id) (w.clients id) → (w.server.records id).known ≡ true
     → IsScreenOf (w.clients id).kept.version w.server.size w.server.log (cuts_after w.server now) (number_after w.server now)
     (screen_to w.server now id)
@@ -498,7 +498,7 @@ screen_for w now id f known = record {
   same = ap (λ (v : Version). screen v w.server.size w.server.log (cuts_after w.server now) (number_after w.server now)) (f.version known);
 }
 
--- the screen that a tick sends to a record is one that its start may be shown
+-- the screen that a tick sends to a record is one that its instance may be shown
 pub newest_screen : (w : World) (now : ℕ) → is_tick_spent w.server now ≡ false → Holds w → (id : ℕ)
     → IsSeenBy (w.clients id).kept.version
     (newest (holds_after (w.server.records id) (number_after w.server now) (screen_to w.server now id) now)).state

@@ -23,7 +23,7 @@ is_same-same Two Two e = refl
 is_same-same One Two e = absurd (cc)
 is_same-same Two One e = absurd (cc)
 
--- the screen that the session shows is one that a start of each version may be shown
+-- the screen that the session shows is one that an instance of each version may be shown
 pub seen_is : (v : Version) (s : Screenshot) → IsScreenshot s → IsSeenBy v (seen_by v s)
 seen_is One s is = narrow_is s is
 seen_is Two s is = is

@@ -33,7 +33,7 @@ use Rattle.roam_wire.specs.Datagrams.{DatagramValue}
 abbrev size : SessionSize
 size = record { rows = 4; cols = 17 }
 
--- the only fragment of the first instruction of a start
+-- the only fragment of the first instruction of an instance
 abbrev first_of : Version → Kind → ℕ → DatagramValue
 first_of v kind client = datagram_with v kind 1 client 0 1 1 (0, 7 ∷ [])
 
@@ -54,21 +54,21 @@ b = Key (Char 98)
 abbrev c : Act
 c = Key (Char 99)
 
--- both acts of the first start are new, and none when they come again
+-- both acts of the first instance are new, and none when they come again
 both_new : fresh_of 0 1 (a ∷ b ∷ []) ≡ a ∷ b ∷ []
 both_new = refl
 
 none_again : fresh_of 2 1 (a ∷ b ∷ []) ≡ []
 none_again = refl
 
--- a later start's acts are its own
+-- a later instance's acts are its own
 own_acts : acts_of 162 (Did 161 a ∷ Did 161 b ∷ Did 162 c ∷ []) ≡ c ∷ []
 own_acts = refl
 
 first_acts : acts_of 161 (Did 161 a ∷ Did 161 b ∷ Did 162 c ∷ []) ≡ a ∷ b ∷ []
 first_acts = refl
 
--- datagrams to the first start are nothing for the later one in its slot
+-- datagrams to the first instance are nothing for the later one in its slot
 other_start : arriving 1 162 (new_kept One false) (first_of One ToClient 161) ≡ turned_away OtherClient
 other_start = refl
 
@@ -82,7 +82,7 @@ wrong_way = refl
 other_version : arriving 1 161 (new_kept One false) (first_of Two ToClient 161) ≡ turned_away (BadDatagram reason.Version)
 other_version = refl
 
--- ---- a 65th start, a 17th that only watches
+-- ---- a 65th instance, a 17th that only watches
 
 abbrev full_server : Server
 full_server = record (new_server 1 size) { arrival = range_with_len 1 64 }
@@ -155,7 +155,7 @@ latest_source : greatest_from no_note
     ≡ record { number = 2; source = at_port 6001 }
 latest_source = refl
 
--- ---- a start that wasn't heard for 60,000 ms is sent nothing
+-- ---- an instance that wasn't heard for 60,000 ms is sent nothing
 
 abbrev heard_at_5 : Record
 heard_at_5 = record no_record { known = true; heard_at = 5 }

@@ -1,4 +1,4 @@
--- A datagram comes to a client start: its kind there, and its effect.
+-- A datagram comes to a client instance: its kind there, and its effect.
 use Rattle.std.specs.Prelude.{ℕ, Option, Some, None, not, nat_lt, ◌==◌, if◌then◌else◌}
 use Rattle.roam_cells.specs.declared.faults.Fault.TheVariants.{BadDatagram, OtherSession, OtherClient}
 use Rattle.roam_cells.specs.declared.faults.Reason.TheVariants.{Fragment}
@@ -17,7 +17,7 @@ use Rattle.roam_model.specs.Texts.{is_to_server}
 use Rattle.roam_model.specs.Clients.{Kept}
 use Rattle.roam_wire.specs.Datagrams.{DatagramValue}
 
--- the result of a client start for a datagram that it takes: the instruction isn't whole, or its update is old, leaves a gap or is new
+-- the result of a client instance for a datagram that it takes: the instruction isn't whole, or its update is old, leaves a gap or is new
 pub data Hearing : Type 0 where
   IsPart : Hearing
   IsOld : Hearing
@@ -31,7 +31,7 @@ arriving_gathered (Some (Part, g)) = noted IsPart g
 arriving_gathered (Some (Old, g)) = noted IsOld g
 arriving_gathered (Some (Whole text, g)) = completed g text
 
--- in this order: its direction, its session, its client start, its version, its fragment
+-- in this order: its direction, its session, its client instance, its version, its fragment
 abbrev pub arriving : ℕ → ℕ → Kept → DatagramValue → Arrival Hearing
 arriving session id k d =
     if is_to_server d.kind then turned_away (BadDatagram reason.Kind)

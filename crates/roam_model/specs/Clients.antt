@@ -1,4 +1,4 @@
--- A client start, and the acts typed at it.
+-- A client instance, and the acts typed at it.
 use Rattle.std.specs.Prelude.{ℕ, max, List, [], ◌∷◌, ◌++◌, Option, None, Bool, true, false}
 use Rattle.roam_screens.specs.Screenshot.{Screenshot}
 use Rattle.roam_acts.specs.declared.acts.Act.{Act}
@@ -10,7 +10,7 @@ use Rattle.roam_model.specs.Numbers.{first_screen}
 use Rattle.roam_wire.specs.declared.versions.Version.{Version}
 use Rattle.roam_wire.specs.declared.versions.Version.TheVariants.{Two}
 
--- the part of a client start that a program keeps
+-- the part of a client instance that a program keeps
 pub record Kept : Type 0 where
   -- its version, and whether it only watches
   pub version : Version
@@ -32,9 +32,9 @@ pub record Kept : Type 0 where
   pub datagrams : ℕ
   pub instructions : ℕ
 
--- a client start: its kept part, and its histories, which no program keeps
+-- a client instance: its kept part, and its histories, which no program keeps
 pub record Client : Type 0 where
-  -- whether there was such a start
+  -- whether there was such an instance
   pub made : Bool
   pub kept : Kept
   -- all acts that were typed at it
@@ -42,7 +42,7 @@ pub record Client : Type 0 where
   -- all instructions that it sent, the first under the number 1
   pub instructions : List UpValue
 
--- the value before a start
+-- the value before an instance
 unfoldable pub nobody : Client
 nobody =
     record {
@@ -64,14 +64,14 @@ nobody =
       instructions = [];
     }
 
--- a start at first
+-- an instance at first
 abbrev pub new_kept : Version → Bool → Kept
 new_kept v watches = record nobody.kept { version = v; watches = watches }
 
 abbrev pub new_client : Version → Bool → Client
 new_client v watches = record nobody { made = true; kept = new_kept v watches }
 
--- the moment that the start goes by: none below an earlier one
+-- the moment that the instance goes by: none below an earlier one
 abbrev pub moment_of : Kept → ℕ → ℕ
 moment_of k now = max now k.clock
 

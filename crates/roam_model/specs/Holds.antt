@@ -52,7 +52,7 @@ Tells vs u = (v : DownValue) × IsIn v vs × (update_in v ≡ u)
 abbrev pub Acks : List UpValue → ℕ → Type 0
 Acks us n = (u : UpValue) × IsIn u us × (u.acked ≡ n)
 
--- of the acts of a client start, from typing to taking
+-- of the acts of a client instance, from typing to taking
 pub record ActsOf (taken : List Act) (r : Record) (c : Client) : Type 0 where
   pub count : r.taken ≡ length taken
   pub front : taken ≡ take r.taken c.typed
@@ -63,7 +63,7 @@ pub record ActsOf (taken : List Act) (r : Record) (c : Client) : Type 0 where
   pub are : All IsAct c.typed
   pub told : (u : UpValue) → IsIn u c.instructions → IsStretch c.typed u.first u.acts
 
--- of one client start and its record
+-- of one client instance and its record
 pub record LinkOf (size : SessionSize) (log : List Entry) (cuts : List ℕ) (taken : List Act) (r : Record) (c : Client) : Type 0 where
   pub truth : TrueLink (applied_by c.kept.version) (IsScreenOf c.kept.version size log cuts) r.sender c.kept.receiver (Tells r.instructions)
   pub in_step : AreInStep r.sender c.kept.receiver (Tells r.instructions) (Acks c.instructions)
@@ -80,20 +80,20 @@ abbrev pub IsFragment : Bool → DatagramValue → Record → Client → Type 0
 IsFragment false d r c = IsFragmentOf (cuts_of down_text r.instructions) (fragment_of d)
 IsFragment true d r c = IsFragmentOf (cuts_of up_text c.instructions) (fragment_of d)
 
--- its client start was made, it has that one's version, and its kind to the server names a read-only start
+-- its client instance was made, it has that one's version, and its kind to the server names a read-only instance
 pub record Bears (d : DatagramValue) (c : Client) : Type 0 where
   pub made : c.made ≡ true
   pub version : d.version ≡ c.kept.version
   pub watches : is_to_server d.kind ≡ true → is_watching d.kind ≡ c.kept.watches
 
--- a record that is known is of a start that was made, has its version, and watches as it does; another one has nothing
+-- a record that is known is of an instance that was made, has its version, and watches as it does; another one has nothing
 pub record Fits (r : Record) (c : Client) : Type 0 where
   pub made : r.known ≡ true → c.made ≡ true
   pub version : r.known ≡ true → r.version ≡ c.kept.version
   pub watches : r.known ≡ true → r.watches ≡ c.kept.watches
   pub none : r.known ≡ false → r ≡ no_record
 
--- nothing is typed at a start that only watches, and it is of version 2
+-- nothing is typed at an instance that only watches, and it is of version 2
 abbrev pub OnlyWatches : Client → Type 0
 OnlyWatches c = c.kept.watches ≡ true → (c.typed ≡ []) × (c.kept.version ≡ Two)
 

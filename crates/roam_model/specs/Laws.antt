@@ -52,48 +52,48 @@ Always Is = (session : ℕ) (size : SessionSize) (es : List Event) (rs : List Re
 
 -- ---- screens
 
--- each client start shows a number that was made, or 0, and exactly the screen of that number
+-- each client instance shows a number that was made, or 0, and exactly the screen of that number
 pub record ShowsTrueScreens (w : World) : Type 0 where
   pub made : (id : ℕ) → shown_number (w.clients id) ≤ length w.server.cuts
   pub same : (id : ℕ) → shown_screen (w.clients id) ≡ screen (w.clients id).kept.version w.server.size w.server.log w.server.cuts
       (shown_number (w.clients id))
 
--- so is each pair that a client start or the sender of a record has
+-- so is each pair that a client instance or the sender of a record has
 pub record HoldTrueScreens (w : World) : Type 0 where
   pub receivers : (id : ℕ) → HasTrueStates (IsScreenOf (w.clients id).kept.version w.server.size w.server.log w.server.cuts)
       (w.clients id).kept.receiver
   pub senders : (id : ℕ) → HoldsTrueStates (IsScreenOf (w.server.records id).version w.server.size w.server.log w.server.cuts)
       (w.server.records id).sender
 
--- no client start and no sender ever has a ninth pair
+-- no client instance and no sender ever has a ninth pair
 pub record HoldAtMostEight (w : World) : Type 0 where
   pub receivers : (id : ℕ) → length (pairs (w.clients id).kept.receiver) ≤ most_held
   pub senders : (id : ℕ) → count (w.server.records id).sender ≤ most_held
 
--- no datagram that comes to a client start leaves a gap or has a bad change, whatever was lost, late or repeated
+-- no datagram that comes to a client instance leaves a gap or has a bad change, whatever was lost, late or repeated
 abbrev pub LeavesNoGap : World → Type 0
 LeavesNoGap w = (slot k now : ℕ) (reply : Reply) (w' : World) → wstep w (ToClient slot k now) reply w'
     → ((reply ≡ Heard IsGap) → ⊥) × ((reply ≡ Failed BadChange) → ⊥)
 
--- two starts of one version that show one number show one screen
+-- two instances of one version that show one number show one screen
 abbrev pub StartsAgree : World → Type 0
 StartsAgree w = (id j : ℕ) → (w.clients id).kept.version ≡ (w.clients j).kept.version
     → shown_number (w.clients id) ≡ shown_number (w.clients j) → shown_screen (w.clients id) ≡ shown_screen (w.clients j)
 
 -- ---- acts
 
--- The acts of each client start that were taken are the first of those typed there, each once and in order, and its record counts them.
+-- The acts of each client instance that were taken are the first of those typed there, each once and in order, and its record counts them.
 pub record TakesActsInOrder (w : World) : Type 0 where
   pub front : (id : ℕ) → IsFront (acts_of id w.server.log) (w.clients id).typed
   pub count : (id : ℕ) → (w.server.records id).taken ≡ length (acts_of id w.server.log)
 
--- ---- starts that only watch
+-- ---- instances that only watch
 
 -- Nothing is typed at one, and nothing is taken of it.
 abbrev pub WatchersTakeNoPart : World → Type 0
 WatchersTakeNoPart w = (id : ℕ) → (w.clients id).kept.watches ≡ true → ((w.clients id).typed ≡ []) × (acts_of id w.server.log ≡ [])
 
--- the server after another one, in which only the record of one start may be another, and its moments
+-- the server after another one, in which only the record of one instance may be another, and its moments
 pub record IsSameBut (id : ℕ) (s s' : Server) : Type 0 where
   pub size : s'.size ≡ s.size
   pub log : s'.log ≡ s.log
@@ -115,7 +115,8 @@ Headline w = ShowsTrueScreens w × TakesActsInOrder w
 
 -- ---- datagrams
 
--- An instruction's id names one text for good: two datagrams of one direction, start and id have one count, and at one index one payload.
+-- An instruction's id names one text for good: two datagrams of one direction, instance and id have one count, and at one index one
+-- payload.
 abbrev pub NamesOneText : World → Type 0
 NamesOneText w = (d e : DatagramValue) → IsIn d w.sent → IsIn e w.sent → is_to_server d.kind ≡ is_to_server e.kind → d.client ≡ e.client
     → d.id ≡ e.id
@@ -129,30 +130,30 @@ greatest_from best (note ∷ notes) = greatest_from (if nat_lt best.number note.
 abbrev pub no_note : Note
 no_note = record { number = 0; source = nowhere }
 
--- each datagram of a tick goes to the source of the greatest-numbered one that came from its start
+-- each datagram of a tick goes to the source of the greatest-numbered one that came from its instance
 abbrev pub RepliesToLatest : World → Type 0
 RepliesToLatest w = (now : ℕ) (p : Parcel) → IsIn p (sent_by w.server now)
     → p.to ≡ (greatest_from no_note (w.server.records p.datagram.client).notes).source
 
--- the record of a start that is known to the server is one of its version and its kind
+-- the record of an instance that is known to the server is one of its version and its kind
 abbrev pub RecordsFit : World → Type 0
 RecordsFit w = (id : ℕ) → (w.server.records id).known ≡ true
     → ((w.clients id).made ≡ true) × ((w.server.records id).version ≡ (w.clients id).kept.version)
     × ((w.server.records id).watches ≡ (w.clients id).kept.watches)
 
--- each client start counts the instructions that it sent
+-- each client instance counts the instructions that it sent
 abbrev pub CountsInstructions : World → Type 0
 CountsInstructions w = (id : ℕ) → (w.clients id).kept.instructions ≡ length (w.clients id).instructions
 
 -- ---- all of it together
 
--- of a client start and its record
+-- of a client instance and its record
 pub record KeepsStep (w : World) (id : ℕ) : Type 0 where
-  -- the sender's base is there at the start, whose pairs from there on are among the sender's
+  -- the sender's base is there at the instance, whose pairs from there on are among the sender's
   pub base : IsAmong (w.server.records id).sender.base.number (numbers_had (w.clients id).kept.receiver)
   pub later : (n : ℕ) → IsAmong n (numbers_had (w.clients id).kept.receiver) → (w.server.records id).sender.base.number ≤ n
       → IsAmong n (numbers_held (w.server.records id).sender)
-  -- the start gathered no id above those that were sent to it
+  -- the instance gathered no id above those that were sent to it
   pub gathered : (w.clients id).kept.gathering.id ≤ length (w.server.records id).instructions
 
 -- The whole invariant, of which the headline is a part.
@@ -166,9 +167,9 @@ pub record KeepsAll (w : World) : Type 0 where
   pub ids : NamesOneText w
   -- each pair at either end is a number with its screen
   pub pairs : HoldTrueScreens w
-  -- a start has its sender's base, and they are in step from there on
+  -- an instance has its sender's base, and they are in step from there on
   pub step : (id : ℕ) → KeepsStep w id
-  -- each update that was sent has its old number at the start, or its new one isn't above the one that is shown
+  -- each update that was sent has its old number at the instance, or its new one isn't above the one that is shown
   pub known : (id : ℕ) (v : DownValue) → IsIn v (w.server.records id).instructions
       → IsAmong v.old (numbers_had (w.clients id).kept.receiver) ⊎ (v.new ≤ shown_number (w.clients id))
   -- a record's count is the length of a front of the acts typed
@@ -176,7 +177,7 @@ pub record KeepsAll (w : World) : Type 0 where
 
 -- ---- one round
 
--- the k-th datagram was sent after the world w, and goes to this start
+-- the k-th datagram was sent after the world w, and goes to this instance
 abbrev pub IsFresh : World → World → ℕ → ℕ → DatagramValue → Type 0
 IsFresh w w' id k d = (length w.sent < k) × (datagram_at w'.sent k ≡ Some d) × (d.client ≡ id)
 
@@ -184,13 +185,13 @@ IsFresh w w' id k d = (length w.sent < k) × (datagram_at w'.sent k ≡ Some d) 
 abbrev pub deliveries : ℕ → List (ℕ × ℕ) → List Event
 deliveries slot ks = map (λ k. ToClient slot k.0 k.1) ks
 
--- just the datagrams that were sent to this start since the world w, each at least once, in any order
+-- just the datagrams that were sent to this instance since the world w, each at least once, in any order
 pub record DeliversAll (w w' : World) (id : ℕ) (ks : List (ℕ × ℕ)) : Type 0 where
   pub just : (k now : ℕ) → IsIn (k, now) ks → (d : DatagramValue) × IsFresh w w' id k d
   pub all : (k : ℕ) (d : DatagramValue) → IsFresh w w' id k d → (now : ℕ) × IsIn (k, now) ks
 
--- A tick sends to a start that is in a slot, just those datagrams come, and memory is never refused: then the start shows the newest number
--- of its sender.
+-- A tick sends to an instance that is in a slot, just those datagrams come, and memory is never refused: then the instance shows the newest
+-- number of its sender.
 abbrev pub OneRoundSuffices : World → Type 0
 OneRoundSuffices w = (slot id now : ℕ) (ks : List (ℕ × ℕ)) (reply : Reply) (w' : World) (rs : List Reply) (w'' : World)
     → w.slots slot ≡ Some id → wstep w (ServerTick now) reply w' → ((reply ≡ Failed OutOfMemory) → ⊥)

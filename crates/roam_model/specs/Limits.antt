@@ -11,9 +11,9 @@ pub record Limits (w : World) : Type 0 where
   -- numbers of states and of acts are below 2^62
   pub numbers : length w.server.cuts < number_limit
   pub typed : (id : ℕ) → length (w.clients id).typed < number_limit
-  -- at most 1,024 acts of a start are unacknowledged
+  -- at most 1,024 acts of an instance are unacknowledged
   pub unacknowledged : (id : ℕ) → length (w.clients id).kept.acts.acts ≤ most_unacknowledged
-  -- at most 16 starts that only watch, and 64 others, are known to the server
+  -- at most 16 instances that only watch, and 64 others, are known to the server
   pub known : (watches : Bool) → length (alike w.server watches) ≤ most_of watches
   -- each instruction and each datagram that was ever sent has a text
   pub downs : (id : ℕ) (v : DownValue) → IsIn v (w.server.records id).instructions → IsDown v

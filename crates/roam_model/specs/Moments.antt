@@ -10,7 +10,7 @@ frame_interval = 20
 abbrev pub answer_delay : ℕ
 answer_delay = 100
 
--- a start from which nothing came for so long is sent nothing
+-- an instance from which nothing came for so long is sent nothing
 abbrev pub forget_after : ℕ
 forget_after = 60000
 

@@ -15,7 +15,7 @@ first_screen = blank_screenshot 24 80
 abbrev pub cut_of : List ℕ → ℕ → ℕ
 cut_of cuts n = slice_index cuts (n - 1)
 
--- the screen of a number, as a start of a version is shown it: the session's face after the log's entries up to its cut
+-- the screen of a number, as an instance of a version is shown it: the session's face after the log's entries up to its cut
 abbrev pub screen : Version → SessionSize → List Entry → List ℕ → ℕ → Screenshot
 screen v size log cuts n = if n == 0 then first_screen else seen_by v (face size (take (cut_of cuts n) log))
 
@@ -24,7 +24,7 @@ pub record IsScreenOf (v : Version) (size : SessionSize) (log : List Entry) (cut
   pub made : n ≤ length cuts
   pub same : s ≡ screen v size log cuts n
 
--- the acts of a client start that were taken, in their order
+-- the acts of a client instance that were taken, in their order
 abbrev pub acts_of : ℕ → List Entry → List Act
 acts_of id [] = []
 acts_of id (Given pane bytes ∷ log) = acts_of id log

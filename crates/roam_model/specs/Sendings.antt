@@ -1,4 +1,4 @@
--- A tick of a client start.
+-- A tick of a client instance.
 use Rattle.std.specs.Prelude.{ℕ, ◌+◌, max, List, [], ◌∷◌, ◌++◌, length, take, Option, Some, None, Bool, true, ◌&&◌, ◌||◌, nat_lt}
 use Rattle.roam_sync.specs.Moments.{resend_after, heartbeat}
 use Rattle.roam_acts.specs.Limits.{most_acts}

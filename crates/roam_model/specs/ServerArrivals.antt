@@ -29,7 +29,7 @@ abbrev pub is_same : Bool → Bool → Bool
 is_same true b = b
 is_same false b = not b
 
--- so many starts that only watch, or so many others, are known at most
+-- so many instances that only watch, or so many others, are known at most
 abbrev pub most_of : Bool → ℕ
 most_of watches = if watches then 16 else 64
 
@@ -37,11 +37,11 @@ most_of watches = if watches then 16 else 64
 abbrev pub alike_in : (ℕ → Record) → Bool → List ℕ → List ℕ
 alike_in records watches ids = filter (λ id. is_same (records id).watches watches) ids
 
--- the known starts that only watch, or the others
+-- the known instances that only watch, or the others
 abbrev pub alike : Server → Bool → List ℕ
 alike s watches = alike_in s.records watches s.arrival
 
--- the start isn't known, and as many as may be are that watch, or don't, as it does
+-- the instance isn't known, and as many as may be are that watch, or don't, as it does
 abbrev pub is_full_for : Server → DatagramValue → Bool
 is_full_for s d =
     not (s.records d.client).known && nat_le (most_of (is_watching d.kind)) (length (alike s (is_watching d.kind)))
@@ -50,7 +50,7 @@ is_full_for s d =
 abbrev pub is_of_other : Server → DatagramValue → Bool
 is_of_other s d = (s.records d.client).known && not (is_same_version (s.records d.client).version d.version)
 
--- its record is one of a start that watches, and it doesn't come from one, or the other way round
+-- its record is one of an instance that watches, and it doesn't come from one, or the other way round
 abbrev pub is_else : Server → DatagramValue → Bool
 is_else s d = (s.records d.client).known && not (is_same (s.records d.client).watches (is_watching d.kind))
 
@@ -66,7 +66,7 @@ coming s d =
 
 -- ---- its effect
 
--- the record of its client start: it was heard now, from there, and this is gathered then
+-- the record of its client instance: it was heard now, from there, and this is gathered then
 abbrev pub heard_from : Record → DatagramValue → Address → ℕ → Gathering → Record
 heard_from r d from now g =
     record r {

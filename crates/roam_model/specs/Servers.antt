@@ -1,4 +1,4 @@
--- The server, and its record of each client start.
+-- The server, and its record of each client instance.
 use Rattle.std.specs.Prelude.{ℕ, ◌++◌, max, List, [], ◌∷◌, Option, None, Bool, true, false}
 use Rattle.roam_screens.specs.Screenshot.{Screenshot}
 use Rattle.roam_sync.specs.Senders.{Sending, start}
@@ -15,7 +15,7 @@ pub record Note : Type 0 where
   pub number : ℕ
   pub source : Address
 
--- the server's record of a client start
+-- the server's record of a client instance
 pub record Record : Type 0 where
   -- whether something came from it
   pub known : Bool
@@ -76,7 +76,7 @@ pub record Server : Type 0 where
   pub input : Bool
   -- the greatest moment so far
   pub clock : ℕ
-  -- the record of each client start, by its id
+  -- the record of each client instance, by its id
   pub records : ℕ → Record
   -- the ids of those that are known, in the order in which they came
   pub arrival : List ℕ

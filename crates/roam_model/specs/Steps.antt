@@ -44,7 +44,7 @@ pub data DrainStep (w : World) (pane n : ℕ) (reply : Reply) (w' : World) : Typ
   gone : (output : List ℕ) → output_at w.server.size w.server.log pane ≡ Some output → n ≤ length output
       → reply ≡ Done → w' ≡ with_server w (after_input w.server (Drained pane n)) → DrainStep w pane n reply w'
 
--- an act is typed: no start in the slot; it only watches; 1,024 are unacknowledged; numbers are spent; or it is taken
+-- an act is typed: no instance in the slot; it only watches; 1,024 are unacknowledged; numbers are spent; or it is taken
 pub data TypedStep (w : World) (slot : ℕ) (act : Act) (reply : Reply) (w' : World) : Type 0 where
   empty_slot : w.slots slot ≡ None
       → reply ≡ Refused → w' ≡ w → TypedStep w slot act reply w'
@@ -68,7 +68,7 @@ pub data ServerTickStep (w : World) (now : ℕ) (reply : Reply) (w' : World) : T
       → w' ≡ after_server_tick w (moment w.server now) → ServerTickStep w now reply w'
   no_memory : reply ≡ Failed OutOfMemory → w' ≡ w → ServerTickStep w now reply w'
 
--- a client start ticks: none in the slot; nothing is due; numbers are spent; or it sends
+-- a client instance ticks: none in the slot; nothing is due; numbers are spent; or it sends
 pub data ClientTickStep (w : World) (slot now : ℕ) (reply : Reply) (w' : World) : Type 0 where
   empty_slot : w.slots slot ≡ None
       → reply ≡ Refused → w' ≡ w → ClientTickStep w slot now reply w'
@@ -116,8 +116,8 @@ pub data ToServerStep (w : World) (k : ℕ) (from : Address) (now : ℕ) (reply 
       → ToServerStep w k from now reply w'
   no_memory : reply ≡ Stopped OutOfMemory 0 → w' ≡ w → ToServerStep w k from now reply w'
 
--- A datagram comes to a client start: none in the slot; it was never sent; it is refused; it completes no instruction; its instruction is
--- invalid; its change is bad; or the receiver takes its update.
+-- A datagram comes to a client instance: none in the slot; it was never sent; it is refused; it completes no instruction; its instruction
+-- is invalid; its change is bad; or the receiver takes its update.
 pub data ToClientStep (w : World) (slot k now : ℕ) (reply : Reply) (w' : World) : Type 0 where
   empty_slot : w.slots slot ≡ None
       → reply ≡ Refused → w' ≡ w → ToClientStep w slot k now reply w'
@@ -145,12 +145,12 @@ pub data ToClientStep (w : World) (slot k now : ℕ) (reply : Reply) (w' : World
       → w' ≡ with_kept w id (after_whole (w.clients id).kept (moment_of (w.clients id).kept now) g r v) → ToClientStep w slot k now reply w'
   no_memory : reply ≡ Failed OutOfMemory → w' ≡ w → ToClientStep w slot k now reply w'
 
--- a start that only watches is of version 2
+-- an instance that only watches is of version 2
 abbrev pub is_unfit : Version → Bool → Bool
 is_unfit One watches = watches
 is_unfit Two watches = false
 
--- a client starts in a slot: its id was used before; it would watch in version 1; or it starts
+-- a client instances in a slot: its id was used before; it would watch in version 1; or it instances
 pub data StartStep (w : World) (slot id : ℕ) (v : Version) (watches : Bool) (reply : Reply) (w' : World) : Type 0 where
   used : (w.clients id).made ≡ true
       → reply ≡ Refused → w' ≡ w → StartStep w slot id v watches reply w'

@@ -44,13 +44,13 @@ is_to_server ToClient = false
 is_to_server ToServer = true
 is_to_server FromWatcher = true
 
--- it comes from a start that only watches
+-- it comes from an instance that only watches
 abbrev pub is_watching : Kind → Bool
 is_watching ToClient = false
 is_watching ToServer = false
 is_watching FromWatcher = true
 
--- the kind of a start's datagrams
+-- the kind of an instance's datagrams
 abbrev pub kind_from : Bool → Kind
 kind_from watches = if watches then FromWatcher else ToServer
 

@@ -81,7 +81,7 @@ after_sent r n s now =
 abbrev pub ticked_record : Record → ℕ → Screenshot → ℕ → Record
 ticked_record r n s now = if sends r n s now then after_sent r n s now else record r { sender = holds_after r n s now }
 
--- the datagrams to the record of a client start
+-- the datagrams to the record of a client instance
 abbrev pub datagrams_to : ℕ → ℕ → Record → ℕ → Screenshot → ℕ → List DatagramValue
 datagrams_to session id r n s now =
     if sends r n s now then datagrams_of r.version ToClient session id r.datagrams (length r.instructions + 1) (fragments_to r n s now)
@@ -94,7 +94,7 @@ is_record_spent r n s now =
 
 -- ---- the whole tick
 
--- the screen of the newest number for the record of a client start
+-- the screen of the newest number for the record of a client instance
 abbrev pub screen_to : Server → ℕ → ℕ → Screenshot
 screen_to s now id = screen_after s (s.records id).version now
 
@@ -106,7 +106,7 @@ pub record Parcel : Type 0 where
 abbrev pub parcel : Address → DatagramValue → Parcel
 parcel to d = record { to = to; datagram = d }
 
--- the datagrams to a client start, each to its address
+-- the datagrams to a client instance, each to its address
 abbrev pub parcels_to : Server → ℕ → ℕ → List Parcel
 parcels_to s now id =
     map (parcel (s.records id).address) (datagrams_to s.session id (s.records id) (number_after s now) (screen_to s now id) now)

@@ -1,4 +1,4 @@
--- The screens and texts that a client start of each version gets.
+-- The screens and texts that a client instance of each version gets.
 use Rattle.std.specs.Prelude.{ℕ, List, Option, Bool, true, false}
 use Rattle.roam_screens.specs.Screenshot.{Screenshot, IsScreenshot}
 use Rattle.roam_screens.specs.Narrow.{IsOldScreenshot, narrow}
@@ -12,12 +12,12 @@ is_same_version Two Two = true
 is_same_version One Two = false
 is_same_version Two One = false
 
--- the screen that a start of a version is shown if the session shows this one
+-- the screen that an instance of a version is shown if the session shows this one
 abbrev pub seen_by : Version → Screenshot → Screenshot
 seen_by One s = narrow s
 seen_by Two s = s
 
--- a screen that a start of a version may be shown
+-- a screen that an instance of a version may be shown
 abbrev pub IsSeenBy : Version → Screenshot → Type 0
 IsSeenBy One s = IsOldScreenshot s
 IsSeenBy Two s = IsScreenshot s

@@ -1,4 +1,4 @@
--- The world: one server, all client starts, all datagrams ever sent; and what may happen in it.
+-- The world: one server, all client instances, all datagrams ever sent; and what may happen in it.
 use Rattle.std.specs.Prelude.{ℕ, ◌-◌, ◌==◌, List, [], ◌++◌, map, slice_get, Option, Some, None, Bool, if◌then◌else◌}
 use Rattle.roam_cells.specs.declared.faults.Fault.{Fault}
 use Rattle.roam_acts.specs.declared.acts.Act.{Act}
@@ -15,9 +15,9 @@ use Rattle.roam_wire.specs.declared.versions.Version.{Version}
 
 pub record World : Type 0 where
   pub server : Server
-  -- all client starts ever, by their id
+  -- all client instances ever, by their id
   pub clients : ℕ → Client
-  -- the id of the start in each slot
+  -- the id of the instance in each slot
   pub slots : ℕ → Option ℕ
   -- all datagrams ever sent, the first under the number 1: losses, repeats and reorderings are which of them come, and how often
   pub sent : List DatagramValue
@@ -26,17 +26,17 @@ pub record World : Type 0 where
 unfoldable pub new_world : ℕ → SessionSize → World
 new_world session size = record { server = new_server session size; clients = λ id. nobody; slots = λ slot. None; sent = [] }
 
--- one thing that happens: one whole call of the server or of a client start
+-- one thing that happens: one whole call of the server or of a client instance
 pub data Event : Type 0 where
   -- bytes come from a pane's program
   PaneBytes : (pane : ℕ) → (bytes : List ℕ) → Event
-  -- an act is typed at the start in a slot
+  -- an act is typed at the instance in a slot
   Typed : (slot : ℕ) → (act : Act) → Event
   ServerTick : (now : ℕ) → Event
   ClientTick : (slot : ℕ) → (now : ℕ) → Event
   -- the k-th datagram comes to the server, from an address
   ToServer : (k : ℕ) → (from : Address) → (now : ℕ) → Event
-  -- the k-th datagram comes to the start in a slot
+  -- the k-th datagram comes to the instance in a slot
   ToClient : (slot : ℕ) → (k : ℕ) → (now : ℕ) → Event
   -- a client of a version starts in a slot, and only watches or not
   Start : (slot : ℕ) → (id : ℕ) → (version : Version) → (watches : Bool) → Event
@@ -51,7 +51,7 @@ pub data Reply : Type 0 where
   -- so many acts were taken
   Taken : (count : ℕ) → Reply
   Heard : Hearing → Reply
-  -- there is no such start, datagram or output, or the id was used: nothing is done
+  -- there is no such instance, datagram or output, or the id was used: nothing is done
   Refused : Reply
   Failed : Fault → Reply
   -- a datagram to the server was refused, after so many of its acts were taken
@@ -77,7 +77,7 @@ abbrev pub after_server_tick : World → ℕ → World
 after_server_tick w now =
     record w { server = after_tick w.server now; sent = w.sent ++ map (λ (p : Parcel). p.datagram) (sent_by w.server now) }
 
--- a client start ticked, and sent
+-- a client instance ticked, and sent
 abbrev pub after_client_sent : World → ℕ → ℕ → World
 after_client_sent w id now =
     record w {

@@ -25,7 +25,7 @@ use Rattle.roam_outer_terminal.specs.declared.terminal.State.{State}
 use Rattle.roam_outer_terminal.specs.declared.terminal.State.TheVariants.{Gone}
 use Rattle.roam_terminal_input.proofs.Fronts.{first_is_ended}
 
--- typing nothing leaves a start
+-- typing nothing leaves an instance
 pub types_none : (client client' : ClientView) → client' ≡ client → Types [] client client'
 types_none client client' same = same
 

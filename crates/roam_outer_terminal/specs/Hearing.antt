@@ -126,7 +126,7 @@ abbrev pub line_told : Option ℕ → Option DisplayStateView → Option Display
 line_told last None = None
 line_told last (Some t) = Some (record t { taken = took last t.taken })
 
--- the number of the last act of a line that was typed at a start, none of a terminal that only watches
+-- the number of the last act of a line that was typed at an instance, none of a terminal that only watches
 abbrev pub last_typed : Bool → ClientView → Option ℕ
 last_typed false client = Some (last_number client.kept.acts)
 last_typed true client = None
@@ -148,7 +148,7 @@ abbrev pub is_looking : Option DisplayStateView → Bool
 is_looking None = false
 is_looking (Some t) = is_some t.looking
 
--- the state of the records after an entry, with the start as it is then
+-- the state of the records after an entry, with the instance as it is then
 abbrev pub display_state_after : Bool → Entry → ClientView → Option DisplayStateView → Option DisplayStateView
 display_state_after watches (Acts acts) client display_state = line_told (last_typed watches client) display_state
 display_state_after watches (Paste acts) client display_state = line_told (last_typed watches client) display_state

@@ -1,4 +1,4 @@
--- An outer terminal is painted from what its client start shows.
+-- An outer terminal is painted from what its client instance shows.
 use Rattle.std.specs.Prelude.{◌≡◌, ◌⊎◌, ℕ, List, [], ◌++◌, Bool, true, false, not, nat_le, ◌&&◌, ◌||◌, Option, Some, None, is_some}
 use Rattle.roam_hub.specs.Clients.{ClientView}
 use Rattle.roam_overlay.specs.Overlays.{OverlayOf, Judges}
@@ -32,7 +32,7 @@ is_open t = is_some t.display_state || not (is_some t.told)
 abbrev pub is_ready : {S : Type 0} → Terminal S → Bool
 is_ready t = is_here t.state && (is_open t && is_empty t.waiting)
 
--- the screen that a start shows, and its number
+-- the screen that an instance shows, and its number
 abbrev pub shown_of : ClientView → Noted
 shown_of client = record { number = client.kept.receiver.newest.number; screen = client.kept.receiver.newest.state }
 
@@ -49,7 +49,7 @@ abbrev pub IsHidden : Silence → Option Screenshot → Type 0
 IsHidden silence over = nat_le 10 (seconds_of silence) ≡ true → over ≡ None
 
 -- A terminal was painted: its queued bytes lead it from its old screen to its new one, the noted screen with the predictions. The noted
--- screen is the start's. It stays the old one if that has the same number or memory was refused. Without memory to take an overlay back,
+-- screen is the instance's. It stays the old one if that has the same number or memory was refused. Without memory to take an overlay back,
 -- none is noted.
 pub record Paints {S : Type 0} (silence : Silence) (client : ClientView) (old new : Terminal S) : Type 0 where
   pub ready : is_ready old ≡ true
@@ -90,7 +90,7 @@ pub record TellsIt {S : Type 0} (acknowledged : ℕ) (before : DisplayStateView)
   pub is : new ≡ record old { display_state = Some after; waiting = old.waiting ++ texts_of (taken ++ shown) }
 
 -- A terminal with records got them. The noted screens are whole, and predictions are made and judged from them. The noted screen is the
--- start's; it stays the old one if that has the same number or memory was refused.
+-- instance's; it stays the old one if that has the same number or memory was refused.
 pub record TellsAll {S : Type 0} (silence : Silence) (client : ClientView) (old new : Terminal S) : Type 0 where
   pub ready : is_ready old ≡ true
   pub before : DisplayStateView

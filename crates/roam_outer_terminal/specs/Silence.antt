@@ -1,4 +1,4 @@
--- What an outer terminal shows while a client start hears nothing from its server.
+-- What an outer terminal shows while a client instance hears nothing from its server.
 use Rattle.std.specs.Prelude.{ℕ, ◌-◌, ◌/◌, ◌%◌, ◌&&◌, ◌==◌, not, nat_le, nat_lt, Bool, false, List, ◌∷◌, ◌++◌, Option, Some, None, is_some, if◌then◌else◌, codes, decimal}
 use Rattle.roam_outer_terminal.specs.declared.silence.Silence.{Silence}
 use Rattle.roam_outer_terminal.specs.declared.silence.End.{End}

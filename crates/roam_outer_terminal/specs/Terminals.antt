@@ -1,4 +1,4 @@
--- The lines that a client start takes from an outer terminal: in order, each once.
+-- The lines that a client instance takes from an outer terminal: in order, each once.
 use Rattle.std.specs.Prelude.{◌≡◌, ◌≢◌, ℕ, ◌+◌, ◌<◌, Bool, true, false, not, nat_lt, List, [], ◌∷◌, ◌++◌, length, Option, Some, None}
 use Rattle.std.specs.List.{fold}
 use Rattle.std.specs.Io.KnownBytes.{Consumes}
@@ -32,7 +32,7 @@ watches_after LookStyled watches = watches
 watches_after (Show showing) watches = watches
 watches_after End watches = watches
 
--- a line ends the start if it asks for that and its terminal isn't read-only
+-- a line ends the instance if it asks for that and its terminal isn't read-only
 abbrev pub ends_by : Bool → Entry → Bool
 ends_by watches (Acts acts) = false
 ends_by watches (Paste acts) = false
@@ -71,7 +71,7 @@ pub record Stands (kept : List ℕ) (watches : Bool) (log : List ℕ) (typed : L
   pub is : log ≡ ended_all lines ++ kept
   pub takes : TakesAll lines false watches typed
 
--- these acts were typed at a start, in their order
+-- these acts were typed at an instance, in their order
 abbrev pub Types : List Act → ClientView → ClientView → Type 0
 Types acts old new = new ≡ keeping old (after_typed_all old.kept acts)
 
@@ -107,7 +107,7 @@ is_heard Gone = false
 abbrev pub most_acts : ℕ
 most_acts = 64
 
--- why acts aren't typed now: too many would be unacknowledged, the start only watches, or its numbers are spent
+-- why acts aren't typed now: too many would be unacknowledged, the instance only watches, or its numbers are spent
 pub data Holds (acts : List Act) (client : ClientView) : Type 0 where
   many : most_acts < length client.kept.acts.acts + length acts → Holds acts client
   watching : client.kept.watches ≡ true → Holds acts client
@@ -116,13 +116,13 @@ pub data Holds (acts : List Act) (client : ClientView) : Type 0 where
 
 -- ---- the predictions
 
--- the predictions of a terminal after the acts of its line were typed, the first under a number, while its start showed a screen
+-- the predictions of a terminal after the acts of its line were typed, the first under a number, while its instance showed a screen
 abbrev pub predictions_after : Bool → ℕ → List Act → Screenshot → Option OverlayOf → Option OverlayOf
 predictions_after pasted first acts shown None = None
 predictions_after pasted first acts shown (Some o) =
     Some (record o { predictions = fold after o.predictions (line_steps pasted first acts (screen_or o.seen shown)) })
 
--- the number of the next act of a start
+-- the number of the next act of an instance
 abbrev pub first_number : ClientView → ℕ
 first_number client = next_number (last_number client.kept.acts)
 

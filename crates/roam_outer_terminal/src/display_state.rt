@@ -63,7 +63,7 @@ fn tell_noted(
 }
 
 impl<S: Duplex + Drop> Terminal<S> {
-    // Notes the screen that the start shows, if there is memory for it.
+    // Notes the screen that the instance shows, if there is memory for it.
     fn note(&mut self, alloc: Global, client: &Client)
         ensures noted { (self.new.outer ≡ Some (shown_of client.now)) ⊎ (self.new.outer ≡ self.old.outer) }
         ensures others { self.new ≡ record self.old { outer = self.new.outer } }

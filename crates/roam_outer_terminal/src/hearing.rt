@@ -42,7 +42,7 @@ pub enum Taking {
     /// It was taken.
     Line,
 
-    /// It was taken, and ends the start.
+    /// It was taken, and ends the instance.
     End,
 
     /// It waits until acts are acknowledged.
@@ -53,7 +53,7 @@ pub enum Taking {
 }
 
 impl Taking {
-    /// Returns true if the line ends the start.
+    /// Returns true if the line ends the instance.
     pub fn is_end(self) -> bool
         ensures end { result ≡ is_end self }
     {
@@ -173,7 +173,7 @@ impl<S: Duplex + Drop> Terminal<S> {
         }
     }
 
-    // Predicts the screen after the acts of a line, the first under a number, if predictions are wanted and the start showed a screen.
+    // Predicts the screen after the acts of a line, the first under a number, if predictions are wanted and the instance showed a screen.
     fn prediction(&mut self, is_pasted: bool, first: u64, acts: &[Act], client: &Client)
         ensures guesses { self.new.predicting
             ≡ predictions_after is_pasted first acts.now client.now.kept.receiver.newest.state self.old.predicting }
@@ -354,7 +354,7 @@ impl<S: Duplex + Drop> Terminal<S> {
         }
     }
 
-    /// Reads available bytes, and does the entry of the first line. Its acts are typed at the start, all of them or none.
+    /// Reads available bytes, and does the entry of the first line. Its acts are typed at the instance, all of them or none.
     pub fn hear(&mut self, alloc: Global, client: &mut Client) -> Taking
         ensures hears { (entry : Option EntryOf) × (hears : HearsOne S.remaining S.contents entry self.old self.new client.old client.new)
             × (is_end result ≡ asks_end self.old.watches entry) × (result ≡ told_of hears.takes) }

@@ -152,7 +152,7 @@ impl<S: Duplex + Drop> Terminal<S> {
         }
     }
 
-    // Queues the text from the noted screen to the start's. Without memory to keep the new screen, none is noted any more.
+    // Queues the text from the noted screen to the instance's. Without memory to keep the new screen, none is noted any more.
     fn paint_noted(&mut self, alloc: Global, client: &Client)
         requires ready { self.old.waiting ≡ [] }
         ensures leads { LeadsSized self.old.outer self.new.waiting self.new.outer }
@@ -245,7 +245,7 @@ impl<S: Duplex + Drop> Terminal<S> {
         }
     }
 
-    // Paints the terminal: takes the overlay back, paints the start's screen, and paints the predictions over it. All of it is queued,
+    // Paints the terminal: takes the overlay back, paints the instance's screen, and paints the predictions over it. All of it is queued,
     // whole.
     fn paint(&mut self, alloc: Global, client: &Client, silence: Silence)
         requires ready { is_ready self.old ≡ true }
@@ -269,7 +269,7 @@ impl<S: Duplex + Drop> Terminal<S> {
         self.is_here() && is_open && self.waiting.len() == 0
     }
 
-    /// Paints the start's screen if the terminal is ready for it.
+    /// Paints the instance's screen if the terminal is ready for it.
     pub fn paint_if_ready(&mut self, alloc: Global, client: &Client, silence: Silence)
         ensures paints { MayPaint silence client.now self.old self.new }
         ensures behind { IsBehind self.old.outer client.now.kept.receiver.newest.number client.now.kept.receiver.newest.state

@@ -1,5 +1,5 @@
-//! An outer terminal of a client start: a program at the other end of a stream. It types lines of acts, and gets the painted screen of the
-//! start, with predictions over it and notices of silence.
+//! An outer terminal of a client instance: a program at the other end of a stream. It types lines of acts, and gets the painted screen of
+//! the instance, with predictions over it and notices of silence.
 #![tactic(auto)]
 
 mod display_state;

@@ -1,4 +1,4 @@
-//! A client start's knowledge of its server without a question: for how long it has heard nothing, and which notice the outer terminal
+//! A client instance's knowledge of its server without a question: for how long it has heard nothing, and which notice the outer terminal
 //! shows.
 ghost use Rattle.std.specs.Prelude.{◌≡◌, ◌↔◌, ◌≤◌, ◌-◌, Some, None, is_some, nat_le, IsTrue, IfOk, IsOkUnless};
 ghost use Rattle.roam_outer_terminal.specs.Silence.{seconds_of, due_of, is_over, end_of, notice_of, wait_of};
@@ -17,7 +17,7 @@ const BEFORE: &[u8] = b"\x1b7\x1b[?7l\x1b[999;1H\x1b[0;7m";
 /// The text behind the words: it erases the rest of the row, turns wrapping on, and restores the cursor.
 const AFTER: &[u8] = b"\x1b[0m\x1b[K\x1b[?7h\x1b8";
 
-/// What a client start heard of its server at the end, once it has taken all its turns or its acts ended.
+/// What a client instance heard of its server at the end, once it has taken all its turns or its acts ended.
 #[derive(Clone, Copy, Debug, PartialEq, Eq)]
 pub enum End {
     /// It heard something within the last ten seconds.
@@ -85,7 +85,7 @@ impl Silence {
         self.told = told;
     }
 
-    /// Returns what was heard if the start ends now.
+    /// Returns what was heard if the instance ends now.
     pub fn end(&self) -> End
         ensures end { result ≡ end_of self.now }
     {

@@ -59,7 +59,7 @@ impl State {
     }
 }
 
-/// An outer terminal of a client start.
+/// An outer terminal of a client instance.
 #[derive(Drop)]
 pub struct Terminal<S> {
     pub(crate) stream: S,

@@ -177,7 +177,7 @@ focus_news : (b : Bool) (k : Known) (x y : ℕ) → k.focus ≡ x → eqb x y �
 focus_news true k x y e same = tt
 focus_news false k x y e apart = ((λ h. false≢true (sym apart ∙ eq-eqb x y (sym e ∙ h))), tt)
 
--- ---- how many client starts there are
+-- ---- how many client instances there are
 
 -- a reader that knew this number, and reads another one if there is one, knows it
 count_known : (b : Bool) (told now : ℕ) → eqb told now ≡ b → (known : Option ℕ) → known ≡ Some told
@@ -210,7 +210,7 @@ watchers_told : (o : Option ℕ) (k : Known) → IfSome o (λ n. k.watchers ≢ 
 watchers_told None k h = tt
 watchers_told (Some n) k h = (h, tt)
 
--- a number of starts leaves all other knowledge of a subscriber
+-- a number of instances leaves all other knowledge of a subscriber
 record Counts (k m : Known) : Type 0 where
   focus : m.focus ≡ k.focus
   pane : (q : ℕ) → m.pane q ≡ k.pane q
@@ -274,7 +274,7 @@ focus_arrives : (told now : PaneList) → Focuses now.focus (after_panes told no
 focus_arrives told now =
     focus_known (eqb told.focus now.focus) (after_panes told now) told.focus now.focus (panes_arrive told now).rest.focus refl
 
--- the panes, the focus and the numbers of starts are read one after the other
+-- the panes, the focus and the numbers of instances are read one after the other
 read_on : (k : Known) (xs ys zs : List Line) → fold after k ((xs ++ ys) ++ zs) ≡ fold after (fold after (fold after k xs) ys) zs
 read_on k xs ys zs = fold-append after k (xs ++ ys) zs ∙ ap (λ (m : Known). fold after m zs) (fold-append after k xs ys)
 

@@ -1,9 +1,9 @@
--- The list of a session: its panes with places and sizes, the focus, and how many client starts are known.
+-- The list of a session: its panes with places and sizes, the focus, and how many client instances are known.
 use Rattle.std.specs.Prelude.{ℕ, Bool, ◌==◌, ◌&&◌, [], ◌∷◌, slice_index_or, Option, None}
 use Rattle.roam_pane_protocol.specs.declared.pane_list.ListedPane.{ListedPane}
 use Rattle.roam_pane_protocol.specs.declared.pane_list.PaneList.{PaneList}
 
--- nothing is known: no pane is there, none is in focus, and no number of client starts is known
+-- nothing is known: no pane is there, none is in focus, and no number of client instances is known
 abbrev pub nothing : PaneList
 nothing =
     record {
@@ -23,7 +23,7 @@ is_same one other =
     (one.generation == other.generation)
     && ((one.row == other.row) && ((one.col == other.col) && ((one.rows == other.rows) && (one.cols == other.cols))))
 
--- how many client starts that edit, and how many that watch, a server keeps at most
+-- how many client instances that edit, and how many that watch, a server keeps at most
 abbrev pub most_clients : ℕ
 most_clients = 64
 

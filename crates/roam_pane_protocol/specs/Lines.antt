@@ -6,7 +6,7 @@ use Rattle.roam_pane_protocol.specs.declared.pane_list.ListedPane.{ListedPane}
 use Rattle.roam_pane_protocol.specs.declared.pane_list.PaneList.{PaneList}
 
 -- a line: a pane of this number is there, of a generation, at a place and of a size; none is there any more; this one is in focus; so many
--- client starts that type are known; so many read-only ones
+-- client instances that type are known; so many read-only ones
 pub data Line : Type 0 where
   Here : ℕ → ListedPane → Line
   Gone : ℕ → Line
@@ -57,12 +57,12 @@ abbrev pub line_of_count : (ℕ → Line) → Option ℕ → List Line
 line_of_count line None = []
 line_of_count line (Some count) = line count ∷ []
 
--- the lines of the numbers of client starts that changed, of either kind
+-- the lines of the numbers of client instances that changed, of either kind
 abbrev pub lines_of_counts : PaneList → PaneList → List Line
 lines_of_counts told now =
     line_of_count Clients (count_to_tell told.clients now.clients) ++ line_of_count Watchers (count_to_tell told.watchers now.watchers)
 
--- the news of all nine panes, then the focus, and then the numbers of client starts
+-- the news of all nine panes, then the focus, and then the numbers of client instances
 abbrev pub lines_between : PaneList → PaneList → List Line
 lines_between told now =
     (lines_to 9 (pane_at told) (pane_at now) ++ lines_of_focus told.focus now.focus) ++ lines_of_counts told now
@@ -102,7 +102,7 @@ AreNews known (line ∷ lines) = IsNews known line × AreNews (after known line)
 
 -- ---- the laws
 
--- it knows each pane and the focus, and how many client starts are known if the list has that
+-- it knows each pane and the focus, and how many client instances are known if the list has that
 pub record Agrees (known : Known) (now : PaneList) : Type 0 where
   pub panes : (p : ℕ) → 1 ≤ p → p ≤ 9 → known.pane p ≡ pane_at now p
   pub focus : known.focus ≡ now.focus

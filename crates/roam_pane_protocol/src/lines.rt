@@ -8,10 +8,10 @@ use roam_acts::limits::PANES_END;
 use roam_cells::Fault;
 use std::alloc::Global;
 
-/// How many client starts that edit a server keeps at most.
+/// How many client instances that edit a server keeps at most.
 const MOST_CLIENTS: u16 = 64;
 
-/// How many client starts that watch a server keeps at most.
+/// How many client instances that watch a server keeps at most.
 const MOST_WATCHERS: u16 = 16;
 
 // Returns true if two panes are equal, at one place and of one size.
@@ -58,7 +58,7 @@ fn push_focus(alloc: Global, text: &mut String, pane: u8) -> Result<(), Fault>
     Ok(())
 }
 
-// Adds the line of how many client starts that edit are kept.
+// Adds the line of how many client instances that edit are kept.
 fn push_clients(alloc: Global, text: &mut String, count: u16) -> Result<(), Fault>
     ensures line { OnOk result (string_bytes text.new ≡ string_bytes text.old ++ line_text (Clients count)) }
     ensures fault { IsOkUnless result Fault.OutOfMemory }
@@ -68,7 +68,7 @@ fn push_clients(alloc: Global, text: &mut String, count: u16) -> Result<(), Faul
     Ok(())
 }
 
-// Adds the line of how many client starts that watch are kept.
+// Adds the line of how many client instances that watch are kept.
 fn push_watchers(alloc: Global, text: &mut String, count: u16) -> Result<(), Fault>
     ensures line { OnOk result (string_bytes text.new ≡ string_bytes text.old ++ line_text (Watchers count)) }
     ensures fault { IsOkUnless result Fault.OutOfMemory }
@@ -90,7 +90,7 @@ fn count_to_tell(told: Option<u16>, now: Option<u16>) -> Option<u16>
     }
 }
 
-// Appends the news of the numbers of client starts.
+// Appends the news of the numbers of client instances.
 fn push_counts(
     alloc: Global,
     text: &mut String,

@@ -17,7 +17,7 @@ pub struct ListedPane {
     pub cols: u16,
 }
 
-/// The list of a session: its panes, 1 to 9, the focus, and how many client starts are known.
+/// The list of a session: its panes, 1 to 9, the focus, and how many client instances are known.
 #[derive(Clone, Copy)]
 pub struct PaneList {
     // By the panes' numbers; none is 0.
@@ -30,7 +30,7 @@ pub struct PaneList {
 }
 
 impl PaneList {
-    /// Nothing is known: no pane is there, none is in focus, and no number of client starts is known.
+    /// Nothing is known: no pane is there, none is in focus, and no number of client instances is known.
     pub fn unknown() -> PaneList
         ensures nothing { result ≡ nothing }
     {
@@ -57,14 +57,14 @@ impl PaneList {
         self.focus = pane;
     }
 
-    /// Puts how many client starts that edit are kept.
+    /// Puts how many client instances that edit are kept.
     pub fn set_clients(&mut self, count: u16)
         ensures starts { self.new ≡ record self.old { clients = Some count } }
     {
         self.clients = Some(count);
     }
 
-    /// Puts how many client starts that watch are kept.
+    /// Puts how many client instances that watch are kept.
     pub fn set_watchers(&mut self, count: u16)
         ensures watchers { self.new ≡ record self.old { watchers = Some count } }
     {
@@ -86,14 +86,14 @@ impl PaneList {
         self.focus
     }
 
-    /// Returns how many client starts that type are known, if the list has that.
+    /// Returns how many client instances that type are known, if the list has that.
     pub fn clients(&self) -> Option<u16>
         ensures starts { result ≡ self.now.clients }
     {
         self.clients
     }
 
-    /// Returns how many read-only client starts are known, if the list has that.
+    /// Returns how many read-only client instances are known, if the list has that.
     pub fn watchers(&self) -> Option<u16>
         ensures watchers { result ≡ self.now.watchers }
     {

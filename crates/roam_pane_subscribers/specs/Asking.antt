@@ -21,7 +21,7 @@ pub record AsksFor (line : List ℕ) (close : Close) : Type 0 where
 
 -- A line is done at a moment, with these panes, and gets this reply. It may declare the pty host, or ask for metadata, clips or questions.
 -- It may ask for no close, or for one of a pane that is gone or is the only one. Otherwise the close begins, and the focus goes to the pane
--- that it names; or the server's start refused it.
+-- that it names; or the server's instance refused it.
 pub data DoesLine (now : PaneList) (line : List ℕ) (moment : ℕ) (old new : Closer) (said : List ℕ) : Type 0 where
   host : is_host_line line ≡ true → new ≡ old → said ≡ [] → DoesLine now line moment old new said
   metadata : is_metadata_line line ≡ true → new ≡ old → said ≡ [] → DoesLine now line moment old new said
@@ -61,7 +61,7 @@ pub record IsAsked (now : PaneList) (moment : ℕ) (old new : Closer) : Type 0 w
   pub busy : IsSome old.closing → new ≡ old
   pub asked : old.closing ≡ None → IfSome new.closing (λ making. IsClosing now moment new making)
 
--- A turn was taken: no close is in progress after its datagram was given. If the pane is still there, the start is dropped.
+-- A turn was taken: no close is in progress after its datagram was given. If the pane is still there, the instance is dropped.
 pub record Settles (panes : PaneList) (old new : Closer) : Type 0 where
   pub waits : IsSome old.datagram → new ≡ old
   pub settled : old.datagram ≡ None → new.closing ≡ None

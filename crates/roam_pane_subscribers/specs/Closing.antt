@@ -1,4 +1,4 @@
--- The server's own client start, which closes panes.
+-- The server's own client instance, which closes panes.
 use Rattle.std.specs.Prelude.{◌≡◌, ◌⊎◌, ◌+◌, ◌<◌, ◌%◌, ◌^◌, ℕ, false, List, [], ◌∷◌, ◌++◌, length, IsSome, Option, Some, None, Result, Ok, Vec}
 use Rattle.std.specs.declared.alloc.Global.{Global}
 use Rattle.std.specs.Option.{option_to_list}
@@ -21,7 +21,7 @@ abbrev pub closing_acts : ℕ → Option ℕ → List Act
 closing_acts pane None = Focus pane ∷ Close ∷ []
 closing_acts pane (Some after) = Focus pane ∷ Close ∷ Focus after ∷ []
 
--- the address of the server's own start
+-- the address of the server's own instance
 abbrev pub own_address : Addr
 own_address = record { host = 0 ∷ 0 ∷ 0 ∷ 0 ∷ []; port = 0 }
 
@@ -34,19 +34,19 @@ GivesOwn datagram buf (Some came) = (came.0 ≡ own_address) × IsFilled datagra
 abbrev pub IsThere : PaneList → ℕ → ℕ → Type 0
 IsThere panes pane generation = (listed : ListedPane) × (pane_at panes pane ≡ Some listed) × (listed.generation ≡ generation)
 
--- The start of a closer. If it has none, the start is a new one with the closer's session and id, and the next one gets another id.
+-- The instance of a closer. If it has none, the instance is a new one with the closer's session and id, and the next one gets another id.
 abbrev pub IsStartOf : Option ClientView → Closer → ℕ → ClientView → Type 0
 IsStartOf None old next start = Stands start old.session old.id (new_client Two false) × (next ≡ (old.id + 1) % 2 ^ 64)
 IsStartOf (Some client) old next start = (start ≡ client) × (next ≡ old.id)
 
--- A start typed the acts of a close, in one instruction behind those that it has, and its tick made these texts.
+-- An instance typed the acts of a close, in one instruction behind those that it has, and its tick made these texts.
 pub record TypesClose (start new : ClientView) (pane : ℕ) (after : Option ℕ) (now : ℕ) (texts : Vec (Vec ℕ Global) Global) : Type 0 where
   pub typed : ClientView
   pub types : TypesAll start (closing_acts pane after) (Ok tt) typed
   pub sends : Sends typed now (Ok texts) new
   pub acts : new.kept.acts.acts ≡ start.kept.acts.acts ++ closing_acts pane after
 
--- A close is under way: the start of the session typed its acts, and the last datagram that its tick made waits.
+-- A close is under way: the instance of the session typed its acts, and the last datagram that its tick made waits.
 pub record Closes (old new : Closer) (pane generation : ℕ) (after : Option ℕ) (now : ℕ) : Type 0 where
   pub start : ClientView
   pub is_start : IsStartOf old.client old new.id start
@@ -60,7 +60,7 @@ pub record Closes (old new : Closer) (pane generation : ℕ) (after : Option ℕ
   pub closing : new.closing ≡ Some (pane, generation)
   pub session : new.session ≡ old.session
 
--- An answer arrived: the closer's start got it, if there is one.
+-- An answer arrived: the closer's instance got it, if there is one.
 abbrev pub HearsAnswer : Option ClientView → Closer → Closer → List ℕ → ℕ → Type 0
 HearsAnswer None old new bytes now = new ≡ old
 HearsAnswer (Some client) old new bytes now =

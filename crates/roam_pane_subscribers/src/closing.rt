@@ -1,4 +1,4 @@
-//! The server's own client start, which closes a pane if a subscriber asks for it.
+//! The server's own client instance, which closes a pane if a subscriber asks for it.
 ghost use Rattle.std.specs.Prelude.{◌≡◌, ◌≤◌, ℕ, true, length, None, IfSome, IfOk, IsTrue, ◌↔◌, OnOk, OnErr};
 ghost use Rattle.roam_stream_framing.specs.Frames.{IsFilled};
 ghost use Rattle.roam_pane_protocol.specs.Closes.{IsPane};
@@ -12,18 +12,18 @@ use roam_hub::{Addr, Client};
 use roam_pane_protocol::{Close, PaneList};
 use std::alloc::Global;
 
-/// Where the server's own start is: no stream of a client start has this address, since their numbers begin with 1.
+/// Where the server's own instance is: no stream of a client instance has this address, since their numbers begin with 1.
 pub const OWN: Addr = Addr {
     host: [0; 4],
     port: 0,
 };
 
-/// The server's own start, made at its first use. The first receive of the next turn takes its one datagram. A close is typed by a start,
-/// not by a call of its own. So the server still only takes turns, and the clauses of turns cover the close.
+/// The server's own instance, made at its first use. The first receive of the next turn takes its one datagram. A close is typed by an
+/// instance, not by a call of its own. So the server still only takes turns, and the clauses of turns cover the close.
 #[derive(Drop)]
 pub struct Closer {
     session: u64,
-    // The id of the start that is made next.
+    // The id of the instance that is made next.
     id: u64,
     client: Option<Client>,
     datagram: Option<Vec<u8>>,
@@ -66,7 +66,7 @@ fn type_close(client: &mut Client, pane: u8, after: Option<u8>) -> Result<(), Fa
     }
 }
 
-// Types the acts that close a pane, and answers the datagrams that the start sends then.
+// Types the acts that close a pane, and answers the datagrams that the instance sends then.
 fn send_close(
     alloc: Global,
     client: &mut Client,
@@ -81,7 +81,7 @@ fn send_close(
 }
 
 impl Closer {
-    /// No start is made yet.
+    /// No instance is made yet.
     pub fn new(session: u64, id: u64) -> Closer
         ensures none { (result.client ≡ None) × (result.datagram ≡ None) × (result.closing ≡ None) }
         ensures ids { (result.session ≡ session) × (result.id ≡ id) }
@@ -102,7 +102,7 @@ impl Closer {
         self.closing.is_none()
     }
 
-    // Returns the start, and makes it if there is none.
+    // Returns the instance, and makes it if there is none.
     fn taken(&mut self, alloc: Global) -> Result<Client, Fault>
         ensures start { IfOk result (λ start. IsStartOf self.old.client self.old self.new.id start) }
         ensures others { self.new ≡ record self.old { client = None; id = self.new.id } }
@@ -117,8 +117,8 @@ impl Closer {
         }
     }
 
-    /// Makes the datagram that closes a pane, and then focuses another if one is named. `OutOfMemory`, and the errors of a start. After an
-    /// error the next close gets a new start.
+    /// Makes the datagram that closes a pane, and then focuses another if one is named. `OutOfMemory`, and the errors of an instance. After
+    /// an error the next close gets a new instance.
     pub(crate) fn close(
         &mut self,
         alloc: Global,
@@ -166,8 +166,8 @@ impl Closer {
         }
     }
 
-    /// Settles the close after a turn took the datagram, given the panes then. If the pane is still there, memory was refused. The start is
-    /// then dropped, so that its acts can't close another pane later.
+    /// Settles the close after a turn took the datagram, given the panes then. If the pane is still there, memory was refused. The instance
+    /// is then dropped, so that its acts can't close another pane later.
     pub(crate) fn settle(&mut self, panes: &PaneList)
         ensures settles { Settles panes.now self.old self.new }
     {

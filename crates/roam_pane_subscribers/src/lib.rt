@@ -1,5 +1,5 @@
 //! The subscribers of a server's panes: the news of each, the pty host among them, and the closes that they ask for. The server's own
-//! client start types a close.
+//! client instance types a close.
 #![tactic(auto)]
 
 mod clipping;

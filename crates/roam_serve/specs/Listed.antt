@@ -16,7 +16,7 @@ pane_of (Some generation) None = None
 pane_of (Some generation) (Some rect) =
     Some (record { generation = generation; row = rect.row; col = rect.col; rows = rect.rows; cols = rect.cols })
 
--- these are the panes of a server, the one in focus, and how many starts of each kind it knows
+-- these are the panes of a server, the one in focus, and how many instances of each kind it knows
 pub record ArePanesOf (s : Server) (known : PaneList) : Type 0 where
   pub panes : (p : ℕ) → 1 ≤ p → p ≤ 9 → pane_at known p ≡ pane_of (generation_of s.size s.log p) (rect_at s.size s.log p)
   pub focus : known.focus ≡ focus_at s.size s.log

@@ -1,4 +1,4 @@
--- The socket of client starts, the UDP port, and the looks for new connections.
+-- The socket of client instances, the UDP port, and the looks for new connections.
 use Rattle.std.specs.Prelude.{ℕ, ◌≡◌, ◌++◌, ◌||◌, Bool, nat_lt, List, Option, None, Some, ◌⊎◌, codes}
 use Rattle.roam_pane_sockets.specs.Moments.{is_time}
 use Rattle.roam_sockets.specs.declared.udp.Udp.{Udp}

@@ -41,7 +41,7 @@ SendsBy now to None new datagram result = (new ≡ None) × (result ≡ false)
 SendsBy now to (Some old) None datagram result = ⊥
 SendsBy now to (Some old) (Some new) datagram result = SendsTo now to old.paced.lanes.items new.paced.lanes.items datagram result None None
 
--- The queued bytes of client starts were written, in part or as far as possible, as is noted. Then new starts may have connected.
+-- The queued bytes of client instances were written, in part or as far as possible, as is noted. Then new instances may have connected.
 pub record Flushes (answers : AnswersOf UnixStream) (old new : Clients) : Type 0 where
   pub mid : Clients
   pub keeps : KeepsOpen answers old.all.items mid.all.items mid.is_flushed
@@ -74,9 +74,9 @@ pub record IsNextDue (server : ServerView) (due : Option ℕ) : Type 0 where
 abbrev pub is_for_good : ℕ → Bool
 is_for_good turns = turns == 2 ^ 64 - 1
 
--- Before a wait, all bytes that could go to client starts at this clock were written, and no line was left to be done. The wait lasts until
--- work is due, metadata is due, or the moment may run ahead to the wanted number. It lasts a millisecond if datagrams are kept back, and
--- the shortest time if the turns are counted.
+-- Before a wait, all bytes that could go to client instances at this clock were written, and no line was left to be done. The wait lasts
+-- until work is due, metadata is due, or the moment may run ahead to the wanted number. It lasts a millisecond if datagrams are kept back,
+-- and the shortest time if the turns are counted.
 pub record HasRested (turns : ℕ) (server : ServerView) (clock : ℕ) (clients : Clients) (may_ask : Bool) (udp : Option Udp)
     (telling wish : Option ℕ) (longest : Option ℕ) : Type 0 where
   pub due : Option ℕ

@@ -20,7 +20,7 @@ const PANES: usize = 10;
 pub(crate) struct Echoes {
     // By the panes' numbers; none is 0. When each was typed in last, by the clock.
     typed: [Option<u64>; PANES],
-    // How many acts were taken of all client starts, modulo 2^64.
+    // How many acts were taken of all client instances, modulo 2^64.
     acts: u64,
     // The number of full pieces that may still follow the input, since the last act was taken.
     left: u8,

@@ -46,16 +46,16 @@ const LOOKS: u64 = 20;
 /// It is looked once in so many milliseconds whether the files of the sockets are still there.
 const MENDS: u64 = 60_000;
 
-/// The session and the id of the start by which a server closes the panes that programs ask for.
+/// The session and the id of the instance by which a server closes the panes that programs ask for.
 #[derive(Clone, Copy, Debug, PartialEq, Eq)]
 pub struct OwnStart {
     /// The session's id.
     pub session: u64,
-    /// The id of the start. A start made anew gets the next id.
+    /// The id of the instance. An instance made anew gets the next id.
     pub id: u64,
 }
 
-/// The ports of a server: the streams of its client starts, UDP on loopback if a port was asked for, the sockets of its panes, a clock.
+/// The ports of a server: the streams of its client instances, UDP on loopback if a port was asked for, the sockets of its panes, a clock.
 #[derive(Drop)]
 pub struct ServerPorts<R> {
     moments: Moments<R>,
@@ -251,7 +251,7 @@ fn tell_new_queries(
 
 impl<R: Clock + Drop> ServerPorts<R> {
     /// Binds the sockets of a folder: `p1` to `p9` for panes, which aren't open yet, `panes` for subscribers, and `clients` for client
-    /// starts. It also binds a port of this machine if one is asked for, any free one for 0. `Bind` if one can't be bound, or the folder
+    /// instances. It also binds a port of this machine if one is asked for, any free one for 0. `Bind` if one can't be bound, or the folder
     /// has no name; `OutOfMemory`; then none stays. The bytes of panes' programs go on as they are, or normalized.
     pub fn bind<N: Files + Net>(
         rt: &N,
@@ -322,7 +322,7 @@ impl<R: Clock + Drop> ServerPorts<R> {
         self.moments = Moments::Set(moment);
     }
 
-    // Accepts client starts and subscribers, once in 20 milliseconds and after each wait.
+    // Accepts client instances and subscribers, once in 20 milliseconds and after each wait.
     fn look(&mut self, alloc: Global, has_waited: bool)
         ensures clients { Accepts self.old.clients self.new.clients }
         ensures flushed { self.new.clients.is_flushed ≡ self.old.clients.is_flushed }
@@ -338,12 +338,12 @@ impl<R: Clock + Drop> ServerPorts<R> {
         }
     }
 
-    /// Writes the queued bytes of client starts, accepts new ones, and waits. A wait ends with input, at a due moment, or if metadata is
+    /// Writes the queued bytes of client instances, accepts new ones, and waits. A wait ends with input, at a due moment, or if metadata is
     /// due. It also ends if the moment may run ahead to an echo, or an update isn't kept back any more. It doesn't wait if input arrived
-    /// since the last call, or a datagram of its own start is ready. The clock counts the wait.
+    /// since the last call, or a datagram of its own instance is ready. The clock counts the wait.
     pub fn rest(&mut self, due: Option<u64>)
         ensures quiet { self.new.waits.quiet ≡ true }
-        // A wait leaves no queued bytes of a client start whose stream would take more.
+        // A wait leaves no queued bytes of a client instance whose stream would take more.
         ensures waited { IfSome self.new.waits.longest (λ longest. (self.old.waits.quiet ≡ true) × (self.old.closer.closing ≡ None)
             × (self.new.clients.is_flushed ≡ true)
             × (longest ≡ wait_for (sooner (before_by most_ahead self.old.echoes.wish)
@@ -409,7 +409,7 @@ impl<R: Clock + Drop> ServerPorts<R> {
         }
     }
 
-    /// Sends the subscribers the news of the session's panes; a new one gets everything. Has its own start close the panes that they ask
+    /// Sends the subscribers the news of the session's panes; a new one gets everything. Has its own instance close the panes that they ask
     /// for.
     pub fn tell_panes(&mut self, now: &PaneList)
         ensures panes { self.new.panes ≡ self.old.panes }
@@ -492,7 +492,8 @@ impl<R: Clock + Drop> ServerPorts<R> {
     }
 
     /// Binds sockets anew whose files are gone, as a cleaner of old files leaves them. It does so once a minute, and only if the folder's
-    /// file `session` has this id, since another session may use the folder by then. Connected panes, subscribers and client starts stay.
+    /// file `session` has this id, since another session may use the folder by then. Connected panes, subscribers and client instances
+    /// stay.
     pub fn mend_sockets<N: Files + Net + AllocGlobal>(&mut self, rt: &N, folder: &str, session: u64)
         ensures panes { AllZip IsMended self.old.panes.all.items self.new.panes.all.items
             ⊎ (self.new.panes ≡ self.old.panes) }
@@ -575,7 +576,7 @@ impl<R: Clock + Drop> Ports for ServerPorts<R> {
         self.moment
     }
 
-    // That of the server's own start comes first; then streams and the port bring one each in their turn.
+    // That of the server's own instance comes first; then streams and the port bring one each in their turn.
     fn receive(&mut self, buf: &mut [u8]) -> Option<(Addr, usize)>
         ensures within { IfSome result (λ r. r.1 ≤ length buf.new) }
         ensures own { IfSome self.old.closer.datagram (λ datagram. GivesOwn datagram.items buf.new result) }

@@ -69,7 +69,7 @@ fn count(many: usize) -> u16
     many.min(65_535) as u16
 }
 
-// The panes of a server, the one in focus, and how many client starts it knows.
+// The panes of a server, the one in focus, and how many client instances it knows.
 fn panes_of(server: &Server) -> PaneList
     ensures panes { (s : ServerOf) → Stands server.now s → ArePanesOf s result }
 {
@@ -196,7 +196,7 @@ fn remove_session<R: Files + AllocGlobal>(rt: &R, folder: &str) {
     }
 }
 
-// The start of a session by which its server closes panes.
+// The instance of a session by which its server closes panes.
 fn own_start(chance: &impl RandomSource, session: u64) -> Result<OwnStart, RunFault>
     ensures session { IfOk result (λ own. own.session ≡ session) }
     ensures fault { IsOkUnless result RunFault.Read }

@@ -95,7 +95,7 @@ pub placed_all : (old new : Plan) (ts us : List (Option TermView)) → ArePlaced
 placed_all old new ts us placed are k =
     placed_given (rect_in k (panes old)) (rect_in k (panes new)) (term_at ts k) (term_at us k) (are k) (placed k)
 
--- ---- the start
+-- ---- the instance
 
 none_agrees : (o : Option TermView) → o ≡ None → Agrees o None
 none_agrees o e = subst (λ (t : Option TermView). Agrees t None) (sym e) tt

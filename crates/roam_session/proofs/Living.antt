@@ -67,7 +67,7 @@ counts_kept s t size log h plan generations k low =
     ∙ sym (ap (λ n. (n + made) % 2 ^ 64) (h.generations k low) ∙ mod-add-mod ever (2 ^ 64) made ∙ ap (λ n. (ever + n) % 2 ^ 64) none
     ∙ ap (λ n. n % 2 ^ 64) (add-zero ever))
 
--- ---- the start
+-- ---- the instance
 
 -- pane 1 was made once
 abbrev pub first_generations : List ℕ

@@ -1,4 +1,4 @@
--- The whole run of a client start with its outer terminals: terminals come, and rounds are taken, one joined to the next, until the end.
+-- The whole run of a client instance with its outer terminals: terminals come, and rounds are taken, one joined to the next, until the end.
 use Rattle.std.specs.Prelude.{◌≡◌, ℕ, zero, suc, ◌-◌, ◌<◌, ◌≤◌, ◌^◌, ◌==◌, min, nat_lt, not, Bool, true, false, List, [], ◌∷◌, ◌++◌, length, Option, Some, None, IfSome, is_some, if◌then◌else◌}
 use Rattle.roam_hub.specs.Clients.{ClientView}
 use Rattle.roam_hub.specs.Waits.{has_come}
@@ -39,8 +39,8 @@ pub record Comes {S : Type 0} (stream : S) (old new : Shared S) : Type 0 where
 
 -- ---- steps
 
--- a step of a run: a call of the door; a terminal that connected at the other end of a stream; or a round, with the start's knowledge of a
--- silence and the longest wait after it
+-- a step of a run: a call of the door; a terminal that connected at the other end of a stream; or a round, with the instance's knowledge of
+-- a silence and the longest wait after it
 pub data RunStep (S : Type 0) : Type 0 where
   Asks : (call : DoorCall) → RunStep S
   Came : (stream : S) → RunStep S
@@ -118,7 +118,7 @@ longest_rest s silence wait rounds =
     within (not (is_for_good rounds)) 10
     (within (is_some s.ending) longest_end (within (nat_lt 0 (length s.all)) (wait_of silence) wait))
 
--- a client start next has something due at a moment, or never: nothing is due before it, and something is at it
+-- a client instance next has something due at a moment, or never: nothing is due before it, and something is at it
 pub record IsNextDue (client : ClientView) (due : Option ℕ) : Type 0 where
   pub before : (now : ℕ) → now < 2 ^ 64 → has_come due now ≡ false → is_client_due client.kept (moment_of client.kept now) ≡ false
   pub at : IfSome due (λ d. is_client_due client.kept (moment_of client.kept d) ≡ true)
@@ -129,13 +129,13 @@ pub record IsIdle {S : Type 0} (s : Shared S) : Type 0 where
   pub goes_on : s.ending ≡ None
   pub settled : s.client.kept.acts.acts ≡ []
 
--- The rest after a round, at most so many milliseconds: an idle start sleeps; any other waits until its next due work.
+-- The rest after a round, at most so many milliseconds: an idle instance sleeps; any other waits until its next due work.
 pub data Rests {S : Type 0} (longest : ℕ) (calls calls' : Option (List PortCall)) (s : Shared S) : Type 0 where
   sleeps : IsIdle s → Tells calls calls' (Asked (Slept longest) ∷ []) → Rests longest calls calls' s
   waits : (due : Option ℕ) → (IsIdle s → ⊥) → IsNextDue s.client due → Tells calls calls' (Asked (Rested longest due) ∷ [])
       → Rests longest calls calls' s
 
--- The step after a round: the server has ended; or the run is over, and the result is what was heard of the server; or the start rests.
+-- The step after a round: the server has ended; or the run is over, and the result is what was heard of the server; or the instance rests.
 pub data Follows {S : Type 0} (rounds : ℕ) (silence : Silence) (wait : ℕ) (end : Option End) (calls calls' : Option (List PortCall))
     (s : Shared S) : Type 0 where
   ended : Tells calls calls' (Asked (HasEnded true) ∷ []) → end ≡ Some Gone → Follows rounds silence wait end calls calls' s

@@ -1,5 +1,5 @@
--- A client start with its outer terminals, and a round of it: each is heard, a turn is taken, each ready one is painted, and queued bytes
--- are written.
+-- A client instance with its outer terminals, and a round of it: each is heard, a turn is taken, each ready one is painted, and queued
+-- bytes are written.
 use Rattle.std.specs.Prelude.{◌≡◌, ℕ, ◌-◌, ◌^◌, min, nat_le, Bool, true, false, not, ◌||◌, ◌&&◌, List, [], ◌∷◌, ◌++◌, take, drop, filter, Option, Some, None, if◌then◌else◌}
 use Rattle.std.specs.List.{All, list_any}
 use Rattle.roam_hub.specs.Clients.{ClientView}
@@ -26,13 +26,13 @@ use Rattle.roam_outer_terminal.specs.declared.terminal.Terminal.{Terminal}
 abbrev pub most_terminals : ℕ
 most_terminals = 16
 
--- a client start and its terminals; and since when it is to end, if a terminal asked for that
+-- a client instance and its terminals; and since when it is to end, if a terminal asked for that
 pub record Shared (S : Type 0) : Type 0 where
   pub client : ClientView
   pub all : List (Terminal S)
   pub ending : Option ℕ
 
--- the noted screen of each terminal was shown by the start before
+-- the noted screen of each terminal was shown by the instance before
 abbrev pub AreEachBehind : {S : Type 0} → List (Terminal S) → ℕ → Screenshot → Type 0
 AreEachBehind all n s = All (λ terminal. IsBehind terminal.outer n s) all
 
@@ -82,7 +82,7 @@ AreHeard remaining contents all all' client client' ending wait =
     (hears : HearsAll remaining contents all all' client client' ending)
     × (wait ≡ wait_after_all remaining contents all all' client client' ending hears)
 
--- since when a start is to end: since one of its terminals first asked for that
+-- since when an instance is to end: since one of its terminals first asked for that
 abbrev pub ending_after : Bool → ℕ → Option ℕ → Option ℕ
 ending_after false moment ending = ending
 ending_after true moment None = Some moment
@@ -119,9 +119,9 @@ round_wait wait heard silence new =
 
 -- ---- a round
 
--- A round. All terminals are heard first, so their acts are in one instruction. The start is to end once one of them asked for that. Then
--- it takes a turn that shows nothing, each ready terminal is painted, and each gets its notice of a silence and its queued bytes. Those
--- that left are removed, and the order changes for the next round. The result is the longest wait.
+-- A round. All terminals are heard first, so their acts are in one instruction. The instance is to end once one of them asked for that.
+-- Then it takes a turn that shows nothing, each ready terminal is painted, and each gets its notice of a silence and its queued bytes.
+-- Those that left are removed, and the order changes for the next round. The result is the longest wait.
 pub record Rounds {S : Type 0} (remaining contents : S → Option (List ℕ)) (to : Addr) (silence : Silence) (wait : ℕ)
     (calls calls' : Option (List PortCall)) (old new : Shared S) : Type 0 where
   pub client : ClientView

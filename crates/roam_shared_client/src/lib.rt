@@ -1,4 +1,4 @@
-//! The outer terminals of a client start, which come and go while it stays: a round with all of them, and its whole run.
+//! The outer terminals of a client instance, which come and go while it stays: a round with all of them, and its whole run.
 #![tactic(auto)]
 
 mod listening;

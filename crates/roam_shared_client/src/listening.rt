@@ -9,13 +9,13 @@ use roam_hub::Addr;
 use roam_outer_terminal::{End, Silence};
 use roam_turns::Ports;
 
-/// The ports of a client start, which know the moment and when something was heard last. Each call goes to the ports beneath; nothing is
-/// shown there, since a start's terminals are painted by themselves.
+/// The ports of a client instance, which know the moment and when something was heard last. Each call goes to the ports beneath; nothing is
+/// shown there, since an instance's terminals are painted by themselves.
 #[derive(Drop)]
 pub struct Listening<P> {
     ports: P,
     silence: Silence,
-    // True if the start slept since the last moment. It heard nothing meanwhile, so silence counts from the next moment on.
+    // True if the instance slept since the last moment. It heard nothing meanwhile, so silence counts from the next moment on.
     has_slept: bool,
 }
 
@@ -88,7 +88,7 @@ impl<P: Ports + Drop> Listening<P> {
     }
 }
 
-// Counts a silence from its moment on, if the start slept until then, and heard something before.
+// Counts a silence from its moment on, if the instance slept until then, and heard something before.
 fn hear_after(silence: &mut Silence, has_slept: bool)
     ensures heard { (silence.new ≡ silence.old) ⊎ (silence.new ≡ record silence.old { heard = Some silence.old.moment }) }
 {

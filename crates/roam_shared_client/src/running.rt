@@ -1,4 +1,4 @@
-//! The whole run of a client start that stays while outer terminals come and go.
+//! The whole run of a client instance that stays while outer terminals come and go.
 ghost use Rattle.std.specs.Prelude.{◌≡◌, ◌∷◌, [], ℕ, is_some};
 ghost use Rattle.roam_shared_client.specs.Running.{Rests, Runs, RunsOut, TakesIn, TakesTurn, is_for_good, longest_rest, within};
 ghost use Rattle.roam_turns.specs.Calls.{Tells};
@@ -21,11 +21,11 @@ const MOST_ASKED: usize = 64;
 /// The text for a terminal above sixteen.
 const FULL: &[u8] = b"full\n";
 
-/// How many milliseconds a start waits at most whose rounds are counted, so that they end by themselves.
+/// How many milliseconds an instance waits at most whose rounds are counted, so that they end by themselves.
 const SHORT: u64 = 10;
 
-/// The door for outer terminals, at which their start rests between two rounds: a socket, or memory in a test. It has the start's ports,
-/// and records its own calls among theirs.
+/// The door for outer terminals, at which their instance rests between two rounds: a socket, or memory in a test. It has the instance's
+/// ports, and records its own calls among theirs.
 pub trait Door<S>: Ports {
     /// Returns the stream of a new terminal, if there is one.
     fn next(&mut self) -> Option<S>
@@ -96,7 +96,7 @@ fn longest_rest<S: Duplex + Drop>(
     within(rounds != FOR_GOOD, SHORT, while_ending)
 }
 
-// Rests after a round, at most so many milliseconds: until the start's next due work, or longer if no terminal is there and no work is
+// Rests after a round, at most so many milliseconds: until the instance's next due work, or longer if no terminal is there and no work is
 // left.
 fn rest_behind<S: Duplex + Drop, D: Door<S> + Drop>(
     shared: &SharedClient<S>,
@@ -138,7 +138,7 @@ fn take_turn<S: Duplex + Drop, D: Door<S> + Drop>(
     None
 }
 
-/// Runs the start of all outer terminals that connect to a door, for at most so many rounds: adds new ones, takes a round, and rests.
+/// Runs the instance of all outer terminals that connect to a door, for at most so many rounds: adds new ones, takes a round, and rests.
 /// Returns what was heard of the server at the end. The run also ends if a terminal asks for that and all typed acts are acknowledged, or a
 /// second passed.
 pub fn run_shared<S: Duplex + Drop, D: Door<S> + Drop>(

@@ -1,4 +1,4 @@
-//! A client start that stays while outer terminals come and go, one after the other.
+//! A client instance that stays while outer terminals come and go, one after the other.
 ghost use Rattle.std.specs.Prelude.{◌≡◌, ◌⊎◌, ◌↔◌, ◌<◌, ◌++◌, ◌∷◌, ◌||◌, [], None, length, List, ℕ, OnOk, OnErr, IfErr, IsTrue, is_some};
 ghost use Rattle.std.specs.List.{list_any};
 ghost use Rattle.roam_screens.specs.Screenshot.{Screenshot};
@@ -22,7 +22,7 @@ use std::marker::Model;
 /// How many terminals there may be at once.
 pub const MOST_TERMINALS: usize = 16;
 
-/// The longest wait of a start in milliseconds if memory was refused for a line, and if bytes are queued.
+/// The longest wait of an instance in milliseconds if memory was refused for a line, and if bytes are queued.
 const SOON: u64 = 10;
 
 const LATER: u64 = 1000;
@@ -33,7 +33,7 @@ pub(crate) const LONGEST_END: u64 = 1000;
 /// The longest wait in milliseconds if a terminal has predictions, which expire.
 const PREDICTED: u64 = 20;
 
-/// A client start with its outer terminals.
+/// A client instance with its outer terminals.
 #[derive(Drop)]
 pub struct SharedClient<S> {
     client: Client,
@@ -145,7 +145,7 @@ fn wait_after(taking: Taking) -> u64
 }
 
 impl<S: Duplex + Drop> SharedClient<S> {
-    /// A client start; no terminal is there yet.
+    /// A client instance; no terminal is there yet.
     pub fn new(alloc: Global, client: Client) -> SharedClient<S>
         ensures client { result.client ≡ client }
         ensures none { (result.all ≡ []) × (result.ending ≡ None) }
@@ -157,7 +157,7 @@ impl<S: Duplex + Drop> SharedClient<S> {
         }
     }
 
-    /// The client start.
+    /// The client instance.
     pub fn client(&self) -> &Client
         ensures client { result.now ≡ self.now.client }
     {
@@ -171,7 +171,7 @@ impl<S: Duplex + Drop> SharedClient<S> {
         self.all.len()
     }
 
-    /// Returns true if one of them asked for the start's end.
+    /// Returns true if one of them asked for the instance's end.
     pub fn is_ending(&self) -> bool
         ensures ending { result ≡ is_some self.now.ending }
     {
@@ -185,7 +185,7 @@ impl<S: Duplex + Drop> SharedClient<S> {
         self.all.is_empty() && self.ending.is_none() && self.client.is_settled()
     }
 
-    /// Returns true if the start is over at a moment, as one of them asked: all typed acts are acknowledged, or a second passed since.
+    /// Returns true if the instance is over at a moment, as one of them asked: all typed acts are acknowledged, or a second passed since.
     pub fn is_over(&self, silence: Silence) -> bool
         ensures over { IsTrue result ↔ IsOver self.now silence.moment }
     {
@@ -256,7 +256,7 @@ impl<S: Duplex + Drop> SharedClient<S> {
         }
     }
 
-    // Takes a turn of the start that shows nothing.
+    // Takes a turn of the instance that shows nothing.
     fn turn<P: Ports + Drop>(&mut self, alloc: Global, ports: &mut Listening<P>, to: Addr)
         ensures turns { Makes client_step (QuietTurn to) (P.told ports.old.ports) (P.told ports.new.ports) None None
             self.old.client self.new.client }
@@ -284,7 +284,7 @@ impl<S: Duplex + Drop> SharedClient<S> {
         rotate(&mut self.all);
     }
 
-    /// Takes a round of the start with its terminals, over ports: takes the first line of each; then the start takes a turn, whose
+    /// Takes a round of the instance with its terminals, over ports: takes the first line of each; then the instance takes a turn, whose
     /// datagrams go to an address; then each ready terminal is painted, and queued bytes are written. The order of terminals changes each
     /// time. Returns the longest wait in milliseconds until the next round without input.
     pub fn round<P: Ports + Drop>(

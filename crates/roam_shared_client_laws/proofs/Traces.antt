@@ -93,7 +93,7 @@ at_last : {X : Type 0} (xs : List X) (x : X) → IsAt (xs ++ x ∷ []) (length x
 at_last [] x = refl
 at_last (y ∷ ys) x = at_last ys x
 
--- ---- a start goes on
+-- ---- an instance goes on
 
 module _ (to : Addr) where
   goes_both : (a b c : ClientView) (xs ys : List Act) → GoesOn to a xs b → GoesOn to b ys c → GoesOn to a (xs ++ ys) c

@@ -1,4 +1,4 @@
--- The acts typed at a start in a run: the lines of its terminals, those of one between those of another.
+-- The acts typed at an instance in a run: the lines of its terminals, those of one between those of another.
 use Rattle.std.specs.Prelude.{◌≡◌, ◌≢◌, ℕ, zero, suc, ◌+◌, ◌==◌, ◌≤◌, ◌<◌, Bool, true, false, List, [], ◌∷◌, ◌++◌, map, length, Option, None, if◌then◌else◌}
 use Rattle.std.specs.Io.KnownBytes.{Consumes}
 use Rattle.roam_acts.specs.declared.acts.Act.{Act}
@@ -45,7 +45,7 @@ abbrev pub acts_of : ℕ → List Typed → List Act
 acts_of n [] = []
 acts_of n (t ∷ typed) = (if t.number == n then t.act ∷ [] else []) ++ acts_of n typed
 
--- a start goes on: acts are typed at it, and it takes turns that show nothing
+-- an instance goes on: acts are typed at it, and it takes turns that show nothing
 pub data GoesOn (to : Addr) (old : ClientView) : List Act → ClientView → Type 0 where
   still : GoesOn to old [] old
   types : (mid new : ClientView) (before more : List Act) → GoesOn to old before mid → Types more mid new
@@ -102,7 +102,7 @@ abbrev pub lasts : {S : Type 0} → List (Trace S) → List (Terminal S)
 lasts all = map (λ a. a.last) all
 
 -- The account of a run: the typed acts, each with its terminal's number, and one trace for each terminal that connected. Nothing else was
--- typed at the start, and nothing for a terminal that didn't connect.
+-- typed at the instance, and nothing for a terminal that didn't connect.
 pub record IsTyped {S : Type 0} (remaining : S → Option (List ℕ)) (to : Addr) (came : List S) (first : ClientView) (s : Shared S)
     : Type 0 where
   pub typed : List Typed

@@ -20,7 +20,7 @@ use Rattle.roam_shared_client.specs.Sharing.{Shared}
 use Rattle.roam_outer_terminal.specs.declared.terminal.Terminal.{Terminal}
 use Rattle.roam_shared_client_laws.specs.Lines.{came_in}
 
--- the screens that the start showed after each step of a run
+-- the screens that the instance showed after each step of a run
 abbrev pub screens_in : {S : Type 0} (remaining contents : S → Option (List ℕ)) (to : Addr) (steps : List (RunStep S))
     (calls calls' : Option (List PortCall)) (old new : Shared S) → RunsBy remaining contents to steps calls calls' old new
     → List Screenshot

@@ -1,4 +1,4 @@
--- A world of the code before any event, and the screens of starts.
+-- A world of the code before any event, and the screens of instances.
 use Rattle.std.proofs.Common.{◌≡◌, ℕ, ◌<◌, ◌≤◌, ◌^◌, List, [], length, Option, Some, None, true, refl, sym, subst}
 use Rattle.roam_layout.specs.Layouts.{IsSessionSize}
 use Rattle.roam_session.specs.Sessions.{SessionSize}
@@ -41,7 +41,7 @@ stands_for_new session size server slots used sent low limits stands none no_use
           };
     }
 
--- the screen of a start in a slot
+-- the screen of an instance in a slot
 pub shows_session : (v : WorldView) (w : World) → Stands v w → ShowsTrueScreens w → TakesActsInOrder w → ShowsSession v w
 shows_session v w st screens acts =
     record {

@@ -1,4 +1,4 @@
--- A datagram of those that were sent comes to the server, or to a start.
+-- A datagram of those that were sent comes to the server, or to an instance.
 use Rattle.std.proofs.Common.{◌≡◌, ℕ, ◌-◌, ◌<◌, List, length, set, Option, Some, None, Bool, true, false, refl, sym, ap, ◌∙◌, cond, subst}
 use Rattle.std.specs.Prelude.{Result, Ok, Err, map, nat_eq, slice_get}
 use Rattle.std.specs.Option.{option_map}
@@ -142,9 +142,9 @@ steps_come v w n from now bytes result view st l one known comes = go comes
           memory = λ want. (s.datagram, s.at);
         }
 
--- ---- to a client start
+-- ---- to a client instance
 
--- how a datagram to a start is answered
+-- how a datagram to an instance is answered
 abbrev pub heard_by : Result HeardAs Fault → Reply
 heard_by (Ok h) = Heard (hearing_in h)
 heard_by (Err fault) = Failed fault

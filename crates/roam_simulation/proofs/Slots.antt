@@ -1,4 +1,4 @@
--- The client starts in the slots, if one of them is another than before.
+-- The client instances in the slots, if one of them is another than before.
 use Rattle.std.proofs.Common.{◌≡◌, ℕ, zero, suc, ◌<◌, ◌≤◌, ◌≢◌, get_or, List, [], ◌∷◌, ◌++◌, length, set, Option, Some, None, Bool, true, false, refl, sym, ap, ◌∙◌, subst, inl, inr, arith, cond, get_or-set_same, get_or-set_other}
 use Rattle.std.specs.Prelude.{nat_eq}
 use Rattle.std.proofs.lemmas.Bool.Decides.{nat_tests}
@@ -14,7 +14,7 @@ use Rattle.roam_simulation.specs.Worlds.{WorldView, start_in, Fills, StartsStand
 
 -- ---- one slot
 
--- the start in a slot, by the definitions
+-- the instance in a slot, by the definitions
 pub record Sits (w : World) (slot : ℕ) (v : ClientView) : Type 0 where
   pub id : ℕ
   pub at : w.slots slot ≡ Some id
@@ -40,7 +40,7 @@ vacant v w slot st at =
 same_some : (a b : Option ClientView) → Some a ≡ Some b → a ≡ b
 same_some a b e = cc
 
--- reading a slot gives the start there
+-- reading a slot gives the instance there
 pub start_read : (slots : List (Option ClientView)) (slot : ℕ) (o p : Option ClientView) → slot < length slots → o ≡ get_or slots slot o
     → o ≡ p → start_in slots slot ≡ p
 start_read slots slot o p lt is e =
@@ -58,7 +58,7 @@ start_past (o ∷ slots) (suc n) le = start_past slots n (omega arith)
 not_same : (x slot : ℕ) → nat_eq x slot ≡ false → x ≢ slot
 not_same x slot e f = grind (arith, nat_tests)
 
--- if another start is in one slot, the others are filled as before
+-- if another instance is in one slot, the others are filled as before
 filled-set : (session : ℕ) (slots : List (Option ClientView)) (slot : ℕ) (v : ClientView) (clients : ℕ → Client) (ids : ℕ → Option ℕ)
     → slot < length slots → Fills session clients (Some v) (ids slot)
     → ((x : ℕ) → nat_eq x slot ≡ false → Fills session clients (start_in slots x) (ids x)) → (x : ℕ)
@@ -75,7 +75,7 @@ filled-set session slots slot v clients ids lt here others x = go (nat_eq x slot
         subst (λ (o : Option ClientView). Fills session clients o (ids x))
         (sym (get_or-set_other slots slot x (Some v) None (not_same x slot e))) (others x e)
 
--- a start that isn't in a slot can be another
+-- an instance that isn't in a slot can be another
 fills-put : (session : ℕ) (clients : ℕ → Client) (id : ℕ) (c : Client) (o : Option ClientView) (i : Option ℕ) → (i ≡ Some id → ⊥)
     → Fills session clients o i → Fills session (with_value clients id c) o i
 fills-put session clients id c None None not f = tt
@@ -87,7 +87,7 @@ fills-put session clients id c (Some v) (Some j) not f = go (nat_eq j id) refl
     go true e = let same : j ≡ id = grind (arith, nat_tests) in absurd (not (ap (λ (n : ℕ). Some n) same))
     go false e = f
 
--- nothing is different but how the start in a slot is kept
+-- nothing is different but how the instance in a slot is kept
 pub starts_kept : (session : ℕ) (slots : List (Option ClientView)) (used : List ℕ) (clients : ℕ → Client) (ids : ℕ → Option ℕ)
     (slot id : ℕ) (v : ClientView) → StartsStand session slots used clients ids → slot < length slots → ids slot ≡ Some id
     → ClientStands v session id (clients id) → StartsStand session (set slots slot (Some v)) used clients ids
@@ -102,7 +102,7 @@ starts_kept session slots used clients ids slot id v st lt at stands =
       just = st.just;
     }
 
--- the start in a slot is another
+-- the instance in a slot is another
 pub starts_put : (session : ℕ) (slots : List (Option ClientView)) (used : List ℕ) (clients : ℕ → Client) (ids : ℕ → Option ℕ)
     (slot id : ℕ) (v : ClientView) (c : Client) → StartsStand session slots used clients ids → slot < length slots → ids slot ≡ Some id
     → c.made ≡ true → ClientStands v session id c → StartsStand session (set slots slot (Some v)) used (with_value clients id c) ids
@@ -124,7 +124,7 @@ starts_put session slots used clients ids slot id v c st lt at made stands =
           λ j. on_put (λ (k : ℕ) (d : Client). IsIn k used → d.made ≡ true) clients id c (λ _. made) (λ k ne. st.just k) j;
     }
 
--- a start of an id that wasn't used
+-- an instance of an id that wasn't used
 pub starts_new : (session : ℕ) (slots : List (Option ClientView)) (used : List ℕ) (clients : ℕ → Client) (ids : ℕ → Option ℕ)
     (slot id : ℕ) (v : ClientView) (c : Client) → StartsStand session slots used clients ids → slot < length slots
     → (clients id).made ≡ false → c.made ≡ true → ClientStands v session id c

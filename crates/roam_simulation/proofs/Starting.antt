@@ -1,4 +1,4 @@
--- A client starts.
+-- A client instances.
 use Rattle.std.proofs.Common.{◌≡◌, ℕ, ◌<◌, ◌⊎◌, List, [], ◌∷◌, ◌++◌, length, set, Some, Bool, true, false, refl, sym, subst, inl, inr, arith}
 use Rattle.std.specs.Prelude.{nat_eq, ◌||◌}
 use Rattle.std.specs.List.{list_any}
@@ -56,7 +56,7 @@ not_made v w id st e = go (w.clients id).made refl
     go true f = absurd (not_in id v.used e (st.starts.all id f))
     go false f = f
 
--- there is no memory for a start
+-- there is no memory for an instance
 pub steps_not_started : (v : WorldView) (w : World) (slot id : ℕ) (version : Version) (watches : Bool) → Stands v w
     → list_any (λ (x : ℕ). nat_eq x id) v.used ≡ false → is_unfit version watches ≡ false
     → Steps w (Start slot id version watches) (Failed OutOfMemory) v

@@ -157,7 +157,7 @@ steps_ticked v w now all server texts first count st t l (ticks_ticked every s e
         many ∙ lengthened (map (λ (q : Parcel). q.datagram) (sent_by w.server (moment w.server now))) (texts_in (FromServer all)) told
         ∙ length-map (sent_by w.server (moment w.server now)) (λ (q : Parcel). q.datagram)
 
--- ---- a client start
+-- ---- a client instance
 
 pub steps_no_start : (v : WorldView) (w : World) (slot now : ℕ) → Stands v w → start_in v.slots slot ≡ None
     → Steps w (ClientTick slot now) Refused v

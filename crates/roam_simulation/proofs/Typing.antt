@@ -1,4 +1,4 @@
--- An act is typed at a start.
+-- An act is typed at an instance.
 use Rattle.std.proofs.Common.{◌≡◌, ℕ, ◌<◌, length, set, Some, None, refl, ap, subst}
 use Rattle.std.specs.Prelude.{Result}
 use Rattle.roam_cells.specs.declared.faults.Fault.{Fault}

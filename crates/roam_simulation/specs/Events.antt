@@ -36,7 +36,7 @@ abbrev pub reply_in : Result Reply Fault → ReplyOf
 reply_in (Ok r) = reply_of r
 reply_in (Err fault) = Failed fault
 
--- the conditions on a caller: acts with numbers in their ranges, and one of the eight slots for a start
+-- the conditions on a caller: acts with numbers in their ranges, and one of the eight slots for an instance
 abbrev pub IsHandedIn : Event → Type 0
 IsHandedIn (event.Typed slot act) = IsInRange act
 IsHandedIn (event.Start slot id version watches) = slot < 8

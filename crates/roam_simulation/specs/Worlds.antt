@@ -14,7 +14,7 @@ use Rattle.roam_model.specs.Numbers.{screen}
 use Rattle.roam_hub.specs.Clients.{ClientView, Stands as ClientStands}
 use Rattle.roam_hub.specs.Servers.{ServerView, Stands as ServerStands}
 
--- the value of a world for contracts: its session's id, its server, the start in each slot, the ids that were used, and the texts of all
+-- the value of a world for contracts: its session's id, its server, the instance in each slot, the ids that were used, and the texts of all
 -- datagrams ever sent
 pub record WorldView : Type 0 where
   pub session : ℕ
@@ -23,18 +23,18 @@ pub record WorldView : Type 0 where
   pub used : List ℕ
   pub sent : List (List ℕ)
 
--- the start in a slot, if there is one
+-- the instance in a slot, if there is one
 abbrev pub start_in : List (Option ClientView) → ℕ → Option ClientView
 start_in slots slot = slice_index_or slots slot None
 
--- a start in a slot is that of the slot's id, and an empty slot has no id
+-- an instance in a slot is that of the slot's id, and an empty slot has no id
 abbrev pub Fills : ℕ → (ℕ → Client) → Option ClientView → Option ℕ → Type 0
 Fills session clients None None = Unit {0}
 Fills session clients None (Some id) = ⊥
 Fills session clients (Some v) None = ⊥
 Fills session clients (Some v) (Some id) = ClientStands v session id (clients id)
 
--- the slots have the starts of their ids, each of which was made, and none of which is in two; the used ids are those of all starts
+-- the slots have the instances of their ids, each of which was made, and none of which is in two; the used ids are those of all instances
 pub record StartsStand (session : ℕ) (slots : List (Option ClientView)) (used : List ℕ) (clients : ℕ → Client) (ids : ℕ → Option ℕ)
     : Type 0 where
   pub filled : (slot : ℕ) → Fills session clients (start_in slots slot) (ids slot)
@@ -70,8 +70,8 @@ IsWant (Failed OutOfMemory) = Unit {0}
 IsWant (Stopped OutOfMemory taken) = Unit {0}
 IsWant _ = ⊥
 
--- Memory may be refused for an event: an act that a start would take; a tick, whose room is made first; a datagram that was sent; a start
--- of an id that wasn't used, of a fitting version. Bytes from a pane's program, or to it, take none.
+-- Memory may be refused for an event: an act that an instance would take; a tick, whose room is made first; a datagram that was sent; an
+-- instance of an id that wasn't used, of a fitting version. Bytes from a pane's program, or to it, take none.
 abbrev pub MayWant : World → Event → Type 0
 MayWant w (PaneBytes pane bytes) = ⊥
 MayWant w (Typed slot act) =
@@ -92,15 +92,15 @@ pub record Steps (w : World) (e : Event) (r : Reply) (new : WorldView) : Type 0 
   pub stands : Stands new left
   pub memory : IsWant r → MayWant w e
 
--- Each start in a slot shows a number that was made, or 0, and exactly the screen of that number. The acts of each start that were taken
--- are the first of those typed there, each once and in order.
+-- Each instance in a slot shows a number that was made, or 0, and exactly the screen of that number. The acts of each instance that were
+-- taken are the first of those typed there, each once and in order.
 pub record ShowsSession (v : WorldView) (w : World) : Type 0 where
   pub made : (slot : ℕ) (c : ClientView) → start_in v.slots slot ≡ Some c → c.kept.receiver.newest.number ≤ length w.server.cuts
   pub same : (slot : ℕ) (c : ClientView) → start_in v.slots slot ≡ Some c
       → c.kept.receiver.newest.state ≡ screen c.kept.version w.server.size w.server.log w.server.cuts c.kept.receiver.newest.number
   pub acts : TakesActsInOrder w
 
--- a datagram to a client start isn't answered by a gap or a bad change
+-- a datagram to a client instance isn't answered by a gap or a bad change
 abbrev pub IsNoGap : Event → Reply → Type 0
 IsNoGap (ToClient slot number now) reply = ((reply ≡ Heard IsGap) → ⊥) × ((reply ≡ Failed BadChange) → ⊥)
 IsNoGap _ reply = Unit {0}

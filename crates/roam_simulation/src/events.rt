@@ -7,25 +7,25 @@ use roam_cells::Fault;
 use roam_hub::{Addr, Heard, Stop};
 use roam_wire::Version;
 
-/// One thing that happens: one whole call of the server or of a client start. Slots are 0 to 7, moments are milliseconds.
+/// One thing that happens: one whole call of the server or of a client instance. Slots are 0 to 7, moments are milliseconds.
 #[derive(Debug, Drop)]
 pub enum Event {
     /// Bytes come from the program of a pane.
     PaneBytes(u8, Vec<u8>),
 
-    /// An act is typed at the start in a slot.
+    /// An act is typed at the instance in a slot.
     Typed(u8, Act),
 
     /// The server ticks at a moment.
     ServerTick(u64),
 
-    /// The start in a slot ticks at a moment.
+    /// The instance in a slot ticks at a moment.
     ClientTick(u8, u64),
 
     /// The datagram of a number, from 1, comes to the server from an address at a moment.
     ToServer(u64, Addr, u64),
 
-    /// The datagram of a number comes to the start in a slot at a moment.
+    /// The datagram of a number comes to the instance in a slot at a moment.
     ToClient(u8, u64, u64),
 
     /// A client of a version starts in a slot, under an id, and only watches or not.
@@ -64,10 +64,10 @@ pub enum Reply {
     /// So many acts were taken.
     Taken(usize),
 
-    /// The kind of a datagram to a client start.
+    /// The kind of a datagram to a client instance.
     Heard(Heard),
 
-    /// There is no such start, datagram or output, the id was used, or a start would watch in version 1: nothing is done.
+    /// There is no such instance, datagram or output, the id was used, or an instance would watch in version 1: nothing is done.
     Refused,
 
     /// The call was refused.

@@ -1,4 +1,4 @@
-//! The world of both cores: the events between one server and its client starts, and their replies.
+//! The world of both cores: the events between one server and its client instances, and their replies.
 #![tactic(auto)]
 
 pub mod events;

@@ -1,4 +1,4 @@
-//! The world: one server and its client starts, over a network that keeps every datagram.
+//! The world: one server and its client instances, over a network that keeps every datagram.
 ghost use Rattle.std.specs.Prelude.{◌≡◌, ◌⊎◌, ◌↔◌, ◌++◌, ◌<◌, [], ◌∷◌, ℕ, List, length, map, slice_index_or, None, false, IsOkUnless, IfOk, IfErr, OnOk, IsErrOf};
 ghost use Rattle.std.specs.List.{All};
 ghost use Rattle.std.specs.Option.{option_copied};
@@ -27,7 +27,7 @@ use std::marker::Model;
 /// How many slots there are.
 const SLOTS: usize = 8;
 
-/// One server, a client start or none in each of eight slots, the ids that were used, and all datagrams ever sent.
+/// One server, a client instance or none in each of eight slots, the ids that were used, and all datagrams ever sent.
 #[derive(Drop)]
 pub struct World {
     session: u64,
@@ -58,7 +58,7 @@ impl Model for World {
     ghost invariant = { λ w. length w.slots.items ≡ 8 };
 }
 
-// Slots with no client start.
+// Slots with no client instance.
 fn no_clients(alloc: Global) -> Result<Vec<Option<Client>>, Fault>
     ensures eight { IfOk result (λ slots. length slots.items ≡ 8) }
     ensures none { IfOk result (λ slots. (slot : ℕ) → slice_index_or slots.items slot None ≡ None) }
@@ -71,7 +71,7 @@ fn no_clients(alloc: Global) -> Result<Vec<Option<Client>>, Fault>
     Ok(slots)
 }
 
-// Returns true if a start would be read-only in version 1, which none can be.
+// Returns true if an instance would be read-only in version 1, which none can be.
 fn is_unfit(version: Version, watches: bool) -> bool
     ensures unfit { result ≡ is_unfit_for version watches }
 {
@@ -81,7 +81,7 @@ fn is_unfit(version: Version, watches: bool) -> bool
     }
 }
 
-// A client start of a version, which only watches or not.
+// A client instance of a version, which only watches or not.
 fn begun(
     alloc: Global,
     session: u64,
@@ -101,7 +101,7 @@ fn begun(
 }
 
 impl World {
-    /// The world of a new server, with no client start and no datagram. `BadSize` outside 4 to 200 rows or 8 to 500 columns,
+    /// The world of a new server, with no client instance and no datagram. `BadSize` outside 4 to 200 rows or 8 to 500 columns,
     /// `OutOfMemory`.
     pub fn new(alloc: Global, session: u64, rows: u16, cols: u16) -> Result<World, Fault>
         ensures stands { IfOk result (λ world. StandsFor world session (record { rows = rows; cols = cols }) [] []) }
@@ -127,7 +127,7 @@ impl World {
         &self.server
     }
 
-    /// Returns the client start in a slot, `None` if the slot is empty or there is no such slot. It takes no memory.
+    /// Returns the client instance in a slot, `None` if the slot is empty or there is no such slot. It takes no memory.
     pub fn client(&self, slot: usize) -> Option<&Client>
         ensures client { option_copied result ≡ start_in self.now.slots slot }
     {
@@ -160,7 +160,7 @@ impl World {
         Ok(Reply::Done)
     }
 
-    // An act is typed at the start in a slot.
+    // An act is typed at the instance in a slot.
     fn typed(&mut self, slot: u8, act: Act) -> Result<Reply, Fault>
         requires in_range { IsInRange act }
         ensures steps { (w : WorldOf) → Stands self.old w → Steps w (Typed slot act) (reply_in result) self.new }
@@ -188,7 +188,7 @@ impl World {
         Ok(Reply::Sent(first, count))
     }
 
-    // The start in a slot ticks.
+    // The instance in a slot ticks.
     fn client_tick(&mut self, alloc: Global, slot: u8, now: u64) -> Result<Reply, Fault>
         ensures steps { (w : WorldOf) → Stands self.old w → Steps w (ClientTick slot now) (reply_in result) self.new }
     {
@@ -221,7 +221,7 @@ impl World {
         }
     }
 
-    // The datagram of a number comes to the start in a slot.
+    // The datagram of a number comes to the instance in a slot.
     fn to_client(&mut self, alloc: Global, slot: u8, number: u64, now: u64) -> Result<Reply, Fault>
         ensures steps { (w : WorldOf) → IsReached w → Stands self.old w
             → Steps w (ToClient slot number now) (reply_in result) self.new }
@@ -286,10 +286,10 @@ impl World {
         }
     }
 
-    /// Does one event, and returns its reply. The caller's conditions: the numbers of an act are in their ranges, and a client starts in a
-    /// slot of 0 to 7. `Refused` and `Fault` leave everything as it was. `Stopped` at a full queue or at want of memory keeps the acts that
-    /// were taken before, and the moment of the start's datagram. From each world that it modelled, the event with its reply leads to one
-    /// that it models afterwards. No datagram that comes to a start leaves a gap or has a bad change.
+    /// Does one event, and returns its reply. The caller's conditions: the numbers of an act are in their ranges, and a client instances in
+    /// a slot of 0 to 7. `Refused` and `Fault` leave everything as it was. `Stopped` at a full queue or at want of memory keeps the acts
+    /// that were taken before, and the moment of the instance's datagram. From each world that it modelled, the event with its reply leads
+    /// to one that it models afterwards. No datagram that comes to an instance leaves a gap or has a bad change.
     pub fn step(&mut self, alloc: Global, event: &Event) -> Reply
         requires handed_in { IsHandedIn event.now }
         ensures stands { (session : ℕ) (size : SessionSize) (es : List EventOf) (rs : List ReplyOf)
@@ -332,8 +332,8 @@ impl World {
         Ok(world)
     }
 
-    /// The headline, of this world: each client start in a slot shows exactly the screen of its number, and the acts taken from each start
-    /// are the first of those typed there.
+    /// The headline, of this world: each client instance in a slot shows exactly the screen of its number, and the acts taken from each
+    /// instance are the first of those typed there.
     pub fn shows_the_session(&self)
         ensures shown { (session : ℕ) (size : SessionSize) (es : List EventOf) (rs : List ReplyOf)
             → (stands : StandsFor self.now session size es rs) → ShowsSession self.now stands.world }
@@ -341,8 +341,8 @@ impl World {
         laws::clients_show_the_session();
     }
 
-    /// One round suffices, from this world on. A server tick sends to a client start that is in a slot, and just those datagrams come to
-    /// that slot, each at least once, in any order. Then that start shows the newest number of its sender, which is the newest number
+    /// One round suffices, from this world on. A server tick sends to a client instance that is in a slot, and just those datagrams come to
+    /// that slot, each at least once, in any order. Then that instance shows the newest number of its sender, which is the newest number
     /// wherever the tick could offer it.
     pub fn one_round_suffices(&self)
         ensures round { (session : ℕ) (size : SessionSize) (es : List EventOf) (rs : List ReplyOf)
@@ -353,8 +353,8 @@ impl World {
         laws::one_round_suffices();
     }
 
-    /// No client start and no sender of a record of this world has a ninth screen, and each datagram of a tick goes to the source of the
-    /// greatest-numbered datagram that came from its client start.
+    /// No client instance and no sender of a record of this world has a ninth screen, and each datagram of a tick goes to the source of the
+    /// greatest-numbered datagram that came from its client instance.
     pub fn keeps_its_links(&self)
         ensures eight { (session : ℕ) (size : SessionSize) (es : List EventOf) (rs : List ReplyOf)
             → (stands : StandsFor self.now session size es rs) → HoldAtMostEight stands.world }

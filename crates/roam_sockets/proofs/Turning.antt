@@ -1,4 +1,4 @@
--- Client starts are asked one after another, round.
+-- Client instances are asked one after another, round.
 use Rattle.std.proofs.Common.{◌≡◌, ◌≢◌, ℕ, ◌+◌, ◌<◌, List, Some, get_or, length, slice_get, slice_set, ◌∙◌, sym, ap, subst, inl, inr, arith}
 use Rattle.std.specs.Prelude.{◌⊎◌, true, IfSome}
 use Rattle.std.proofs.lemmas.Bool.{cases_lt, cases_order}

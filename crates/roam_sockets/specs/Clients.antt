@@ -1,4 +1,4 @@
--- Client starts that reach a server over streams: each has a number of its own.
+-- Client instances that reach a server over streams: each has a number of its own.
 use Rattle.std.specs.Prelude.{◌≡◌, ◌≢◌, ◌⊎◌, ℕ, ◌+◌, ◌-◌, ◌%◌, ◌≤◌, ◌<◌, true, false, List, [], ◌∷◌, ◌++◌, drop, length, map, slice_get, Option, Some, None, IfSome, IsOk, Bool, not}
 use Rattle.mio.specs.declared.net.uds.stream.UnixStream.{UnixStream}
 use Rattle.std.specs.List.{All, AllZip, Contains, filter, range_with_len}
@@ -63,7 +63,7 @@ AcceptsOne old new = NoneCame old new ⊎ OneCame old new
 abbrev pub IsOf : Clients → Addr → Type 0
 IsOf clients addr = (number : ℕ) × Contains (numbers_of clients.all.items) number × (addr ≡ address_of number)
 
--- a client start that was asked has no whole datagram now, or its stream is over
+-- a client instance that was asked has no whole datagram now, or its stream is over
 abbrev pub HasNone : {S : Type 0} → ClientPeer S → Type 0
 HasNone peer = (peer.carrier.over ≡ true) ⊎ (front_of peer.carrier.frames ≡ Part)
 
@@ -131,7 +131,7 @@ IsLostFor olds news (Some number) =
 abbrev pub AnswersOf : Type 0 → Type 0
 AnswersOf S = S → Option (List Answer)
 
--- as many queued bytes of a client start were written as go at this moment
+-- as many queued bytes of a client instance were written as go at this moment
 abbrev pub IsDone : {S : Type 0} → AnswersOf S → ClientPeer S → ClientPeer S → Type 0
 IsDone answers old new =
     HasStopped new.carrier.over new.carrier.queue.waiting (answers old.carrier.stream) (answers new.carrier.stream)

@@ -1,4 +1,4 @@
-//! The streams of client starts at a server's socket.
+//! The streams of client instances at a server's socket.
 ghost use Rattle.std.specs.Prelude.{◌≡◌, ◌≢◌, ◌⊎◌, ◌++◌, ◌+◌, ◌<◌, ◌≤◌, ◌^◌, ℕ, [], ◌∷◌, length, slice_get, true, false, None, IfErr, IfOk, IfSome, OnErr, OnOk, IsOkUnless, string_bytes};
 ghost use Rattle.std.specs.List.{All, AllZip, Contains};
 ghost use Rattle.roam_sockets.specs.Addresses.{address_of, number_of};
@@ -21,14 +21,14 @@ const MOST_PEERS: usize = 96;
 /// The first number that is given to none: an address has 40 bits.
 const NUMBERS_END: u64 = 1 << 40;
 
-/// A client start at the other end of a stream, by its number.
+/// A client instance at the other end of a stream, by its number.
 #[derive(Drop)]
 pub(crate) struct ClientPeer<S> {
     number: u64,
     carrier: Carrier<S>,
 }
 
-/// The socket at which client starts reach a server, and the streams of those that are there. Each has an address of network 0, which no
+/// The socket at which client instances reach a server, and the streams of those that are there. Each has an address of network 0, which no
 /// other ever gets.
 #[derive(Drop)]
 pub struct Clients {

@@ -59,7 +59,7 @@ impl<R: Clock + Drop> Moments<R> {
     }
 }
 
-// Returns the milliseconds since the start; `None` if the clock fails.
+// Returns the milliseconds since the instance; `None` if the clock fails.
 fn passed<R: Clock>(clock: &R, start: &Option<Instant>) -> Option<u64> {
     let passed = start.as_ref()?.elapsed(clock).ok()?;
     u64::try_from(passed.as_millis()).ok()

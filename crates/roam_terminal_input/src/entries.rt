@@ -67,7 +67,7 @@ pub enum Entry {
     /// The part of the screen to show.
     Show(Showing),
 
-    /// The client start ends.
+    /// The client instance ends.
     End,
 }
 

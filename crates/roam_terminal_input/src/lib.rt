@@ -1,4 +1,4 @@
-//! Typed input: the acts of a file, the acts of a stream while a start runs, and the lines of an outer terminal.
+//! Typed input: the acts of a file, the acts of a stream while an instance runs, and the lines of an outer terminal.
 #![tactic(auto)]
 
 mod entries;

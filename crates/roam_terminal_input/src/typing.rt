@@ -1,4 +1,4 @@
-//! The acts to type: those of a file, or those that come over a stream while the start runs, one a line.
+//! The acts to type: those of a file, or those that come over a stream while the instance runs, one a line.
 ghost use Rattle.std.specs.Prelude.{◌≡◌, ◌≢◌, ◌↔◌, ◌⊎◌, ◌+◌, ◌<◌, ◌≤◌, ◌∷◌, ◌++◌, [], ℕ, List, Some, None, IsTrue, OnOk, IfOk, IsOkUnless, drop, length, true, false};
 ghost use Rattle.std.specs.List.{All};
 ghost use Rattle.std.specs.Option.{option_copied};

@@ -1,4 +1,4 @@
--- The datagrams of one instruction come to a start that is ready for it, each at least once, in any order.
+-- The datagrams of one instruction come to an instance that is ready for it, each at least once, in any order.
 use Rattle.std.proofs.Common.{◌≡◌, ◌⊎◌, ℕ, zero, suc, ◌+◌, ◌<◌, Bool, true, false, ◌&&◌, not, cond, List, [], ◌∷◌, length, Option, Some, None, refl, sym, ap, ◌∙◌, subst, inl, inr, arith}
 use Rattle.std.specs.Prelude.{nat_eq, nat_le, slice_get, Result, Err}
 use Rattle.std.proofs.lemmas.Bool.Decides.{nat_tests}
@@ -82,7 +82,7 @@ finish cuts n g (p ∷ ps) all of lt some each = all_gathered_anew cuts n g p ps
 
 module _ (session id n : ℕ) (c : Client) (r : Record) (shot : Screenshot) (ready : IsReady n r c) (is_seen : IsSeenBy r.version shot)
     (down : IsDown (told r n shot)) where
-  -- the start with its kept part
+  -- the instance with its kept part
   abbrev start_with : Kept → ClientView
   start_with x = record { session = session; id = id; kept = x }
 
@@ -121,7 +121,7 @@ module _ (session id n : ℕ) (c : Client) (r : Record) (shot : Screenshot) (rea
       let at : cuts d.id ≡ fragments = ap cuts o.number_is ∙ cuts_here in
       record { count = o.count_is ∙ ap length (sym at); there = ap (λ (xs : List (List ℕ)). slice_get xs d.index) at ∙ o.there }
 
-  -- ---- a start before and after its instruction is whole
+  -- ---- an instance before and after its instruction is whole
 
   abbrev is_whole : Gathering → Bool
   is_whole g = nat_eq g.id (length r.instructions + 1) && all_there g.fragments
@@ -316,7 +316,7 @@ module _ (session id n : ℕ) (c : Client) (r : Record) (shot : Screenshot) (rea
 
   -- ---- all deliveries
 
-  -- a start is handed a datagram of the instruction, and memory isn't wanting
+  -- an instance is handed a datagram of the instruction, and memory isn't wanting
   abbrev pub IsGood : ClientCall → Type 0
   IsGood (ToClient bytes now answer) =
       (d : DatagramValue) × IsDatagram d × IsMine d × (bytes ≡ datagram_text d) × ((answer ≡ Err OutOfMemory) → ⊥)
@@ -374,7 +374,7 @@ module _ (session id n : ℕ) (c : Client) (r : Record) (shot : Screenshot) (rea
         ];
       }
 
-  -- each fragment comes: the start shows the number and the screen
+  -- each fragment comes: the instance shows the number and the screen
   pub all_come : (old : ClientView) (calls : List ClientCall) (view : ClientView) → Stands old session id c
       → ((call : ClientCall) → IsIn call calls → IsGood call) → RunOf client_step old calls view → 0 < length fragments
       → ((i : ℕ) → i < length fragments → (d : DatagramValue) × IsDatagram d × (d.index ≡ i)

@@ -1,4 +1,4 @@
--- The datagrams of a tick that offers its number to a start.
+-- The datagrams of a tick that offers its number to an instance.
 use Rattle.std.proofs.Common.{◌≡◌, ℕ, zero, suc, ◌+◌, ◌-◌, ◌<◌, ◌≤◌, ◌^◌, Bool, true, false, ◌&&◌, ◌||◌, not, cond, List, [], ◌∷◌, ◌++◌, length, map, get_or, take, Option, Some, None, Vec, refl, sym, ap, ◌∙◌, subst, inl, inr, arith}
 use Rattle.std.specs.Prelude.{nat_eq, nat_lt, nat_le, slice_get, Result, Ok, Err}
 use Rattle.std.specs.List.{list_any, enumerate_from}
@@ -112,7 +112,7 @@ texts_sent s now result new parcels e (ticked all a b are st) =
           ∙ map_both parcel_text (λ (l : Address × List ℕ). l.1) (sent_by s (moment s now))))),
     )
 
--- ---- the id of a start is read as it was written
+-- ---- the id of an instance is read as it was written
 
 abbrev client_in : Result DatagramValue Reason → ℕ
 client_in (Ok d) = d.client
@@ -123,7 +123,7 @@ client_of : (bytes payload : List ℕ) (x : Result (Version × Kind) Reason) (d 
 client_of bytes payload (Ok p) d e = ap client_in e
 client_of bytes payload (Err reason) d e = absurd (cc)
 
--- a datagram with one byte to a start
+-- a datagram with one byte to an instance
 abbrev smallest : ℕ → DatagramValue
 smallest id =
     record { version = One; kind = ToClient; session = 0; client = id; number = 1; id = 1; index = 0; count = 1; payload = 0 ∷ [] }
@@ -148,7 +148,7 @@ tells_client d lt =
     let text = datagram_text (smallest d.client) in
     client_of text (0 ∷ []) (checked_header (header_at text) 1) (smallest d.client) (again (smallest d.client) (smallest_is d.client lt))
 
--- of a tick's datagrams, a text with a start's id is that of a datagram to the start
+-- of a tick's datagrams, a text with an instance's id is that of a datagram to the instance
 pub of_start : (s : Server) (m id : ℕ) (bytes : List ℕ) → ((j : ℕ) → IsIn j s.arrival → j < 2 ^ 64)
     → IsIn bytes (map (λ (p : WorldParcel). datagram_text p.datagram) (sent_by s m)) → (header_at bytes).client ≡ id
     → (d : DatagramValue) × IsIn d (datagrams_to s.session id (s.records id) (number_after s m) (screen_to s m id) m)
@@ -167,7 +167,7 @@ of_start s m id bytes ids i to =
     × IsIn d (datagrams_to s.session k (s.records k) (number_after s m) (screen_to s m k) m) × (datagram_text d ≡ bytes))
     at (p.0, p.1, text)
 
--- and each datagram to the start is sent
+-- and each datagram to the instance is sent
 pub is_sent : (s : Server) (m id : ℕ) (d : DatagramValue) → IsIn id s.arrival
     → IsIn d (datagrams_to s.session id (s.records id) (number_after s m) (screen_to s m id) m)
     → IsIn (datagram_text d) (map (λ (p : WorldParcel). datagram_text p.datagram) (sent_by s m))
@@ -331,7 +331,7 @@ module _ (s : Server) (m id : ℕ) (makes_it : makes s m ≡ true) (unspent : is
       (tells_then (s.records id) (number_after s m) (screen_to s m id) m e)
       (not_past _ (or_right (is_spent (length (s.records id).instructions + 1)) _ record_unspent))
 
-  -- the instruction to the start has a text
+  -- the instruction to the instance has a text
   pub told_down : (s.records id).sender.base.number ≤ number_after s m
       → IsDown (told (s.records id) (number_after s m) (screen_to s m id))
   told_down low = record { floor = omega arith; old = low; new = number_low; acked = acked_low }

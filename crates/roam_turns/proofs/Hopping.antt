@@ -1,4 +1,4 @@
--- From a session's log through a tick, its datagrams and a client start to a painted terminal.
+-- From a session's log through a tick, its datagrams and a client instance to a painted terminal.
 use Rattle.std.proofs.Common.{◌≡◌, ℕ, ◌+◌, ◌<◌, ◌≤◌, ◌^◌, Bool, true, false, ◌&&◌, List, ◌∷◌, length, map, take, drop, refl, sym, ap, ◌∙◌, subst, arith}
 use Rattle.std.specs.Prelude.{nat_lt, Result}
 use Rattle.std.specs.List.{enumerate_from}
@@ -76,7 +76,7 @@ module _ (faces : (size : SessionSize) (log : List Entry) → IsSessionSize size
   down : IsDown (told r (number_after s m) shot)
   down = told_down s m id h.made texts.0 there h.offered low
 
-  -- the datagrams to the start
+  -- the datagrams to the instance
   abbrev mine : List DatagramValue
   mine = datagrams_of (s.records id).version ToClientKind s.session id (s.records id).datagrams (length (s.records id).instructions + 1)
       (fragments_of (down_text (told (s.records id) (number_after s (moment s now)) (screen_to s (moment s now) id))))

@@ -57,7 +57,7 @@ ticks_quiet now to xs h = ap shown_in h.2 ∙ sends_quiet _ h.1 h.3
 
 -- ---- its effect on a terminal
 
--- the screen noted under the start's number is the start's screen
+-- the screen noted under the instance's number is the instance's screen
 pub shows_noted : (outer outer' : Option Noted) (bytes : List ℕ) (n : ℕ) (s : Screenshot) → Leads outer bytes outer' → IsBehind outer' n s
     → IsNoted n outer' → Shows outer bytes s
 shows_noted outer None bytes n s leads behind is = absurd is

@@ -30,7 +30,7 @@ module _ (n n' : ℕ) (s s' : Screenshot) (outer outer' : Option Noted) (text by
   pub paints_failed : outer' ≡ None → (xs : List (Call ClientCall)) → xs ≡ Port (Showed bytes false) ∷ [] → Paints n s outer outer' xs
   paints_failed now xs e = failed paint_not (paint_call false xs e) now
 
--- ---- the case that the number shown by the start rises
+-- ---- the case that the number shown by the instance rises
 
 pub paints_at : (n n' : ℕ) (s s' : Screenshot) (outer outer' : Option Noted) → n ≡ n' → s ≡ s' → (xs : List (Call ClientCall))
     → Paints n s outer outer' xs → Paints n' s' outer outer' xs

@@ -1,4 +1,4 @@
--- In a world that can be reached, each start to which a tick would offer its number is ready for it.
+-- In a world that can be reached, each instance to which a tick would offer its number is ready for it.
 use Rattle.std.proofs.Common.{◌≡◌, ℕ, ◌+◌, ◌<◌, ◌≤◌, Bool, true, false, ◌&&◌, leb, ◌∷◌, length, filter, Option, Some, None, refl, sym, ap, ◌∙◌, arith}
 use Rattle.std.specs.Prelude.{nat_lt, is_none}
 use Rattle.std.proofs.lemmas.Bool.Decides.{nat_tests}
@@ -77,7 +77,7 @@ module _ (w : World) (h : Holds w) (id now : ℕ) (e : IsOffered w.server id now
       theirs in
       at.1 ∙ ap (λ (s : Screenshot). Some s) same
 
-  -- the sender has all that the start has from the base on
+  -- the sender has all that the instance has from the base on
   few_from : length (from_floor r.sender.base.number (pairs x.kept.receiver)) ≤ 7
   few_from =
       let base = r.sender.base.number in

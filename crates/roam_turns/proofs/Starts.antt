@@ -1,4 +1,4 @@
--- The screen of a client start of the code, before and after its calls.
+-- The screen of a client instance of the code, before and after its calls.
 use Rattle.std.proofs.Common.{◌≡◌, ℕ, ◌<◌, leb, inl, inr, List, refl, sym, ap, ◌∙◌, subst, arith}
 use Rattle.std.specs.Prelude.{Result, Vec}
 use Rattle.std.specs.declared.alloc.Global.{Global}

@@ -74,7 +74,7 @@ pub data ServerCall : Type 0 where
   Drain : ℕ → ℕ → Result (Unit {0}) Fault → ServerCall
   ServerTick : ℕ → Result (List Parcel) Fault → ServerCall
 
--- a call of a client start with its result: an act that was typed; a datagram that came at a moment; a tick at a moment
+-- a call of a client instance with its result: an act that was typed; a datagram that came at a moment; a tick at a moment
 pub data ClientCall : Type 0 where
   Typed : Act → Result (Unit {0}) Fault → ClientCall
   ToClient : List ℕ → ℕ → Result Heard Fault → ClientCall
@@ -93,7 +93,7 @@ abbrev pub parcels_of : Result (Vec (Addr × Vec ℕ Global) Global) Fault → R
 parcels_of (Ok all) = Ok (parcels_in all.items)
 parcels_of (Err fault) = Err fault
 
--- the texts of a client start's tick
+-- the texts of a client instance's tick
 abbrev pub texts_in : Result (Vec (Vec ℕ Global) Global) Fault → Result (List (List ℕ)) Fault
 texts_in (Ok all) = Ok (texts_of all.items)
 texts_in (Err fault) = Err fault

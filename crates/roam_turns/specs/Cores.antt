@@ -1,4 +1,4 @@
--- The possible results and effects of a call of a server or of a client start, as in the crate of both.
+-- The possible results and effects of a call of a server or of a client instance, as in the crate of both.
 use Rattle.std.specs.Prelude.{◌≡◌, ℕ, ◌-◌, List, length, take, Result, Vec}
 use Rattle.std.specs.Option.{option_map}
 use Rattle.std.specs.declared.alloc.Global.{Global}
@@ -30,7 +30,7 @@ server_step old (Drain pane n answer) new = (s : ServerOf) → ServerStands old 
 server_step old (ServerTick now answer) new = (s : ServerOf) → ServerStands old s
     → (result : Result (Vec (Addr × Vec ℕ Global) Global) Fault) × (parcels_of result ≡ answer) × Ticks s now result new
 
--- the result of a call of a client start, and the start then
+-- the result of a call of a client instance, and the instance then
 abbrev pub client_step : ClientView → ClientCall → ClientView → Type 0
 client_step old (Typed act answer) new = Types old act answer new
 client_step old (ToClient bytes now answer) new = Hears old bytes now answer new

@@ -1,4 +1,4 @@
--- One hop: from the input of a session to the screen of the outer terminal of a client start.
+-- One hop: from the input of a session to the screen of the outer terminal of a client instance.
 use Rattle.std.specs.Prelude.{◌≡◌, ℕ, ◌<◌, ◌≤◌, ◌^◌, List, length, ◌++◌, map, Some, Result, Ok, Err, true}
 use Rattle.roam_cells.specs.declared.faults.Fault.{Fault}
 use Rattle.roam_cells.specs.declared.faults.Fault.TheVariants.{OutOfMemory}
@@ -27,10 +27,9 @@ use Rattle.roam_turns.specs.Painting.{Fits}
 
 -- ---- the facts before
 
--- A client start is ready for a number, by its record at the server:
---
+-- A client instance is ready for a number, by its record at the server:
 -- - both are of one version;
--- - the start has the pair of the sender's base;
+-- - the instance has the pair of the sender's base;
 -- - it shows a number from that one on, below this one;
 -- - it gathered no instruction as high as the next;
 -- - it has at most seven pairs from the base on.
@@ -52,36 +51,36 @@ pub record HasIds (s : Server) : Type 0 where
 abbrev pub number_by : Server → ℕ → ℕ
 number_by s now = number_after s (moment s now)
 
--- a tick at a moment offers its number to a start
+-- a tick at a moment offers its number to an instance
 abbrev pub IsOffered : Server → ℕ → ℕ → Type 0
 IsOffered s id now = is_offered (s.records id) (number_by s now) (moment s now) ≡ true
 
--- so it is in a world: each start to which a tick would offer its number is ready for it
+-- so it is in a world: each instance to which a tick would offer its number is ready for it
 pub record IsReadyForTicks (w : World) : Type 0 where
   pub ids : HasIds w.server
   pub ready : (id now : ℕ) → IsOffered w.server id now → IsReady (number_by w.server now) (w.server.records id) (w.clients id)
 
 -- ---- the hop
 
--- bytes have the id of a start
+-- bytes have the id of an instance
 abbrev pub IsTo : ℕ → List ℕ → Type 0
 IsTo id bytes = (header_at bytes).client ≡ id
 
--- a start is handed a parcel to it, and memory isn't wanting
+-- an instance is handed a parcel to it, and memory isn't wanting
 abbrev pub IsHandedOver : List Parcel → ℕ → ClientCall → Type 0
 IsHandedOver parcels id (ToClient bytes now answer) =
     IsIn bytes (map (λ (l : Parcel). l.1) parcels) × IsTo id bytes × ((answer ≡ Err OutOfMemory) → ⊥)
 IsHandedOver parcels id (Typed act answer) = ⊥
 IsHandedOver parcels id (ClientTick now answer) = ⊥
 
--- just the parcels to a start are handed to it, each at least once, in any order, and memory is never wanting
+-- just the parcels to an instance are handed to it, each at least once, in any order, and memory is never wanting
 pub record HandsOver (parcels : List Parcel) (id : ℕ) (calls : List ClientCall) : Type 0 where
   pub just : (call : ClientCall) → IsIn call calls → IsHandedOver parcels id call
   pub all : (bytes : List ℕ) → IsIn bytes (map (λ (l : Parcel). l.1) parcels) → IsTo id bytes
       → (now : ℕ) × (answer : Result Heard Fault) × IsIn (ToClient bytes now answer) calls
 
--- A tick of a server makes a number and offers it to a start that is ready for it, and just the parcels to it come there. The contracts of
--- the calls are all that is known of both ends.
+-- A tick of a server makes a number and offers it to an instance that is ready for it, and just the parcels to it come there. The contracts
+-- of the calls are all that is known of both ends.
 pub record Hop (s : Server) (id now : ℕ) (c : Client) (after : ClientView) : Type 0 where
   pub ids : HasIds s
   pub made : makes s (moment s now) ≡ true
@@ -98,12 +97,12 @@ pub record Hop (s : Server) (id now : ℕ) (c : Client) (after : ClientView) : T
   pub hands_over : HandsOver parcels id calls
   pub come : RunOf client_step client calls after
 
--- the face of all that was put into the session, as a start's version is shown it
+-- the face of all that was put into the session, as an instance's version is shown it
 abbrev pub seen_face : Server → Client → Screenshot
 seen_face s c = seen_by c.kept.version (face s.size s.log)
 
--- The start shows the face of the whole input of the session, as its version is shown it, under the number that was made. Any terminal that
--- showed the start's earlier screen, of at least that screen's size, shows it once the text between the two is written.
+-- The instance shows the face of the whole input of the session, as its version is shown it, under the number that was made. Any terminal
+-- that showed the instance's earlier screen, of at least that screen's size, shows it once the text between the two is written.
 pub record Arrives (s : Server) (now : ℕ) (c : Client) (after : ClientView) : Type 0 where
   pub number : after.kept.receiver.newest.number ≡ number_by s now
   pub screen : after.kept.receiver.newest.state ≡ seen_face s c

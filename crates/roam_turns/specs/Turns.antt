@@ -82,7 +82,7 @@ pub record ServeTurn (calls : List (Call ServerCall)) : Type 0 where
   pub parts : Then (ReceivesUpTo (IsToServer now) 2048 32)
       (Then (Each TellsGeneration 1 9) (Then (Each AsksPane 1 9) (Then (Each FillsPane 1 9) (ServerTicks now)))) rest
 
--- ---- the turn of a client start
+-- ---- the turn of a client instance
 
 -- the next act is typed, if there is one; and whether it was taken
 abbrev pub Types : Option Act → Bool → List (Call ClientCall) → Type 0
@@ -90,7 +90,7 @@ Types None taken calls = (taken ≡ false) × (calls ≡ [])
 Types (Some act) taken calls =
     (answer : Result (Unit {0}) Fault) × (taken ≡ is_ok answer) × (calls ≡ Core (Typed act answer) ∷ [])
 
--- a datagram is handed to the start at a moment, wherever it came from
+-- a datagram is handed to the instance at a moment, wherever it came from
 abbrev pub IsToClient : ℕ → Addr → List ℕ → ClientCall → Type 0
 IsToClient now from bytes call = (answer : Result Heard Fault) × (call ≡ ToClient bytes now answer)
 
@@ -113,7 +113,7 @@ ClientTicks now to calls =
     (answer : Result (List (List ℕ)) Fault) × (sent : List PortCall)
     × (calls ≡ Core (ClientTick now answer) ∷ map Port sent) × Sends (map (parcel_to to) (sent_in answer)) sent
 
--- the turn of a client start: the moment; the next act; at most 32 datagrams of up to 2,048 bytes; its screen; a tick
+-- the turn of a client instance: the moment; the next act; at most 32 datagrams of up to 2,048 bytes; its screen; a tick
 pub record AttachTurn (number : ℕ) (screen : Screenshot) (outer outer' : Option Noted) (to : Addr) (next : Option Act) (taken : Bool)
     (calls : List (Call ClientCall)) : Type 0 where
   pub now : ℕ
@@ -122,7 +122,7 @@ pub record AttachTurn (number : ℕ) (screen : Screenshot) (outer outer' : Optio
   pub parts : Then (Types next taken) (Then (ReceivesUpTo (IsToClient now) 2048 32)
       (Then (Paints number screen outer outer') (ClientTicks now to))) rest
 
--- a turn of a client start that shows nothing: the moment; at most 32 datagrams of up to 2,048 bytes; a tick
+-- a turn of a client instance that shows nothing: the moment; at most 32 datagrams of up to 2,048 bytes; a tick
 pub record QuietTurn (to : Addr) (calls : List (Call ClientCall)) : Type 0 where
   pub now : ℕ
   pub rest : List (Call ClientCall)

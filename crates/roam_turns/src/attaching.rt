@@ -1,4 +1,4 @@
-//! One turn of a client start and its outer terminal.
+//! One turn of a client instance and its outer terminal.
 ghost use Rattle.std.specs.Prelude.{◌≡◌, List, Option, IfSome};
 ghost use Rattle.std.specs.Io.KnownBytes.{Keeps};
 ghost use Rattle.std.specs.Option.{option_copied};
@@ -33,7 +33,7 @@ fn type_next<C: ClientCore>(client: &mut C, next: Option<&Act>) -> bool
     }
 }
 
-// Hands each datagram that comes to the start; one that is refused is dropped.
+// Hands each datagram that comes to the instance; one that is refused is dropped.
 fn receive_all<C: ClientCore, P: Ports>(alloc: Global, client: &mut C, ports: &mut P, now: u64)
     ensures receives { Makes C.step (ReceivesUpTo (IsToClient now) 2048 32) (P.told ports.old) (P.told ports.new)
         (C.made client.old) (C.made client.new) client.old client.new }
@@ -52,7 +52,7 @@ fn receive_all<C: ClientCore, P: Ports>(alloc: Global, client: &mut C, ports: &m
     }
 }
 
-// Paints the start's screen, if it isn't noted.
+// Paints the instance's screen, if it isn't noted.
 fn paint_screen<C: ClientCore, P: Ports>(
     alloc: Global,
     client: &C,
@@ -103,12 +103,12 @@ fn tick_and_send<C: ClientCore, P: Ports>(
     }
 }
 
-/// Takes one turn of a client start that shows nothing: the moment; at most 32 datagrams of up to 2,048 bytes, until one receive brings
-/// nothing; and a tick, whose datagrams are sent to `to`. Whatever the start refuses is dropped, and a datagram that isn't sent is lost.
+/// Takes one turn of a client instance that shows nothing: the moment; at most 32 datagrams of up to 2,048 bytes, until one receive brings
+/// nothing; and a tick, whose datagrams are sent to `to`. Whatever the instance refuses is dropped, and a datagram that isn't sent is lost.
 pub fn quiet_turn<C: ClientCore, P: Ports>(alloc: Global, client: &mut C, ports: &mut P, to: Addr)
     ensures turn { Makes C.step (QuietTurn to) (P.told ports.old) (P.told ports.new) (C.made client.old) (C.made client.new)
         client.old client.new }
-    // The number that the start shows never falls, and one number shows one screen.
+    // The number that the instance shows never falls, and one number shows one screen.
     ensures follows { Follows (C.number client.old) (C.screen client.old) (C.number client.new) (C.screen client.new) }
     ensures written { Keeps (P.written ports.old) (P.written ports.new) }
     ensures notice { P.notice ports.new ≡ P.notice ports.old }
@@ -118,16 +118,17 @@ pub fn quiet_turn<C: ClientCore, P: Ports>(alloc: Global, client: &mut C, ports:
     tick_and_send(alloc, client, ports, to, now);
 }
 
-/// Takes one turn of a client start with its ports, and returns true if the act was taken:
+/// Takes one turn of a client instance with its ports, and returns true if the act was taken:
 ///
 /// 1. the moment, and the next act, if there is one;
 /// 2. at most 32 datagrams of up to 2,048 bytes, until one receive brings nothing;
-/// 3. the start's screen, if another number is noted of the outer terminal or none, painted over the noted screen, or over a terminal that
+/// 3. the instance's screen, if another number is noted of the outer terminal or none, painted over the noted screen, or over a terminal
+///    that
 ///    is opened;
 /// 4. a tick, whose datagrams are sent to `to`.
 ///
-/// Whatever the start refuses is dropped, and a datagram that isn't sent is lost. If there is no memory for painting, nothing is shown and
-/// the noted screen stays. If showing fails, nothing is noted.
+/// Whatever the instance refuses is dropped, and a datagram that isn't sent is lost. If there is no memory for painting, nothing is shown
+/// and the noted screen stays. If showing fails, nothing is noted.
 pub fn attach_turn<C: ClientCore, P: Ports>(
     alloc: Global,
     client: &mut C,
@@ -148,7 +149,7 @@ pub fn attach_turn<C: ClientCore, P: Ports>(
         → AttachTurn (C.number client.new) (C.screen client.new) outer.old outer.new to (option_copied next.entry) result calls
         → IsNoted (C.number client.new) outer.new → Shows outer.old (shown_in calls) (C.screen client.new) }
     ensures behind { IsBehind outer.new (C.number client.new) (C.screen client.new) }
-    // The number that the start shows never falls, and one number shows one screen.
+    // The number that the instance shows never falls, and one number shows one screen.
     ensures follows { Follows (C.number client.old) (C.screen client.old) (C.number client.new) (C.screen client.new) }
     ensures led { Led outer.old (P.written ports.old) outer.new (P.written ports.new) }
     ensures notice { P.notice ports.new ≡ P.notice ports.old }

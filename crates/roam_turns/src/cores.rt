@@ -67,7 +67,7 @@ pub trait ServerCore {
         ensures step { step self.old (ServerTick now (parcels_of result)) self.new };
 }
 
-/// A client start, as a turn calls it.
+/// A client instance, as a turn calls it.
 pub trait ClientCore {
     // The calls made so far, if they are recorded.
     ghost made: { Self → Option (List ClientCall) } = { λ _. None };

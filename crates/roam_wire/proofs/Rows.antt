@@ -55,7 +55,7 @@ other_version = refl
 other_letters : datagram_at (0x53 ∷ drop 1 (head 3) ++ body) ≡ Err Magic
 other_letters = refl
 
--- the first datagram of a start that only watches, which version 1 doesn't have
+-- the first datagram of an instance that only watches, which version 1 doesn't have
 abbrev watching : ℕ → List ℕ
 watching version = 0x52 ∷ 0x4D ∷ version ∷ 3 ∷ drop 4 (head version)
 

@@ -68,7 +68,7 @@ header_text h =
 abbrev pub datagram_text : DatagramValue → List ℕ
 datagram_text d = header_text (header_of d) ++ d.payload
 
--- A datagram that has a text: a read-only start's in version 2 only, numbers from 1 and below 2^62, no more fragments than its version
+-- A datagram that has a text: a read-only instance's in version 2 only, numbers from 1 and below 2^62, no more fragments than its version
 -- allows, each of 1,200 bytes except for the last, none of them empty.
 pub record IsDatagram (d : DatagramValue) : Type 0 where
   pub kind : d.kind ≡ FromWatcher → d.version ≡ Two

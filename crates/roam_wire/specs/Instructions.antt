@@ -57,7 +57,7 @@ pub record IsUp (u : UpValue) : Type 0 where
   pub count : length u.acts ≤ most_acts
   pub acts : All IsAct u.acts
 
--- an instruction that has a text, from a read-only start, which has no acts, or from another one
+-- an instruction that has a text, from a read-only instance, which has no acts, or from another one
 pub record IsUpOf (watches : Bool) (u : UpValue) : Type 0 where
   pub is : IsUp u
   pub none : watches ≡ true → u.acts ≡ []

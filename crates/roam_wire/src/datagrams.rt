@@ -9,7 +9,7 @@ use byteorder::{BigEndian, ByteOrder};
 use roam_cells::{Fault, Reason};
 use std::alloc::Global;
 
-/// Where a datagram goes, and whether it comes from a start that only watches.
+/// Where a datagram goes, and whether it comes from an instance that only watches.
 #[derive(Clone, Copy, Debug, PartialEq, Eq)]
 pub enum Kind {
     /// From the server to a client.
@@ -59,10 +59,10 @@ pub struct Datagram {
     /// The id of the session.
     pub session: u64,
 
-    /// The id of the client's start.
+    /// The id of the client's instance.
     pub client: u64,
 
-    /// The number of the datagram among those of the start in this direction, from 1 and below 2^62.
+    /// The number of the datagram among those of the instance in this direction, from 1 and below 2^62.
     pub number: u64,
 
     /// The id of the instruction that this is a fragment of, from 1 and below 2^62.

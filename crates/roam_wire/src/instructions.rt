@@ -96,7 +96,7 @@ pub fn write_down(alloc: Global, down: &Down) -> Result<Vec<u8>, Fault>
 }
 
 /// Returns the instruction to the server that the bytes spell. `BadDatagram(Short)` for fewer than 18 bytes, `BadDatagram(Length)` for
-/// others that spell none, and for acts of a read-only start; `OutOfMemory` only if there are acts to read.
+/// others that spell none, and for acts of a read-only instance; `OutOfMemory` only if there are acts to read.
 pub fn read_up(alloc: Global, bytes: &[u8], watches: bool) -> Result<Up, Fault>
     // The bytes read are this text.
     ensures found { IfOk result (λ u. IsUpOf watches (up_value u) × (bytes.now ≡ up_text (up_value u))) }
@@ -116,7 +116,7 @@ pub fn read_up(alloc: Global, bytes: &[u8], watches: bool) -> Result<Up, Fault>
     if acked >= NUMBER_LIMIT || first == 0 || first >= NUMBER_LIMIT || count > MOST_ACTS {
         return Err(Fault::BadDatagram(Reason::Length));
     }
-    // A read-only start has no acts, so this is checked before any act is read.
+    // A read-only instance has no acts, so this is checked before any act is read.
     if watches && count != 0 {
         return Err(Fault::BadDatagram(Reason::Length));
     }

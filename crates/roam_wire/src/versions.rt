@@ -10,7 +10,7 @@ pub enum Version {
     /// The first: an instruction has at most 1,024 fragments, and nobody only watches.
     One,
 
-    /// The second: an instruction has at most 4,096 fragments, and a client's start may only watch.
+    /// The second: an instruction has at most 4,096 fragments, and a client's instance may only watch.
     Two,
 }
 

@@ -17,7 +17,7 @@ pub ok_then : {A E P Q : Type 0} (r : Result A E) → OnOk r P → (P → Q) →
 ok_then (Ok a) h f = f h
 ok_then (Err e) h f = tt
 
--- the start of the definitions that is in a slot of the code
+-- the instance of the definitions that is in a slot of the code
 pub record IsStart (session : ℕ) (clients : ℕ → Client) (ids : Option ℕ) (v : ClientView) : Type 0 where
   pub id : ℕ
   pub is : ids ≡ Some id
@@ -38,7 +38,7 @@ pub all_wait : (o : Option (List ℕ)) (n len : ℕ) (old new : List ℕ) → le
 all_wait None n len old new is long e h = absurd h
 all_wait (Some waiting) n len old new is long e h = ap bytes_line (whole_copy n len waiting old new is long h.0 h.1)
 
--- a start's number was written, and then its screen
+-- an instance's number was written, and then its screen
 pub client_text : (clients : ℕ → Client) (ids : Option ℕ) (id number : ℕ) (shot : Screenshot) (old mid new : List ℕ) → ids ≡ Some id
     → number ≡ shown_number (clients id) → shot ≡ shown_screen (clients id) → mid ≡ old ++ (codes "state " ++ decimal number ++ codes "\n")
     → new ≡ mid ++ screen_text shot → new ≡ old ++ slot_text clients ids

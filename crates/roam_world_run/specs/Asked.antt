@@ -10,11 +10,11 @@ use Rattle.roam_world_script.specs.Values.{LineValue, Session, Start, Watch, Pan
 use Rattle.roam_world_run.specs.Replies.{fault_line}
 use Rattle.roam_show.specs.ShowText.{screen_text}
 
--- the number and the screen that a client start shows
+-- the number and the screen that a client instance shows
 abbrev pub shown_text : Client → List ℕ
 shown_text c = codes "state " ++ decimal (shown_number c) ++ codes "\n" ++ screen_text (shown_screen c)
 
--- the screen of the start in a slot, if there is one
+-- the screen of the instance in a slot, if there is one
 abbrev pub slot_text : (ℕ → Client) → Option ℕ → List ℕ
 slot_text clients None = codes "refused\n"
 slot_text clients (Some id) = shown_text (clients id)

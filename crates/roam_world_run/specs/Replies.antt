@@ -25,7 +25,7 @@ number_of Spent = 15
 number_of BadAct = 16
 number_of Watching = 17
 
--- the kind of a datagram to a client start
+-- the kind of a datagram to a client instance
 abbrev pub heard_line : Hearing → List ℕ
 heard_line IsPart = codes "part\n"
 heard_line IsOld = codes "old\n"

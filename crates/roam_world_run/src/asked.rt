@@ -1,4 +1,4 @@
-//! The questions of a script to a world: the screen of a client start, the session's face, the bytes queued for a pane's program.
+//! The questions of a script to a world: the screen of a client instance, the session's face, the bytes queued for a pane's program.
 
 ghost use Rattle.std.specs.Prelude.{◌≡◌, ◌++◌, Some, true, IfOk, IfSome, IfNone, OnOk, IsOkUnless, string_bytes};
 ghost use Rattle.roam_session.specs.Refusals.{output_at};
@@ -14,7 +14,7 @@ use roam_simulation::World;
 use roam_world_script::Line;
 use std::alloc::{AllocError, Global};
 
-// Adds the number and the screen that the start in a slot shows.
+// Adds the number and the screen that the instance in a slot shows.
 fn push_shown(alloc: Global, text: &mut String, world: &World, slot: u8) -> Result<(), Fault>
     ensures text { OnOk result ((w : WorldOf) → Stands world.now w
         → string_bytes text.new ≡ string_bytes text.old ++ slot_text w.clients (w.slots slot)) }

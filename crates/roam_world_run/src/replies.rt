@@ -35,7 +35,7 @@ pub(crate) fn number_of(fault: Fault) -> u8
     }
 }
 
-// Returns the kind of a datagram to a client start, as a line.
+// Returns the kind of a datagram to a client instance, as a line.
 fn heard_line(heard: Heard) -> &'static str
     ensures line { result.now ≡ heard_line (hearing_in heard) }
 {

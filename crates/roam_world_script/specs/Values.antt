@@ -13,17 +13,17 @@ pub data LineValue : Type 0 where
   Watch : (slot : ℕ) → (id : ℕ) → LineValue
   -- bytes come from a pane's program
   PaneBytes : (pane : ℕ) → (bytes : List ℕ) → LineValue
-  -- an act is typed at the start in a slot
+  -- an act is typed at the instance in a slot
   Typed : (slot : ℕ) → (act : Act) → LineValue
   ServerTick : (now : ℕ) → LineValue
   ClientTick : (slot : ℕ) → (now : ℕ) → LineValue
   -- the datagram of a number comes to the server, from a port
   ToServer : (number : ℕ) → (port : ℕ) → (now : ℕ) → LineValue
-  -- the datagram of a number comes to the start in a slot
+  -- the datagram of a number comes to the instance in a slot
   ToClient : (slot : ℕ) → (number : ℕ) → (now : ℕ) → LineValue
   -- bytes go to a pane's program
   Drained : (pane : ℕ) → (count : ℕ) → LineValue
-  -- the screen that the start in a slot shows is asked for
+  -- the screen that the instance in a slot shows is asked for
   Show : (slot : ℕ) → LineValue
   -- the session's face is asked for
   Face : LineValue

@@ -32,25 +32,25 @@ pub enum Line {
     /// Bytes come from the program of a pane.
     PaneBytes(u8, Vec<u8>),
 
-    /// An act is typed at the start in a slot.
+    /// An act is typed at the instance in a slot.
     Typed(u8, Act),
 
     /// The server ticks at a moment.
     ServerTick(u64),
 
-    /// The start in a slot ticks at a moment.
+    /// The instance in a slot ticks at a moment.
     ClientTick(u8, u64),
 
     /// The datagram of a number comes to the server, from a port, at a moment.
     ToServer(u64, u16, u64),
 
-    /// The datagram of a number comes to the start in a slot at a moment.
+    /// The datagram of a number comes to the instance in a slot at a moment.
     ToClient(u8, u64, u64),
 
     /// So many bytes go to the program of a pane.
     Drained(u8, u64),
 
-    /// Asks for the screen that the start in a slot shows.
+    /// Asks for the screen that the instance in a slot shows.
     Show(u8),
 
     /// Asks for the session's face.
@@ -103,7 +103,7 @@ fn version(text: &[u8]) -> Option<Version>
     }
 }
 
-// Returns the id and the version of a client's start, the first version by default.
+// Returns the id and the version of a client's instance, the first version by default.
 fn started(text: &[u8]) -> Option<(u64, Version)>
     ensures started { result ≡ start_in text.now }
 {
@@ -113,7 +113,7 @@ fn started(text: &[u8]) -> Option<(u64, Version)>
     }
 }
 
-// The line of a client's start.
+// The line of a client's instance.
 fn start(text: &[u8]) -> Option<Line>
     ensures line { option_map value_of result ≡ plain_in Kind.Start text.now }
 {
@@ -123,7 +123,7 @@ fn start(text: &[u8]) -> Option<Line>
     Some(Line::Start(slot, id, version))
 }
 
-// The line of the start of a client that only watches.
+// The line of the instance of a client that only watches.
 fn watch(text: &[u8]) -> Option<Line>
     ensures line { option_map value_of result ≡ plain_in Kind.Watch text.now }
 {

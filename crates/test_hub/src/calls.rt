@@ -22,7 +22,7 @@ fn start(alloc: Global, kind: &str, id: u64) -> Result<Client, Fault> {
     }
 }
 
-/// A start of session 1: `old` is of version 1, `new` of version 2, and `watching` of version 2, which only watches.
+/// An instance of session 1: `old` is of version 1, `new` of version 2, and `watching` of version 2, which only watches.
 pub fn start_of(alloc: Global, kind: &str, id: u64) -> Result<Client, Fault> {
     match start(alloc, kind, id) {
         Err(Fault::OutOfMemory) => start(alloc, kind, id),
@@ -37,7 +37,7 @@ fn sent_up(alloc: Global, client: &mut Client, now: u64) -> Result<Vec<Vec<u8>>,
     }
 }
 
-/// Returns the only datagram of a start at a moment; `Spent` if it sends none, or several.
+/// Returns the only datagram of an instance at a moment; `Spent` if it sends none, or several.
 pub fn only_of(alloc: Global, client: &mut Client, now: u64) -> Result<Vec<u8>, Fault> {
     let mut texts = sent_up(alloc, client, now)?;
     let only = texts.pop();
@@ -87,7 +87,7 @@ pub fn is_same<A: Seen, B: Seen>(one: &A, other: &B) -> bool {
     one.cursor() == other.cursor() && one.visible() == other.visible()
 }
 
-/// Returns true if a start shows the face of a session under this number.
+/// Returns true if an instance shows the face of a session under this number.
 pub fn shows_face(alloc: Global, server: &Server, client: &Client, number: u64) -> bool {
     let (shown, shot) = client.shown();
     match face_of(alloc, server) {
@@ -124,7 +124,7 @@ pub fn answers(
     is_left && is_answered(server.datagram(alloc, from, bytes, now), stop.taken, told)
 }
 
-// Returns true if a start shows nothing yet.
+// Returns true if an instance shows nothing yet.
 fn shows_nothing(alloc: Global, client: &Client) -> bool {
     let (number, shot) = client.shown();
     match blank(alloc) {
@@ -142,7 +142,7 @@ fn is_heard(answer: Result<Heard, Fault>, told: &str) -> bool {
     }
 }
 
-/// Returns true if a start has this answer to bytes. If memory is refused it shows nothing, as before.
+/// Returns true if an instance has this answer to bytes. If memory is refused it shows nothing, as before.
 pub fn hears(alloc: Global, client: &mut Client, bytes: &[u8], now: u64, told: &str) -> bool {
     match client.datagram(alloc, bytes, now) {
         Err(Fault::OutOfMemory) => shows_nothing(alloc, client)

@@ -1,5 +1,5 @@
 //! Tests of the program's cores by their public calls alone, for cases that no script of `roam world` has: the addresses of a server's
-//! datagrams, forged datagrams, starts of both versions and read-only ones, and refused memory.
+//! datagrams, forged datagrams, instances of both versions and read-only ones, and refused memory.
 //!
 //! They have a crate of their own, since the gate proves a crate with tests twice.
 #![tactic(auto)]

@@ -1,17 +1,17 @@
-//! A server, client starts and the datagrams between them, played by texts.
+//! A server, client instances and the datagrams between them, played by texts.
 //!
-//! A case is a name, `session ROWS COLS`, and a line for each action with its expected result. Starts are numbered from 0 and datagrams
-//! from 1; T is a moment in milliseconds. `start KIND ID` makes a start, and `tick START T` has it send its only datagram. `forge BYTES`
-//! adds a datagram in hexadecimal digits, and `bytes N BYTES` checks one. `up N PORT T` gives one to the server, from a port: the answer is
-//! the number of acts taken, or a refusal. `serve T` has the server send, to these ports. `down START N T` gives one to a start, and `all
-//! START PORT` all of a port.
+//! A case is a name, `session ROWS COLS`, and a line for each action with its expected result. Instances are numbered from 0 and datagrams
+//! from 1; T is a moment in milliseconds. `start KIND ID` makes an instance, and `tick START T` has it send its only datagram. `forge
+//! BYTES` adds a datagram in hexadecimal digits, and `bytes N BYTES` checks one. `up N PORT T` gives one to the server, from a port: the
+//! answer is the number of acts taken, or a refusal. `serve T` has the server send, to these ports. `down START N T` gives one to an
+//! instance, and `all START PORT` all of a port.
 //!
-//! `shown START N` and `size START ROWS COLS` check the screen of a start, and `face START N` checks that it is the session's face. `type
-//! START` types a letter, `waits PANE TEXT` checks the queued bytes of an open pane, and `lacks PANE` that there is none. `come KIND ID`
-//! gives the only datagram of a new start to the server. `fill KIND ID COUNT` gives those of so many starts without acts, from an id on,
-//! here in decimal digits. `types START COUNT` types so many letters at once, and `held START COUNT` checks the number of unacknowledged
-//! ones. `known COUNT WATCHERS` checks how many starts the server knows. `next` is the moment of the next useful tick of the server, and
-//! `wakes START` that of a start: a moment, or `never`.
+//! `shown START N` and `size START ROWS COLS` check the screen of an instance, and `face START N` checks that it is the session's face.
+//! `type START` types a letter, `waits PANE TEXT` checks the queued bytes of an open pane, and `lacks PANE` that there is none. `come KIND
+//! ID` gives the only datagram of a new instance to the server. `fill KIND ID COUNT` gives those of so many instances without acts, from an
+//! id on, here in decimal digits. `types START COUNT` types so many letters at once, and `held START COUNT` checks the number of
+//! unacknowledged ones. `known COUNT WATCHERS` checks how many instances the server knows. `next` is the moment of the next useful tick of
+//! the server, and `wakes START` that of an instance: a moment, or `never`.
 ghost use Rattle.std.specs.Prelude.{◌≤◌};
 
 use crate::calls::{answers, at, hears, only_of, sent_down, shows_face, start_of};
@@ -25,7 +25,7 @@ use std::alloc::Global;
 /// How many letters are typed at once at most.
 const MOST_TYPED: usize = 1025;
 
-/// A server, its starts, and the sent datagrams, each with its destination: port 0 at the server.
+/// A server, its instances, and the sent datagrams, each with its destination: port 0 at the server.
 #[derive(Drop)]
 struct Stage {
     server: Server,
@@ -53,7 +53,7 @@ fn bytes_at(sent: &[(Addr, Vec<u8>)], number: u64) -> &[u8] {
     }
 }
 
-// A start by its kind and its id in hexadecimal digits.
+// An instance by its kind and its id in hexadecimal digits.
 fn start_by(alloc: Global, words: &str) -> Result<Client, Fault> {
     let (kind, id) = halves(words, " ");
     match u64::from_str_radix(id, 16) {
@@ -62,7 +62,7 @@ fn start_by(alloc: Global, words: &str) -> Result<Client, Fault> {
     }
 }
 
-// Returns true if the only datagram of a start at its beginning has this answer.
+// Returns true if the only datagram of an instance at its beginning has this answer.
 fn greets(alloc: Global, server: &mut Server, client: &mut Client, told: &str) -> bool {
     match only_of(alloc, client, 0) {
         Ok(first) => answers(alloc, server, at(5001), &first, 0, told),
@@ -85,7 +85,7 @@ fn come_by(alloc: Global, server: &mut Server, words: &str, told: &str) -> bool 
     }
 }
 
-// Returns true if so many starts of a kind arrive without acts, from an id on.
+// Returns true if so many instances of a kind arrive without acts, from an id on.
 fn fill_by(alloc: Global, server: &mut Server, words: &str) -> bool {
     let (kind, rest) = halves(words, " ");
     let mut row = [0; 2];
@@ -114,7 +114,7 @@ fn go_to(sent: &[(Addr, Vec<u8>)], ports: &str) -> bool {
     words.next().is_none()
 }
 
-// Returns true if a start hears all that went to an address, the last of which brings it a newer screen.
+// Returns true if an instance hears all that went to an address, the last of which brings it a newer screen.
 fn hears_all(alloc: Global, client: &mut Client, sent: &[(Addr, Vec<u8>)], address: Addr) -> bool {
     let mut is_new = false;
     for (to, bytes) in sent {
@@ -128,7 +128,7 @@ fn hears_all(alloc: Global, client: &mut Client, sent: &[(Addr, Vec<u8>)], addre
     is_new
 }
 
-// Returns true if a start takes the letter a, or refuses it with this error.
+// Returns true if an instance takes the letter a, or refuses it with this error.
 fn types(client: &mut Client, told: &str) -> bool {
     match client.typed(Act::Key(Key::Char('a'))) {
         Ok(()) => told == "typed",
@@ -136,7 +136,7 @@ fn types(client: &mut Client, told: &str) -> bool {
     }
 }
 
-// Returns true if a start takes so many letters at once, or refuses them with this error.
+// Returns true if an instance takes so many letters at once, or refuses them with this error.
 fn types_all(client: &mut Client, count: u64, told: &str) -> bool {
     let letters = [Act::Key(Key::Char('a')); MOST_TYPED];
     let (some, _) = letters
@@ -156,7 +156,7 @@ fn is_told(due: Option<u64>, told: &str) -> bool {
     }
 }
 
-// Returns true if a server knows so many starts, and so many read-only ones.
+// Returns true if a server knows so many instances, and so many read-only ones.
 fn knows(server: &Server, words: &str) -> bool {
     let mut row = [0; 2];
     reads_numbers(words, &mut row) && row == [server.starts() as u64, server.watchers() as u64]
@@ -232,7 +232,7 @@ impl Stage {
         Ok(go)
     }
 
-    // Returns true if a question to a start has this answer.
+    // Returns true if a question to an instance has this answer.
     fn asks(&mut self, alloc: Global, verb: &str, row: [u64; 3], told: &str) -> bool {
         let [start, number, now] = row;
         let Some(client) = self.starts.get_mut(start as usize) else {

@@ -1,4 +1,4 @@
-//! Where a server sends to, starts of both versions and those that only watch, and datagrams that no core wrote.
+//! Where a server sends to, instances of both versions and those that only watch, and datagrams that no core wrote.
 use crate::stage::first_wrong;
 use std::test::*;
 

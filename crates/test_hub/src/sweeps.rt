@@ -1,6 +1,6 @@
-//! Each beginning of a datagram, and each with one byte changed to every other value, to a server that knows a start of each kind and to
-//! each kind of start, both to the intended end and to the other: a reply or a named refusal, and after a refusal everything goes on as if
-//! nothing had arrived.
+//! Each beginning of a datagram, and each with one byte changed to every other value, to a server that knows an instance of each kind and
+//! to each kind of instance, both to the intended end and to the other: a reply or a named refusal, and after a refusal everything goes on
+//! as if nothing had arrived.
 use crate::calls::{at, is_same, only_of, start_of};
 use roam_cells::Fault;
 use roam_hub::{Addr, Client, Heard, Server};
@@ -8,12 +8,12 @@ use roam_screens::RowShot;
 use std::alloc::Global;
 use std::test::*;
 
-/// A kind of start, and the id of one.
+/// A kind of instance, and the id of one.
 type Start = (&'static str, u64);
 
 const STARTS: [Start; 3] = [("old", 0xA1), ("new", 0xA2), ("watching", 0xA3)];
 
-// The first datagram of a start.
+// The first datagram of an instance.
 fn first_from(alloc: Global, start: Start) -> Result<Vec<u8>, Fault> {
     let mut client = start_of(alloc, start.0, start.1)?;
     only_of(alloc, &mut client, 0)
@@ -60,7 +60,7 @@ trait Stands {
     fn stands(&self, alloc: Global, bytes: &[u8]) -> bool;
 }
 
-/// A server that heard a start of each kind, and the datagrams that it sends then.
+/// A server that heard an instance of each kind, and the datagrams that it sends then.
 #[derive(Drop)]
 struct Served {
     firsts: Vec<Vec<u8>>,
@@ -98,7 +98,7 @@ impl Stands for Served {
     }
 }
 
-/// A start, the datagram that it is sent, and the screen that it shows then.
+/// An instance, the datagram that it is sent, and the screen that it shows then.
 #[derive(Drop)]
 struct Followed {
     start: Start,
@@ -119,7 +119,7 @@ fn last_of(mut sends: Vec<(Addr, Vec<u8>)>) -> Result<Vec<u8>, Fault> {
     Ok(sound)
 }
 
-// Returns the datagrams of a server to a start that it heard, once the program of its pane wrote.
+// Returns the datagrams of a server to an instance that it heard, once the program of its pane wrote.
 fn follow(alloc: Global, server: &mut Server, start: Start) -> Result<Followed, Fault> {
     let first = first_from(alloc, start)?;
     hear_and_write(alloc, server, &first)?;
@@ -134,7 +134,7 @@ fn followed_by(alloc: Global, start: Start) -> Result<Followed, Fault> {
 }
 
 impl Followed {
-    // Returns true if a start shows nothing yet, and then its datagrams.
+    // Returns true if an instance shows nothing yet, and then its datagrams.
     fn goes_on(&self, alloc: Global, client: &mut Client) -> bool {
         let is_kept = client.shown().0 == 0;
         let is_new = client.datagram(alloc, &self.sound, 0) == Ok(Heard::New);
@@ -195,7 +195,7 @@ fn add_letter(
     Ok(())
 }
 
-// Returns the first datagram of a start, and those sent to it as the program of its pane writes these letters, a tick each.
+// Returns the first datagram of an instance, and those sent to it as the program of its pane writes these letters, a tick each.
 fn datagrams_of(alloc: Global, start: Start, letters: &[&str]) -> Result<Vec<Vec<u8>>, Fault> {
     let mut datagrams = Vec::new(alloc);
     datagrams.push(first_from(alloc, start)?)?;
@@ -216,7 +216,7 @@ fn stands_all<S: Stands>(alloc: Global, end: &S, datagrams: &[Vec<u8>]) -> bool 
     true
 }
 
-// Returns true if both ends pass all changes of the datagrams from and to a start.
+// Returns true if both ends pass all changes of the datagrams from and to an instance.
 fn both_stand(alloc: Global, start: Start, letters: &[&str]) -> bool {
     match (
         served_at_first(alloc),

@@ -6,7 +6,7 @@ use roam_hub::{Addr, Client, Server};
 use roam_screens::Seen;
 use std::alloc::Global;
 
-/// Gives the server the datagrams of a client start, and the start those of the server.
+/// Gives the server the datagrams of a client instance, and the instance those of the server.
 pub fn exchange(
     alloc: Global,
     server: &mut Server,
@@ -28,7 +28,7 @@ pub fn exchange(
     Ok(())
 }
 
-/// Returns true if a client start shows a letter of a pane's program as the first screen.
+/// Returns true if a client instance shows a letter of a pane's program as the first screen.
 pub fn is_followed(alloc: Global, server: &mut Server, client: &mut Client) -> Result<bool, Fault> {
     server.pane_bytes(1, b"a")?;
     exchange(alloc, server, client, 0)?;

@@ -517,7 +517,7 @@ fn add_start(alloc: Global, told: &mut Told, number: u32) -> Result<(), AllocErr
     told.add_times(lines.as_str(), 1)
 }
 
-// 65 starts send to the server; the last is one too many, and the first is still known.
+// 65 instances send to the server; the last is one too many, and the first is still known.
 fn many_starts(alloc: Global) -> Result<bool, AllocError> {
     let mut told = Told::new(alloc);
     told.add_times("> session 1 4 8\nok", 1)?;

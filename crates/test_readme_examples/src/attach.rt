@@ -11,7 +11,7 @@ use std::net::Net;
 use std::random::RandomSource;
 use std::time::Clock;
 
-/// Is the start of all terminals that connect to a socket, of the session that is served in a folder, for a thousand rounds.
+/// Is the instance of all terminals that connect to a socket, of the session that is served in a folder, for a thousand rounds.
 pub fn share_a_while<R: Files + Net + Clock + RandomSource + AllocGlobal, W: Write + Drop>(
     rt: &R,
     folder: &str,

@@ -10,7 +10,7 @@ ghost use Rattle.roam_grid.specs.Writing.{put_on};
 use roam_cells::Cell;
 use roam_grid::{Grid, Writing};
 
-/// Writes a cell, and goes to the start of the next row.
+/// Writes a cell, and goes to the instance of the next row.
 pub fn write_line(grid: &mut Grid, cell: Cell, writing: Writing)
     requires no_half { is_right_half cell ≡ false }
     ensures screen { grid.new.screen ≡ after_index (after_carriage_return (put_on cell writing grid.old.screen)) }

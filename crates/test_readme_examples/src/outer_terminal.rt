@@ -5,7 +5,7 @@ use roam_hub::Client;
 use roam_outer_terminal::{Duplex, Silence, Taking, Terminal};
 use std::alloc::Global;
 
-/// Runs a start with one terminal: takes its lines, paints the start's screen, and writes queued bytes. Returns true if it goes on.
+/// Runs an instance with one terminal: takes its lines, paints the instance's screen, and writes queued bytes. Returns true if it goes on.
 pub fn serve_one<S: Duplex + Drop>(
     alloc: Global,
     client: &mut Client,

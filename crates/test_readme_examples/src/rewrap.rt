@@ -6,7 +6,7 @@ use roam_cells::limits::is_size;
 use roam_rewrap::{Reflow, Row, ScreenPosition};
 use std::alloc::Global;
 
-/// How many rows lines take at a width, on a screen of 24 rows with its cursor at the start of the first line.
+/// How many rows lines take at a width, on a screen of 24 rows with its cursor at the instance of the first line.
 pub fn rows_at(alloc: Global, lines: &[Row], cols: u16) -> Result<usize, Fault> {
     if !is_size(24, cols) {
         return Err(Fault::BadSize);

@@ -8,7 +8,7 @@ use roam_shared_client::{Listening, SharedClient};
 use roam_turns::Ports;
 use std::alloc::Global;
 
-/// A start of a session with one terminal: so many rounds of it.
+/// An instance of a session with one terminal: so many rounds of it.
 pub fn share<S: Duplex + Drop, P: Ports + Drop>(
     alloc: Global,
     client: Client,

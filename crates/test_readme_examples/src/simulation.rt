@@ -7,7 +7,7 @@ use roam_simulation::{Event, Reply, World};
 use roam_wire::Version;
 use std::alloc::Global;
 
-/// Returns the server's reply to the first datagram of a client start.
+/// Returns the server's reply to the first datagram of a client instance.
 pub fn first_hop(alloc: Global, session: u64) -> Result<Reply, Fault> {
     let mut world = World::new(alloc, session, 24, 80)?;
     world.step(alloc, &Event::Start(0, 1, Version::Two, false));

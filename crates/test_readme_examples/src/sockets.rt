@@ -7,7 +7,7 @@ use std::alloc::Global;
 use std::fs::Files;
 use std::net::Net;
 
-/// A socket for client starts at a path, with those that wait there.
+/// A socket for client instances at a path, with those that wait there.
 pub fn clients_at<R: Files + Net>(
     rt: &R,
     alloc: Global,

@@ -1,4 +1,4 @@
-//! Tests of the session, and of a world of server and client starts around it, by their public calls alone; and of calls that take no
+//! Tests of the session, and of a world of server and client instances around it, by their public calls alone; and of calls that take no
 //! memory.
 //!
 //! They have a crate of their own, since the gate proves a crate with tests twice.

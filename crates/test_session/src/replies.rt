@@ -14,8 +14,8 @@ use std::alloc::Global;
 use std::test::*;
 
 /// Each event done, and each refused, in a session of 4 by 8, with its bytes and its act spelled out. Datagrams reach the server from ports
-/// of one host. Those that it sends at 20 go to the earlier start in slot 0 and to the later one. Then a read-only start joins them, and
-/// one of version 1 is refused.
+/// of one host. Those that it sends at 20 go to the earlier instance in slot 0 and to the later one. Then a read-only instance joins them,
+/// and one of version 1 is refused.
 const EVENTS: &str = "\
 start 0 161: done
 start 1 161: refused
@@ -99,7 +99,7 @@ fn from(port: u64) -> Addr {
     }
 }
 
-// A start in a slot; there are eight.
+// An instance in a slot; there are eight.
 fn start_of(verb: &str, slot: u8, id: u64) -> Result<Event, Fault>
     ensures handed_in { IfOk result IsHandedIn }
 {
@@ -278,7 +278,7 @@ const OF_LETTERS: Ending = Ending {
     col: 4,
 };
 
-// Returns true if the start in slot 0 shows this ending, as the server does, and no slot from 2 on has a start.
+// Returns true if the instance in slot 0 shows this ending, as the server does, and no slot from 2 on has an instance.
 fn shows(alloc: Global, world: &World, ending: &Ending) -> bool {
     let Some(client) = world.client(0) else {
         return false;

@@ -3,7 +3,7 @@ use roam_acts::{Act, read_act};
 use roam_wire::{Gathered, Gatherer, Up, read_datagram, read_up};
 use std::alloc::Global;
 
-// The instruction of a client start that is one datagram.
+// The instruction of a client instance that is one datagram.
 fn up_of(alloc: Global, datagram: &[u8]) -> Option<Up> {
     let datagram = read_datagram(alloc, datagram).ok()?;
     match Gatherer::new(alloc).take(alloc, &datagram) {

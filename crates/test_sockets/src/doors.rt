@@ -1,4 +1,4 @@
-//! Whole runs of a start whose terminal connects to a door in memory, without a server.
+//! Whole runs of an instance whose terminal connects to a door in memory, without a server.
 use roam_hub::{Addr, Client};
 use roam_outer_terminal::{End, Opaque};
 use roam_shared_client::{Door, Listening, SharedClient, run_shared};
@@ -42,8 +42,8 @@ impl<'a> Write for TypedStream<'a> {
     }
 }
 
-/// A door in memory: its terminal, whether the server has ended, and how often and how many milliseconds the start rested. Its clock goes
-/// on by the whole rest.
+/// A door in memory: its terminal, whether the server has ended, and how often and how many milliseconds the instance rested. Its clock
+/// goes on by the whole rest.
 #[derive(Drop)]
 struct MemoryDoor<'a> {
     ports: MemoryPorts,
@@ -135,8 +135,8 @@ impl Run {
 }
 
 /// No terminal connects; and a terminal types: there is no rest after a line that was taken, and ten milliseconds if the rounds are
-/// counted. One asks for the end, which no server acknowledges: the start goes on for a second. The server has ended: the round after that
-/// ends the run.
+/// counted. One asks for the end, which no server acknowledges: the instance goes on for a second. The server has ended: the round after
+/// that ends the run.
 const RUNS: [Run; 4] = [
     Run {
         text: None,

@@ -1,4 +1,4 @@
-//! A server in memory, whose pane's program writes back its input, for a client start over ports in memory.
+//! A server in memory, whose pane's program writes back its input, for a client instance over ports in memory.
 use roam_hub::{Addr, Server};
 use roam_turns::memory::RecordedCall;
 use roam_turns::{MemoryPorts, serve_turn};
@@ -61,15 +61,15 @@ impl Echoing {
         })
     }
 
-    /// It is this moment at the server, and at a start.
+    /// It is this moment at the server, and at an instance.
     pub fn set_moment(&mut self, start: &mut MemoryPorts, moment: u64) {
         self.moment = moment;
         self.ports.set_moment(moment);
         start.set_moment(moment);
     }
 
-    /// Takes two turns of the server, with the start's datagrams before and the server's behind. Between them its program writes back its
-    /// input.
+    /// Takes two turns of the server, with the instance's datagrams before and the server's behind. Between them its program writes back
+    /// its input.
     pub fn meet(&mut self, alloc: Global, start: &mut MemoryPorts) -> Result<(), Fail> {
         self.moment = self.moment.saturating_add(TURN);
         start.set_moment(self.moment);

@@ -1,8 +1,9 @@
-//! Both programs in one process: a server with panes' programs at Unix sockets, and a client start, over UDP on loopback or over a stream.
+//! Both programs in one process: a server with panes' programs at Unix sockets, and a client instance, over UDP on loopback or over a
+//! stream.
 //!
 //! The events are text. `first` or `second` is a pane's program, with its action. `turns MOMENT` is one turn of each end. `types MOMENT
 //! ACT, ACT`: both are typed, and the server takes them in one turn. `pane N` checks that it is open. `meets`: within a thousand turns the
-//! start shows the `a` of the first program, and that program reads a typed `b`. `closes`: forty times a second pane is split off, and
+//! instance shows the `a` of the first program, and that program reads a typed `b`. `closes`: forty times a second pane is split off, and
 //! closed for the first program, a subscriber.
 ghost use Rattle.std.specs.Prelude.{◌<◌, IfOk, IfSome};
 ghost use Rattle.roam_acts.specs.Acts.{IsInRange};
@@ -28,7 +29,7 @@ pub struct ServerEnd<'a> {
     ports: ServerPorts<&'a HostRuntime>,
 }
 
-/// A client start with its ports, its server's address, and the screen of its terminal.
+/// A client instance with its ports, its server's address, and the screen of its terminal.
 #[derive(Drop)]
 struct StartEnd<'a> {
     client: Client,
@@ -44,7 +45,7 @@ struct Meeting<'a> {
     start: StartEnd<'a>,
 }
 
-/// The first cell that a start shows is this character.
+/// The first cell that an instance shows is this character.
 pub fn shows(client: &Client, c: char) -> bool {
     match client.shown().1.at(1, 1) {
         Some(cell) => cell.chars().as_slice() == [c].as_slice(),
@@ -97,7 +98,7 @@ impl<'a> ServerEnd<'a> {
 }
 
 impl<'a> StartEnd<'a> {
-    // One turn of the client start at a moment, and whether the act was taken.
+    // One turn of the client instance at a moment, and whether the act was taken.
     fn attaches(&mut self, alloc: Global, moment: u64, next: Option<&Act>) -> bool
         requires in_range { IfSome next (λ act. IsInRange act.now) }
         requires behind { IsBehind self.old.outer self.old.client.kept.receiver.newest.number self.old.client.kept.receiver.newest.state }
@@ -145,7 +146,7 @@ impl<'a> Meeting<'a> {
         self.turns(alloc, moment, Some(second)) && is_taken
     }
 
-    // Returns true if, within a thousand turns of 10 ms, the start shows the first program's output, and that program reads the typed
+    // Returns true if, within a thousand turns of 10 ms, the instance shows the first program's output, and that program reads the typed
     // input.
     fn meets(&mut self, alloc: Global, programs: &mut Programs) -> bool
         requires behind { IsBehind self.old.start.outer self.old.start.client.kept.receiver.newest.number
@@ -283,7 +284,7 @@ impl<'a> Meeting<'a> {
     }
 }
 
-// The ports of a client start that reaches a server at its UDP port, or at its socket in a folder.
+// The ports of a client instance that reaches a server at its UDP port, or at its socket in a folder.
 fn client_ports<'a>(
     rt: &'a HostRuntime,
     folder: &str,
@@ -311,7 +312,7 @@ pub fn server_end<'a>(rt: &'a HostRuntime, folder: &str) -> Result<ServerEnd<'a>
     })
 }
 
-/// A client start that reaches a server at its UDP port, or at its socket in a folder.
+/// A client instance that reaches a server at its UDP port, or at its socket in a folder.
 fn start_end<'a>(
     rt: &'a HostRuntime,
     folder: &str,
@@ -329,7 +330,7 @@ fn start_end<'a>(
     })
 }
 
-/// A server whose panes are in a folder, and a client start, which reaches it by UDP or over a stream.
+/// A server whose panes are in a folder, and a client instance, which reaches it by UDP or over a stream.
 fn meeting_of<'a>(rt: &'a HostRuntime, folder: &str, is_stream: bool) -> Result<Meeting<'a>, Fail>
     ensures behind { IfOk result (λ m. IsBehind m.start.outer m.start.client.kept.receiver.newest.number
         m.start.client.kept.receiver.newest.state) }

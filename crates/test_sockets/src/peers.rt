@@ -4,13 +4,13 @@
 //! take `generations N` or `goes`, `gives TEXT` or `gives nothing`, `takes TEXT` or `takes nothing of TEXT`.
 //!
 //! `told` sends subscribers panes 1 and 2, each with its generation, its first row and its rows, or `none`; pane 2 has the focus if it is
-//! open. Behind them are the numbers of client starts that edit and that are read-only, if they are known. `beside` and a moment sends
+//! open. Behind them are the numbers of client instances that edit and that are read-only, if they are known. `beside` and a moment sends
 //! metadata, `clips` and a moment sends clips, and `asks` and a moment sends questions. `moment N is M`: if a clock gives N, the moment is
 //! M.
 //!
 //! `wait ends`: input arrives before 20 seconds have passed. `wait lasts`: none arrives within 50 milliseconds. `wait passes` takes either.
-//! `files are removed` by the ports. `start asks ACT, ACT` or `is quiet`: a datagram of the server's own start arrives with these acts, or
-//! none does.
+//! `files are removed` by the ports. `start asks ACT, ACT` or `is quiet`: a datagram of the server's own instance arrives with these acts,
+//! or none does.
 use crate::acts::has;
 use crate::files::{first_untrue, is_so, ports_for};
 use crate::programs::Programs;
@@ -100,7 +100,7 @@ fn panes(first: Option<ListedPane>, second: Option<ListedPane>) -> PaneList {
     panes
 }
 
-/// Puts how many client starts edit, and how many watch.
+/// Puts how many client instances edit, and how many watch.
 fn counted(panes: &mut PaneList, words: &str) -> Option<()> {
     let (starts, watchers) = words.split_once(' ')?;
     panes.set_clients(starts.parse::<u16>().ok()?);
@@ -133,7 +133,7 @@ fn is_told(alloc: Global, ports: &mut ServerPorts<&HostRuntime>, words: &str) ->
     }
 }
 
-// Returns true if the next datagram of the server's own start has these acts.
+// Returns true if the next datagram of the server's own instance has these acts.
 fn asks(alloc: Global, ports: &mut ServerPorts<&HostRuntime>, acts: &str) -> bool {
     let mut buf = [0u8; 2048];
     match ports.receive(&mut buf) {
@@ -312,7 +312,7 @@ fn first_wrong_of<'a>(rt: &HostRuntime, stories: &'a str) -> Result<Option<&'a s
 /// Normalized bytes: whole, cut, and more of them than fit into the buffer; bytes kept back of one generation never appear in another.
 ///
 /// A subscriber: one pane, two, one of them sized and the other moved, closed and opened again in one turn, closed; and the number of
-/// client starts.
+/// client instances.
 ///
 /// A pane's metadata for a subscriber that asked: as it is, then the news, at most every 20 ms, and bells at most once a second; of another
 /// generation only the news.
@@ -330,15 +330,15 @@ fn first_wrong_of<'a>(rt: &HostRuntime, stories: &'a str) -> Result<Option<&'a s
 /// and the moment is kept until its end does, for at most 50 ms. Nothing is left of it for another generation of the pane.
 ///
 /// Subscribers close panes. Two get the news each. A line may ask for no close, or for one of a pane that is gone, or of the last pane. Of
-/// two closes the second waits until a turn took the first, and a pane that is still open then may be closed again. The acts of a start
-/// follow the unacknowledged ones, and a dropped start takes them with it.
+/// two closes the second waits until a turn took the first, and a pane that is still open then may be closed again. The acts of an instance
+/// follow the unacknowledged ones, and a dropped instance takes them with it.
 ///
 /// A program declares that it is the pty host, and then another one does: the first is disconnected, and the second gets the news.
 ///
 /// There are sixty-three subscribers, and one more place is the pty host's. Another program gets the panes and is disconnected, unless it
 /// is the pty host; one that connects while 65 are there gets nothing.
 ///
-/// Ninety-six client starts are there, and another one is disconnected.
+/// Ninety-six client instances are there, and another one is disconnected.
 ///
 /// A wait ends if a pane's program connects, accepts bytes, or writes, and if a subscriber connects; it lasts if nothing happens.
 const STORIES: &str = "\

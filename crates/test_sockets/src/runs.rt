@@ -7,10 +7,10 @@
 //! A line that ends with `well`, with what was heard, or with an error, is a run with this end. `serves FOLDER` is `serve` at any free
 //! port, `serves alone FOLDER` without one, and `serves taken FOLDER` at one in use. `types PATH` is an `attach` that types the acts of a
 //! file without a server. `types socket PATH` and `types terminals PATH` take the acts of a socket, or of terminals. `watches 3` is a
-//! read-only start with so many turns, and `watches HOW PATH` one with a source of acts, `file`, `socket` or `terminals`. `follows FOLDER`
-//! reaches its server there, and `follows bound FOLDER` while the sockets there are bound. `hears TEXT` types the lines of a stream without
-//! a server. Behind `types` and `watches`, `closed` is a closed outer terminal, `unflushed` one that doesn't flush, and `unread` painted
-//! bytes that nobody reads.
+//! read-only instance with so many turns, and `watches HOW PATH` one with a source of acts, `file`, `socket` or `terminals`. `follows
+//! FOLDER` reaches its server there, and `follows bound FOLDER` while the sockets there are bound. `hears TEXT` types the lines of a stream
+//! without a server. Behind `types` and `watches`, `closed` is a closed outer terminal, `unflushed` one that doesn't flush, and `unread`
+//! painted bytes that nobody reads.
 use crate::files::{first_untrue, ports_in};
 use crate::reasons::{
     are_ends_told, first_untold, is_asked_port_untold, is_port_told, is_unserved,

@@ -2,7 +2,7 @@
 //!
 //! `first` or `second` is a program with its action (`programs`); `there PATH` is a file; `alone PATH` is a private one; `holds PATH TEXT`,
 //! with `/` for LF, is the text of a file; `sources N` is the number of sources that may end the waits of the process. `first comes`: to
-//! the socket bound for acts. `start comes FOLDER`: a client start of a session with a random id, whose terminal types `b` and splits,
+//! the socket bound for acts. `start comes FOLDER`: a client instance of a session with a random id, whose terminal types `b` and splits,
 //! reaches the server there over a stream. `start calls` reaches it at the printed port. `start shows C` in its first cell; `server goes`:
 //! the one beside the run.
 use crate::doors::TypedStream;
@@ -35,7 +35,7 @@ const HOME: Addr = Addr {
     port: 0,
 };
 
-/// A client start with a terminal in memory, and its server's address.
+/// A client instance with a terminal in memory, and its server's address.
 #[derive(Drop)]
 struct Visitor<'a> {
     shared: SharedClient<Opaque<TypedStream<'static>>>,
@@ -210,7 +210,7 @@ impl<'a> Scene<'a> {
         }
     }
 
-    // A turn of the server, and a round of the start.
+    // A turn of the server, and a round of the instance.
     fn take_turns(&mut self) {
         if let Some(server) = &mut self.server {
             server.serves(self.alloc, self.moment);
@@ -231,7 +231,7 @@ impl<'a> Scene<'a> {
         }
     }
 
-    // Returns true if a client start connects, or shows this.
+    // Returns true if a client instance connects, or shows this.
     fn is_start(&mut self, rt: &'a HostRuntime, words: &str) -> bool {
         if let Some(folder) = words.strip_prefix("comes ") {
             self.start = visitor_at(rt, folder);

@@ -1,8 +1,8 @@
-//! The notices of a client start about a silent server, and an outer terminal that accepts nothing, as text.
+//! The notices of a client instance about a silent server, and an outer terminal that accepts nothing, as text.
 //!
 //! A line begins with a moment in milliseconds. The notice of the silence then leaves the outer terminal's screen `known` or `unknown`. Or
 //! `shows TEXT` or `shows nothing for TEXT`; `reads TEXT`, which the outer terminal reads next, with `10 s` and `11 s` for the notices of
-//! as many seconds; `hears`: a datagram arrives at the client start; `is` and the state then.
+//! as many seconds; `hears`: a datagram arrives at the client instance; `is` and the state then.
 use mio::net::UdpSocket;
 use roam_attach::{ClientPorts, Connection};
 use roam_outer_terminal::End;
@@ -71,7 +71,7 @@ fn is_so(ports: &ClientPorts<&HostRuntime, PipeWriter>, words: &str) -> bool {
     }
 }
 
-// The client start sends a datagram, and what answers it comes there.
+// The client instance sends a datagram, and what answers it comes there.
 fn hears(
     rt: &HostRuntime,
     ports: &mut ClientPorts<&HostRuntime, PipeWriter>,
@@ -118,7 +118,7 @@ fn first_undone<'a>(
     Ok(None)
 }
 
-// The first line that isn't so of a client start that paints into a pipe; a line that reads, reads there.
+// The first line that isn't so of a client instance that paints into a pipe; a line that reads, reads there.
 fn first_wrong_read<'a>(rt: &HostRuntime, lines: &'a str) -> Result<Option<&'a str>, Fail> {
     let (mut reader, writer) = pipe(rt)?;
     let connection = Connection::bind(rt, rt.alloc(), Moments::Set(0))?;

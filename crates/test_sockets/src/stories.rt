@@ -1,9 +1,10 @@
 //! Whole runs of `roam serve` and `roam attach`, each with a scene beside it, as text.
 //!
 //! The first line of a story is the run: `serves FOLDER`, or `means FOLDER` with normalized bytes of panes. Beside a server of that folder
-//! it is `hosts FOLDER`, a start whose outer terminals connect to `terminals` there; `calls FOLDER`, such a start that reaches its server
-//! at the port; or `types FOLDER`, one that types the lines of `keys` there and paints an `a`. Lines of a scene follow (`scenes`), all of
-//! which are true before the run is over. Then `ends` and the end: `well`, `heard` or `gone`; and checks of files after it (`files`).
+//! it is `hosts FOLDER`, an instance whose outer terminals connect to `terminals` there; `calls FOLDER`, such an instance that reaches its
+//! server at the port; or `types FOLDER`, one that types the lines of `keys` there and paints an `a`. Lines of a scene follow (`scenes`),
+//! all of which are true before the run is over. Then `ends` and the end: `well`, `heard` or `gone`; and checks of files after it
+//! (`files`).
 use crate::files::first_untrue;
 use crate::meeting::{ServerEnd, server_end};
 use crate::scenes::Scene;
@@ -55,8 +56,8 @@ fn first_left<'a>(scene: Scene<'a>, has_ended_so: bool, end: &'a str) -> Option<
     }
 }
 
-// Returns true if a port was printed. The ids of the session and of the closing start are random; the session's is written whole, or not at
-// all.
+// Returns true if a port was printed. The ids of the session and of the closing instance are random; the session's is written whole, or not
+// at all.
 fn has_served(scene: &Scene<'_>) -> bool {
     let is_told = scene.said().starts_with("roam: port ");
     is_told && scene.chances() == 2 && scene.renames() == 1
@@ -94,7 +95,7 @@ fn server_at<'a>(rt: &'a HostRuntime, folder: &str) -> Result<ServerEnd<'a>, Fai
     server_end(rt, folder)
 }
 
-// Returns a run of a start that reaches its server at a port, or in a folder, where it finds the session.
+// Returns a run of an instance that reaches its server at a port, or in a folder, where it finds the session.
 fn attach_at<'a>(port: Option<u16>, folder: &'a str) -> Attach<'a> {
     let (home, session) = match port {
         Some(port) => (Home::Port(port), Some(0x5E55)),
@@ -121,7 +122,7 @@ fn host(system: &System<'_>, port: Option<u16>, folder: &str, path: &str) -> Res
     run_attach(system, &attach, Vec::new(system.alloc()))
 }
 
-// The first line that isn't so of a story of a start whose terminals come to a socket.
+// The first line that isn't so of a story of an instance whose terminals come to a socket.
 fn first_of_hosting<'a>(rt: &'a HostRuntime, story: &Story<'a>) -> Result<Option<&'a str>, Fail> {
     let path = format!(in rt.alloc(); "{}/terminals", story.folder)?;
     let server = server_at(rt, story.folder)?;
@@ -137,7 +138,7 @@ fn first_of_hosting<'a>(rt: &'a HostRuntime, story: &Story<'a>) -> Result<Option
     Ok(first_left(scene, is_by_chance && is_well, story.end))
 }
 
-// Runs a start that types the lines at a path, and returns true if it painted an `a`.
+// Runs an instance that types the lines at a path, and returns true if it painted an `a`.
 fn type_what_comes(system: &System<'_>, folder: &str, path: &str) -> (Result<End, RunFault>, bool) {
     let attach = Attach {
         typed: Typed::Socket(path),
@@ -148,7 +149,7 @@ fn type_what_comes(system: &System<'_>, folder: &str, path: &str) -> (Result<End
     (ended, painted.contains(&b'a'))
 }
 
-// Returns the first failing line of a story of a start that types the lines of a socket, and paints an `a`.
+// Returns the first failing line of a story of an instance that types the lines of a socket, and paints an `a`.
 fn first_of_typing<'a>(rt: &'a HostRuntime, story: &Story<'a>) -> Result<Option<&'a str>, Fail> {
     let path = format!(in rt.alloc(); "{}/keys", story.folder)?;
     let server = server_at(rt, story.folder)?;
@@ -187,21 +188,21 @@ fn first_wrong<'a>(rt: &'a HostRuntime, text: &'a str) -> Result<Option<&'a str>
 }
 
 /// The folder of a server while it runs and after it; its subscribers, with panes and metadata; a pane that is closed for a subscriber by
-/// the server's own start; and client starts that show the output of a pane's program and type to it. The bytes aren't normalized: a size
-/// of 132 columns means nothing.
+/// the server's own instance; and client instances that show the output of a pane's program and type to it. The bytes aren't normalized: a
+/// size of 132 columns means nothing.
 ///
 /// The same with normalized bytes: it means a blank screen.
 ///
-/// A start hosts a terminal, which sees a program's output, types to it, and asks for the end. The server waits for its twelve sockets, the
-/// start and the program; the start for the server, its own socket and the terminal.
+/// An instance hosts a terminal, which sees a program's output, types to it, and asks for the end. The server waits for its twelve sockets,
+/// the instance and the program; the instance for the server, its own socket and the terminal.
 ///
 /// One reaches its server at a port.
 ///
-/// The server of such a start ends, and so does the start.
+/// The server of such an instance ends, and so does the instance.
 ///
 /// Sixteen terminals are there, and one more gets the reason and is disconnected.
 ///
-/// A start types the lines of a socket, for which it waits too, and ends with it, or with its server.
+/// An instance types the lines of a socket, for which it waits too, and ends with it, or with its server.
 const STORIES: &str = "\
 serves whole
 there whole/p9

@@ -1,8 +1,8 @@
-//! The outer terminals of a client start: their typed lines, and the bytes painted to each.
+//! The outer terminals of a client instance: their typed lines, and the bytes painted to each.
 //!
 //! `round` accepts the terminals at the socket, and takes a round; `acts N` is the number of unacknowledged acts; `terminals N` is the
-//! number of terminals; `ends` and `goes on` say whether the start's end was asked for; `at N` sets the moment. The start hears its server
-//! only at `meets`: five turns of a server whose program writes back its input, 20 milliseconds each, with a round behind each.
+//! number of terminals; `ends` and `goes on` say whether the instance's end was asked for; `at N` sets the moment. The instance hears its
+//! server only at `meets`: five turns of a server whose program writes back its input, 20 milliseconds each, with a round behind each.
 use crate::doors::first_other_run;
 use crate::echoing::Echoing;
 use crate::programs::Programs;
@@ -16,7 +16,7 @@ use std::alloc::Global;
 use std::fs::create_dir;
 use std::test::*;
 
-/// A start with its terminals, the socket at which they come, and programs that come there.
+/// An instance with its terminals, the socket at which they come, and programs that come there.
 #[derive(Drop)]
 struct Place {
     listener: UnixListener,
@@ -124,7 +124,7 @@ fn first_undone<'a>(
     Ok(None)
 }
 
-// The first line that isn't so of a start whose terminals come to a path.
+// The first line that isn't so of an instance whose terminals come to a path.
 fn first_wrong<'a>(rt: &HostRuntime, path: &str, lines: &'a str) -> Result<Option<&'a str>, Fail> {
     match place_at(rt, path)? {
         Some(mut place) => first_undone(rt, &mut place, &mut Programs::new(rt.alloc()), lines),

@@ -1,4 +1,4 @@
-//! A wait ends on input: a client start, its bytes, or a datagram; the wait of a start on an answer, or on a reported source.
+//! A wait ends on input: a client instance, its bytes, or a datagram; the wait of an instance on an answer, or on a reported source.
 use mio::net::UnixStream;
 use roam_attach::Connection;
 use roam_sockets::{Clients, Moments, Udp, Waits, listen, loopback};
@@ -42,7 +42,7 @@ fn ends_for_a_datagram(rt: &HostRuntime) -> Result<bool, Fail> {
     Ok(is_sent && ends(rt, &mut waits)?)
 }
 
-// Returns true if a start's wait ends long before, or lasts fifty milliseconds.
+// Returns true if an instance's wait ends long before, or lasts fifty milliseconds.
 fn is_rested(
     rt: &HostRuntime,
     connection: &mut Connection<&HostRuntime>,

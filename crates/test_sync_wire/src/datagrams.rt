@@ -71,7 +71,7 @@ const LENGTHS: &str = "\
 36 42 1200: none 03ff040004b0
 36 42 1200: fragment 0400040104b0";
 
-// The last of 4,096 fragments, or of 4,097: version 2 allows four times as many, and a start that only watches.
+// The last of 4,096 fragments, or of 4,097: version 2 allows four times as many, and an instance that only watches.
 const LAST: &str = "\
 2 60 0: fragment 0102000000000000000100000000000000a1000000000000000100000000000000010fff1000
 2 60 0: none 0202000000000000000100000000000000a1000000000000000100000000000000010fff1000

@@ -116,7 +116,7 @@ pub fn is_up(alloc: Global, bytes: &[u8], row: [u64; 3], told: &str) -> bool {
     }
 }
 
-// Returns the same of a read-only start: an instruction is one only without acts.
+// Returns the same of a read-only instance: an instruction is one only without acts.
 fn is_watchers(alloc: Global, bytes: &[u8], row: [u64; 3], told: &str) -> bool {
     let told = if row[2] == 0 { told } else { "length" };
     match read_up(alloc, bytes, true) {

@@ -78,7 +78,7 @@ fn next_of(is_due: bool, act: &Act) -> Option<&Act>
     if is_due { Some(act) } else { None }
 }
 
-// Gives the server the datagrams of the starts, takes its turn, and gives them its datagrams. Both programs write in round 2.
+// Gives the server the datagrams of the instances, takes its turn, and gives them its datagrams. Both programs write in round 2.
 fn serve(alloc: Global, stage: &mut Stage, round: u64, fails: u64) -> Result<(), Fault>
     ensures first_client { stage.new.first.client ≡ stage.old.first.client }
     ensures first_outer { stage.new.first.outer ≡ stage.old.first.outer }
@@ -97,7 +97,7 @@ fn serve(alloc: Global, stage: &mut Stage, round: u64, fails: u64) -> Result<(),
     carry_down(&stage.ports, &mut stage.second)
 }
 
-// A round: the first start splits in round 0, and the second types a letter for pane 2 in round 4, after moment 1,000. An act that isn't
+// A round: the first instance splits in round 0, and the second types a letter for pane 2 in round 4, after moment 1,000. An act that isn't
 // taken waits for the next round.
 fn play_round(alloc: Global, stage: &mut Stage, round: u64, failures: Failures) -> Result<(), Fault>
     requires first { IsBehind stage.old.first.outer stage.old.first.client.kept.receiver.newest.number
@@ -150,7 +150,7 @@ fn shows_top(alloc: Global, term: &mut Term, ports: &MemoryPorts) -> bool {
         && matches!(term.shot(alloc, 0), Ok(shot) if has_top(alloc, &shot))
 }
 
-// Returns true if a start shows the last screen, and so does a terminal with all painted bytes.
+// Returns true if an instance shows the last screen, and so does a terminal with all painted bytes.
 fn is_shown(alloc: Global, end: &End) -> bool {
     match Term::new(alloc, 24, 80, 0) {
         Ok(mut term) => has_top(alloc, &end.screen()) && shows_top(alloc, &mut term, end.ports()),
@@ -196,7 +196,7 @@ pub fn has_settled(alloc: Global, stage: &Stage) -> bool {
         && taken(&stage.ports) == (1, true)
 }
 
-/// Both starts show the last screen, and nothing waits for a program.
+/// Both instances show the last screen, and nothing waits for a program.
 pub fn is_right(alloc: Global, stage: &Stage) -> bool {
     has_top(alloc, &stage.first.screen())
         && has_top(alloc, &stage.second.screen())
@@ -227,7 +227,7 @@ fn a_failed_call_of_a_start_is_made_good(rt: HostRuntime) {
     assert_eq!(rt; first_lost(rt.alloc(), Who::Second), None);
 }
 
-// Returns the first pair that isn't made good: a call of the server's turn in a round and one of a start's, in that round or the one
+// Returns the first pair that isn't made good: a call of the server's turn in a round and one of an instance's, in that round or the one
 // before.
 fn first_lost_pair(alloc: Global, starts: Who) -> Option<(u64, u64)> {
     for round in 2..5 {

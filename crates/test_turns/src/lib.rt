@@ -1,4 +1,4 @@
-//! Tests of the turns, over ports in memory and the program's own server and client starts; and of predictions over screens.
+//! Tests of the turns, over ports in memory and the program's own server and client instances; and of predictions over screens.
 //!
 //! They have a crate of their own, since the gate proves a crate with tests twice.
 #![tactic(auto)]

@@ -167,7 +167,7 @@ static OPENED: &str = "\x1Bc\x1B[?25l\x1B[0m\x1B[1;1H\x1B[?25h";
 static STATUS: &str =
     "\x1B[?25l\x1B[24;1H\x1B[0;7m[1]                                                                             \x1B[0m\x1B[1;1H\x1B[?25h";
 
-// The first turn of a start opens its terminal, and sends one datagram of 60 bytes.
+// The first turn of an instance opens its terminal, and sends one datagram of 60 bytes.
 fn opens(alloc: Global, end: &mut End) -> bool
     requires behind { IsBehind end.old.outer end.old.client.kept.receiver.newest.number end.old.client.kept.receiver.newest.state }
     ensures behind { IsBehind end.new.outer end.new.client.kept.receiver.newest.number end.new.client.kept.receiver.newest.state }
@@ -176,7 +176,7 @@ fn opens(alloc: Global, end: &mut End) -> bool
     showed(end.ports(), OPENED) && sent(end.ports()) == (1, 60)
 }
 
-// Gives the server the datagrams of a start, and the start those of the server.
+// Gives the server the datagrams of an instance, and the instance those of the server.
 fn carry(alloc: Global, stage: &mut Stage) -> Result<(), Fault>
     ensures client { stage.new.first.client ≡ stage.old.first.client }
     ensures outer { stage.new.first.outer ≡ stage.old.first.outer }

@@ -1,4 +1,4 @@
-//! A server and two client starts, each with its ports, and a network between them.
+//! A server and two client instances, each with its ports, and a network between them.
 ghost use Rattle.std.specs.Prelude.{◌≡◌, None, IfSome, IfOk};
 ghost use Rattle.roam_acts.specs.Acts.{IsInRange};
 ghost use Rattle.roam_turns.specs.Painting.{IsBehind};
@@ -39,7 +39,7 @@ pub fn carry(
     Ok(from.told().len())
 }
 
-/// A client start with the noted screen of its terminal.
+/// A client instance with the noted screen of its terminal.
 #[derive(Drop)]
 pub struct End {
     client: Client,
@@ -93,14 +93,14 @@ impl End {
     }
 }
 
-/// A server of 24 by 80 and two client starts.
+/// A server of 24 by 80 and two client instances.
 #[derive(Drop)]
 pub struct Stage {
     pub server: Server,
     pub ports: MemoryPorts,
     pub first: End,
     pub second: End,
-    // True if the act of each start was taken.
+    // True if the act of each instance was taken.
     pub is_split: bool,
     pub is_typed: bool,
 }
@@ -139,7 +139,7 @@ pub fn serve_at(alloc: Global, server: &mut Server, ports: &mut MemoryPorts, now
     serve_turn(alloc, server, ports);
 }
 
-/// Gives the server the datagrams of a start.
+/// Gives the server the datagrams of an instance.
 pub fn carry_up(end: &mut End, server: &mut MemoryPorts) -> Result<(), Fault>
     ensures client { end.new.client ≡ end.old.client }
     ensures outer { end.new.outer ≡ end.old.outer }
@@ -148,7 +148,7 @@ pub fn carry_up(end: &mut End, server: &mut MemoryPorts) -> Result<(), Fault>
     Ok(())
 }
 
-/// Gives a start the datagrams of the server.
+/// Gives an instance the datagrams of the server.
 pub fn carry_down(server: &MemoryPorts, end: &mut End) -> Result<(), Fault>
     ensures client { end.new.client ≡ end.old.client }
     ensures outer { end.new.outer ≡ end.old.outer }

@@ -7,7 +7,7 @@ use roam_turns::memory::RecordedCall;
 use roam_turns::{MemoryPorts, Outer, Ports, attach_turn};
 use std::alloc::Global;
 
-/// The first turn of a client start, with its first act; whether the act was taken.
+/// The first turn of a client instance, with its first act; whether the act was taken.
 pub fn begin<P: Ports>(alloc: Global, client: &mut Client, ports: &mut P, server: Addr) -> bool {
     let mut outer = Outer::new();
     attach_turn(
