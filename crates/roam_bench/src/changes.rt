@@ -1,4 +1,4 @@
-//! How fast changes of screens are written and read, in both versions.
+//! How fast diffs of screens are written and read, in both versions.
 use crate::paintings::letters;
 use crate::words;
 use anyhow::bail;
@@ -42,7 +42,7 @@ fn styled(alloc: Global, rows: u16, cols: u16, styles: u32) -> Result<RowShot, F
     styles_of(alloc, &mut term, u32::from(rows) * u32::from(cols), styles)
 }
 
-// The text of a change, written so often.
+// The text of a diff, written so often.
 fn written<S: Synced>(alloc: Global, base: &S, shot: &S, times: u32) -> Result<Vec<u8>, Fault> {
     let mut out = Vec::new(alloc);
     for _ in 0..times {
@@ -98,7 +98,7 @@ fn report<S: Synced + Seen>(
     Ok(())
 }
 
-// Reports a change in version 1, if both screens have one, and in version 2.
+// Reports a diff in version 1, if both screens have one, and in version 2.
 fn report_both(
     rt: &HostRuntime,
     name: &str,
@@ -114,7 +114,7 @@ fn report_both(
     report(rt, name, 2, base, shot, times)
 }
 
-/// The changes of a screen of lines by name, with the bytes that make them.
+/// The diffs of a screen of lines by name, with the bytes that make them.
 static CHANGES: [(&str, &[u8]); 4] = [
     ("equal", b""),
     ("cell", b"\x1B[2;3H~"),
@@ -144,14 +144,14 @@ fn measure_all(
     report_both(rt, "styles", &blank, &shot, times)
 }
 
-// Returns true if the change from a base to a screen leads there.
+// Returns true if the diff from a base to a screen leads there.
 fn leads<S: Synced + Seen>(alloc: Global, base: &S, shot: &S) -> Result<bool, Fault> {
     let text = written(alloc, base, shot, 1)?;
     let made = applied(alloc, base, &text, 1)?;
     Ok(is_same(&made, shot))
 }
 
-/// Writes and applies a change of version 2.
+/// Writes and applies a diff of version 2.
 pub fn try_once(alloc: Global) -> anyhow::Result<()> {
     let blank = RowShot::blank(alloc, 4, 8)?;
     let shot = styled(alloc, 4, 8, 3)?;
@@ -161,7 +161,7 @@ pub fn try_once(alloc: Global) -> anyhow::Result<()> {
     Ok(())
 }
 
-/// Writes and applies each change at the size that the words say, so often.
+/// Writes and applies each diff at the size that the words say, so often.
 pub fn measure(rt: &HostRuntime, words: &mut Args) -> anyhow::Result<()> {
     let rows = words::size(words, "ROWS")?;
     let cols = words::size(words, "COLS")?.min(500);

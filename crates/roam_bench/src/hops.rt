@@ -43,7 +43,7 @@ fn print(rt: &HostRuntime, text: Result<Vec<u8>, Fault>) -> anyhow::Result<()> {
 /// The texts to print.
 #[derive(Clone, Copy)]
 pub enum Texts {
-    /// The change of version 2, that of version 1 between the screens as version 1 shows them, and the painting.
+    /// The diff of version 2, that of version 1 between the screens as version 1 shows them, and the painting.
     Hop,
     /// The painting with moved rows, and the one without.
     Moved,

@@ -1,4 +1,4 @@
-//! Measures a grid, changes and paintings of screens, and the two cores; the scripts of `bench/` run it.
+//! Measures a grid, diffs and paintings of screens, and the two cores; the scripts of `bench/` run it.
 //!
 //! `roam_bench grid MILLIONS` does the work of that many million characters in ten slices. For each slice and way it prints the name, rows,
 //! columns, count and microseconds.
@@ -6,8 +6,8 @@
 //! `roam_bench paint ROWS COLS TIMES` paints an unchanged screen, an echoed key, a scrolled screen and a full one, that many times each. It
 //! prints the name, bytes, TIMES and microseconds.
 //!
-//! `roam_bench update ROWS COLS STYLES TIMES` writes and applies changes of screens in both versions, that many times each. It prints the
-//! version, the change, the cells, TIMES, the microseconds of writing and of applying, and the bytes of the text.
+//! `roam_bench update ROWS COLS STYLES TIMES` writes and applies diffs of screens in both versions, that many times each. It prints the
+//! version, the diff, the cells, TIMES, the microseconds of writing and of applying, and the bytes of the text.
 //!
 //! `roam_bench cores ROWS COLS TIMES` copies a screen, and ticks an idle server with one client instance and with 64. It takes as many
 //! rounds of a tick and its datagrams after one changed row, a scroll, a redraw and a key. It takes as many ticks after a key with one

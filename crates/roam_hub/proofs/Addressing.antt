@@ -76,7 +76,7 @@ applied_one_is base s text e = go (change_read text) e
     go None f = absurd (cc)
     go (Some x) f = shown (screen_by base x) (is_old_screenshot (screen_by base x)) refl f
 
--- a change leads to a screen of its version
+-- a diff leads to a screen of its version
 applied_screen : (v : Version) (base s : Screenshot) (text : List ℕ) → applied_by v base text ≡ Some s → IsSeenBy v s
 applied_screen One base s text e = applied_one_is base s text e
 applied_screen Two base s text e = applied_two_is base s text e

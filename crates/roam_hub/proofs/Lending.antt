@@ -1,4 +1,4 @@
--- A change that is lent is that between a sender's base and its newest.
+-- A diff that is lent is that between a sender's base and its newest.
 use Rattle.std.proofs.Common.{◌≡◌, ℕ, ◌<◌, ◌≤◌, ◌^◌, List, length, Some, sym, ◌∙◌, subst, arith}
 use Rattle.std.specs.Prelude.{slice_index_or}
 use Rattle.roam_screens.specs.Screenshot.{Screenshot}
@@ -53,7 +53,7 @@ module _ (screens : ℕ → Screenshot) (most : ℕ) (v : Version) (s : Sending 
             ∙ sym (λ i. Some (seen_by (l.same i) (screens (to i))));
       }
 
--- a change that was found
+-- a diff that was found
 pub found_leads : (cs xs : List SharedChange) (at : ℕ) (version v : Version) (s : Sending Screenshot) (base new : ℕ)
     → HasChange xs at version base new → xs ≡ cs → version ≡ v → base ≡ s.base.number → new ≡ (newest s).number → Agree v s cs
     → IsChangeFor cs at v s

@@ -192,7 +192,7 @@ pub value_is : (es : List (ℕ × RecordView)) (k x y : ℕ) (v w : RecordView) 
     → slice_get es k ≡ Some (y, w) → w ≡ v
 value_is es k x y v w e f = same_value es k x y v w e f
 
--- ---- the screens of the records and of the changes
+-- ---- the screens of the records and of the diffs
 
 -- of the first of the records that are left
 pub together_first : (es : List (ℕ × RecordView)) (k : ℕ) (e : ℕ × RecordView) (n : ℕ) (s : Screenshot) (cs : List SharedChange)

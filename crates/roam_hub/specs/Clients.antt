@@ -90,7 +90,7 @@ pub record Delivered (version : Version) (text : List ℕ) (old : Typing) (r : R
   pub newer : owes ≡ nat_lt value.old value.new
   pub acts : new ≡ acked_to old value.acked
 
--- the reasons for which a text isn't delivered: it is none; its change is bad; or memory is refused
+-- the reasons for which a text isn't delivered: it is none; its diff is bad; or memory is refused
 pub data NotDelivered (version : Version) (text : List ℕ) (r : Receiving Screenshot) (fault : Fault) : Type 0 where
   unread : (why : Reason) → SaysNoDown text why → fault ≡ BadDatagram why → NotDelivered version text r fault
   bad_change : (v : DownValue) (base : Screenshot) → SaysDown text v → step_for r v.old v.new v.floor ≡ step.New
@@ -108,7 +108,7 @@ pub record IsTextOf (bytes : List ℕ) (d : DatagramValue) : Type 0 where
   pub is : IsDatagram d
   pub spelled : bytes ≡ datagram_text d
 
--- Bytes come: they are no datagram; it is refused; it completes no instruction; its instruction is invalid; its change is bad; the receiver
+-- Bytes come: they are no datagram; it is refused; it completes no instruction; its instruction is invalid; its diff is bad; the receiver
 -- takes its update; or memory is refused for a datagram.
 pub data Hears (v : ClientView) (bytes : List ℕ) (now : ℕ) (result : Result Heard Fault) (new : ClientView)
     : Type 0 where

@@ -1,4 +1,4 @@
--- The parts that records share: the screens of the numbers that were made, and the changes between them.
+-- The parts that records share: the screens of the numbers that were made, and the diffs between them.
 use Rattle.std.specs.Prelude.{◌≡◌, ℕ, ◌<◌, ◌≤◌, List, length, Some}
 use Rattle.std.specs.List.{All, AllByRecursion, HoldsAt}
 use Rattle.roam_screens.specs.Screenshot.{Screenshot}
@@ -33,9 +33,9 @@ pub record HaveScreens (most : ℕ) (screen : Screenshot) (es : List (ℕ × Rec
   pub last : screens most ≡ screen
   pub made : HoldMade screens most es
 
--- ---- changes
+-- ---- diffs
 
--- a change is that between the screens of its two numbers
+-- a diff is that between the screens of its two numbers
 pub record IsBetween (screens : ℕ → Screenshot) (c : SharedChange) : Type 0 where
   pub floor : c.down.floor ≡ c.down.old
   pub rises : c.down.old ≤ c.down.new
@@ -47,46 +47,46 @@ pub record IsBetween (screens : ℕ → Screenshot) (c : SharedChange) : Type 0 
 abbrev pub AreBetween : (ℕ → Screenshot) → List SharedChange → Type 0
 AreBetween screens cs = All (IsBetween screens) cs
 
--- a sender's pairs and changes are of the same screens
+-- a sender's pairs and diffs are of the same screens
 pub record Agree (version : Version) (s : Sending Screenshot) (cs : List SharedChange) : Type 0 where
   pub screens : ℕ → Screenshot
   pub most : ℕ
   pub holds : HoldsMade screens most version s
   pub between : AreBetween screens cs
 
--- of whichever screens the sender's pairs and the changes were, those that there are now are too
+-- of whichever screens the sender's pairs and the diffs were, those that there are now are too
 abbrev pub StayBetween : Version → Sending Screenshot → List SharedChange → List SharedChange → Type 0
 StayBetween version s old new =
     (screens : ℕ → Screenshot) (most : ℕ) → HoldsMade screens most version s → AreBetween screens old → AreBetween screens new
 
--- the records, the screen of the newest number and the changes are of the same screens
+-- the records, the screen of the newest number and the diffs are of the same screens
 pub record GoTogether (most : ℕ) (screen : Screenshot) (es : List (ℕ × RecordView)) (cs : List SharedChange) : Type 0 where
   pub screens : ℕ → Screenshot
   pub last : screens most ≡ screen
   pub made : HoldMade screens most es
   pub between : AreBetween screens cs
 
--- if the record's pairs and the changes were those of some screens, and the newest number has this one, the new ones are too
+-- if the record's pairs and the diffs were those of some screens, and the newest number has this one, the new ones are too
 abbrev pub StayTogether : ℕ → Screenshot → RecordView → List SharedChange → List SharedChange → Type 0
 StayTogether most screen v old new =
     (screens : ℕ → Screenshot) → screens most ≡ screen → HoldsMade screens most v.version v.sender → AreBetween screens old
     → AreBetween screens new
 
--- a change that acknowledges so many acts
+-- a diff that acknowledges so many acts
 abbrev pub with_acked : SharedChange → ℕ → SharedChange
 with_acked c acked = record c { down = record c.down { acked = acked } }
 
--- a change of a version leads from one number to another
+-- a diff of a version leads from one number to another
 pub record IsFromTo (version : Version) (old new : ℕ) (c : SharedChange) : Type 0 where
   pub same : c.version ≡ version
   pub from : c.down.old ≡ old
   pub to : c.down.new ≡ new
 
--- such a change is at a place
+-- such a diff is at a place
 abbrev pub HasChange : List SharedChange → ℕ → Version → ℕ → ℕ → Type 0
 HasChange cs at version old new = (at < length cs) × HoldsAt (IsFromTo version old new) cs at
 
--- a change leads from a sender's base to its newest
+-- a diff leads from a sender's base to its newest
 pub record LeadsOver (version : Version) (s : Sending Screenshot) (c : SharedChange) : Type 0 where
   pub same : c.version ≡ version
   pub old : c.down.old ≡ s.base.number
@@ -96,6 +96,6 @@ pub record LeadsOver (version : Version) (s : Sending Screenshot) (c : SharedCha
   pub change : c.down.change.items ≡ difference_by version s.base.state (newest s).state
   pub leads : applied_by version s.base.state c.down.change.items ≡ Some (newest s).state
 
--- such a change is at a place
+-- such a diff is at a place
 abbrev pub IsChangeFor : List SharedChange → ℕ → Version → Sending Screenshot → Type 0
 IsChangeFor cs at version s = (at < length cs) × HoldsAt (LeadsOver version s) cs at

@@ -46,7 +46,7 @@ pub enum Heard {
     /// Nothing that isn't known: the fragment was there, or a higher instruction has come since, or the screen isn't newer.
     Old,
 
-    /// Its change starts at a screen that isn't here.
+    /// Its diff starts at a screen that isn't here.
     Gap,
 
     /// The screen is newer, and shown from now on.

@@ -291,7 +291,7 @@ impl AnyReceiver {
         }
     }
 
-    /// Takes an instruction that leads from the state numbered `old` to the one numbered `new`. Refuses a change that leads to no state of
+    /// Takes an instruction that leads from the state numbered `old` to the one numbered `new`. Refuses a diff that leads to no state of
     /// its version as `BadChange`, and want of memory.
     pub fn take(
         &mut self,

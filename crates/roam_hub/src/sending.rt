@@ -17,7 +17,7 @@ use std::alloc::Global;
 
 /// Offers the newest number with its screen to the records from a place on, each if it may need it and as its version shows it. Appends the
 /// texts of the datagrams to those that are sent to, each with its address, and notes that they are sent. The version 1 form of the screen
-/// is made once, when it is needed, and so is the change of a version between two numbers; both are kept for later records. `Spent` exactly
+/// is made once, when it is needed, and so is the diff of a version between two numbers; both are kept for later records. `Spent` exactly
 /// if a number that one of them needs would be 2^62; `OutOfMemory`. An error leaves all records as they were: each is settled once all
 /// after it are prepared.
 pub fn send_from(

@@ -15,14 +15,14 @@ use roam_screens::RowShot1;
 use roam_wire::{Down, Version, write_down};
 use std::alloc::Global;
 
-/// The change between two numbers in a version, as in an instruction; the number of acknowledged acts is each record's own.
+/// The diff between two numbers in a version, as in an instruction; the number of acknowledged acts is each record's own.
 #[derive(Drop)]
 pub struct SharedChange {
     pub version: Version,
     pub down: Down,
 }
 
-/// The parts that a tick made so far: the version 1 form of its screen, and the changes.
+/// The parts that a tick made so far: the version 1 form of its screen, and the diffs.
 #[derive(Drop)]
 pub struct Shared {
     pub narrow: Option<RowShot1>,
@@ -42,14 +42,14 @@ impl Shared {
     }
 }
 
-// Returns true if a change is of a version and leads from one number to another.
+// Returns true if a diff is of a version and leads from one number to another.
 fn is_between(change: &SharedChange, version: Version, old: u64, new: u64) -> bool
     ensures from_to { IsTrue result → IsFromTo version old new change.now }
 {
     change.down.old == old && change.down.new == new && is_same_version(change.version, version)
 }
 
-// Returns the place of the change of a version from one number to another, if it was made.
+// Returns the place of the diff of a version from one number to another, if it was made.
 fn place_of(changes: &[SharedChange], version: Version, old: u64, new: u64) -> Option<usize>
     ensures has { IfSome result (λ at. HasChange changes.now at version old new) }
 {
@@ -61,7 +61,7 @@ fn place_of(changes: &[SharedChange], version: Version, old: u64, new: u64) -> O
     None
 }
 
-// Returns the place of the change from a sender's base to its newest, which is made if it isn't there. `OutOfMemory`.
+// Returns the place of the diff from a sender's base to its newest, which is made if it isn't there. `OutOfMemory`.
 fn made_at(
     alloc: Global,
     sender: &AnySender,
@@ -91,7 +91,7 @@ fn made_at(
     Ok(changes.len() - 1)
 }
 
-// The text of an instruction with a change, which acknowledges so many acts. Refuses want of memory.
+// The text of an instruction with a diff, which acknowledges so many acts. Refuses want of memory.
 fn text_with(alloc: Global, change: &mut SharedChange, acked: u64) -> Result<Vec<u8>, Fault>
     requires limits { IsDown (down_value (with_acked change.old acked).down) }
     ensures same { change.new ≡ with_acked change.old acked }
@@ -102,7 +102,7 @@ fn text_with(alloc: Global, change: &mut SharedChange, acked: u64) -> Result<Vec
     write_down(alloc, &change.down)
 }
 
-/// Returns the text of the instruction from a sender's base to its newest, which acknowledges so many acts. The change is made if there is
+/// Returns the text of the instruction from a sender's base to its newest, which acknowledges so many acts. The diff is made if there is
 /// none of this version between these numbers, and kept for the next. `OutOfMemory`.
 pub fn text_of(
     alloc: Global,

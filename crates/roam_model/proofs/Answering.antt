@@ -326,7 +326,7 @@ delivers_one v c r r' u d e = go (step_for c u.old u.new u.floor) refl
         let earlier = a.earlier ∙ sym b.earlier in
         λ i. record { earlier = earlier i; newest = record { number = number i; state = state i } }
 
--- its change is bad, or the receiver hears its update
+-- its diff is bad, or the receiver hears its update
 pub record IsBad (w : World) (id : ℕ) (u : DownValue) : Type 0 where
   pub new : step_of (w.clients id).kept u ≡ step.New
   pub base : Screenshot

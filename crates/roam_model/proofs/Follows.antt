@@ -76,7 +76,7 @@ at_most_eight w h =
       senders = (λ id. (h.links id).in_step.sender_few);
     }
 
--- a change of an instruction that was sent is a good one
+-- a diff of an instruction that was sent is a good one
 pub good_change : (w : World) (id : ℕ) (v : DownValue) (base : Screenshot)
     → Rattle.roam_model.specs.Lists.IsIn v (w.server.records id).instructions
     → state_at v.old (pairs (w.clients id).kept.receiver) ≡ Some base

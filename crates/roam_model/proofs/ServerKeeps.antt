@@ -291,7 +291,7 @@ module _ (size : SessionSize) (log : List Entry) (cuts : List ℕ) (taken : List
       let top = top_true (IsScreenOf c.kept.version size log cuts) (holds_after r n s now) offer_holds.truth.sender in
       subst (IsSeenBy c.kept.version) (sym top.same) (screens c.kept.version (newest (holds_after r n s now)).number top.made)
 
-  -- the change that is sent leads from the base to the newest
+  -- the diff that is sent leads from the base to the newest
   change_leads : r.known ≡ true → IsChange (applied_by c.kept.version) (holds_after r n s now) (down_to r n s now).change
   change_leads known = subst (λ (v : Version). applied_by c.kept.version (holds_after r n s now).base.state
       (difference_by v (holds_after r n s now).base.state (newest (holds_after r n s now)).state) ≡ Some (newest (holds_after r n s now)).state)

@@ -35,7 +35,7 @@ first_seen One = old_blank
 first_seen Two = blank_is_screenshot 24 80 (record
     { least_rows = omega arith; most_rows = omega arith; least_columns = omega arith; most_columns = omega arith })
 
--- the change to a screen leads there
+-- the diff to a screen leads there
 pub difference_leads : (v : Version) (base s : Screenshot) → IsSeenBy v s → applied_by v base (difference_by v base s) ≡ Some s
 difference_leads One base s is = leads_one base s is
 difference_leads Two base s is = leads_two base s is

@@ -70,7 +70,7 @@ pub record HoldAtMostEight (w : World) : Type 0 where
   pub receivers : (id : ℕ) → length (pairs (w.clients id).kept.receiver) ≤ most_held
   pub senders : (id : ℕ) → count (w.server.records id).sender ≤ most_held
 
--- no datagram that comes to a client instance leaves a gap or has a bad change, whatever was lost, late or repeated
+-- no datagram that comes to a client instance leaves a gap or has a bad diff, whatever was lost, late or repeated
 abbrev pub LeavesNoGap : World → Type 0
 LeavesNoGap w = (slot k now : ℕ) (reply : Reply) (w' : World) → wstep w (ToClient slot k now) reply w'
     → ((reply ≡ Heard IsGap) → ⊥) × ((reply ≡ Failed BadChange) → ⊥)

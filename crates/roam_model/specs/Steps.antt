@@ -117,7 +117,7 @@ pub data ToServerStep (w : World) (k : ℕ) (from : Address) (now : ℕ) (reply 
   no_memory : reply ≡ Stopped OutOfMemory 0 → w' ≡ w → ToServerStep w k from now reply w'
 
 -- A datagram comes to a client instance: none in the slot; it was never sent; it is refused; it completes no instruction; its instruction
--- is invalid; its change is bad; or the receiver takes its update.
+-- is invalid; its diff is bad; or the receiver takes its update.
 pub data ToClientStep (w : World) (slot k now : ℕ) (reply : Reply) (w' : World) : Type 0 where
   empty_slot : w.slots slot ≡ None
       → reply ≡ Refused → w' ≡ w → ToClientStep w slot k now reply w'

@@ -49,7 +49,7 @@ holds_after r n s now = if is_offered r n now then offered r.sender n s else r.s
 unfoldable pub sends : Record → ℕ → Screenshot → ℕ → Bool
 sends r n s now = is_live r now && (is_due (holds_after r n s now) now || is_overdue r.owed now)
 
--- the instruction of a sender: the change from its base to its newest, and how many acts were taken
+-- the instruction of a sender: the diff from its base to its newest, and how many acts were taken
 abbrev pub down_from : Version → Sending Screenshot → ℕ → DownValue
 down_from v s taken =
     record {

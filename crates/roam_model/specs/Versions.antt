@@ -22,7 +22,7 @@ abbrev pub IsSeenBy : Version → Screenshot → Type 0
 IsSeenBy One s = IsOldScreenshot s
 IsSeenBy Two s = IsScreenshot s
 
--- the change in the text of a version, and its result on a base
+-- the diff in the text of a version, and its result on a base
 abbrev pub difference_by : Version → Screenshot → Screenshot → List ℕ
 difference_by One base s = difference_one base s
 difference_by Two base s = difference_two base s

@@ -33,7 +33,7 @@ pub fn what_always_holds()
 {}
 
 /// After every list of events: each pair of either end is a number with its screen, and neither end ever has a ninth pair. No datagram that
-/// was sent leaves a gap or has a bad change, whenever and however often it comes.
+/// was sent leaves a gap or has a bad diff, whenever and however often it comes.
 pub fn links_stay_true()
     ensures pairs { Always HoldTrueScreens }
     ensures eight { Always HoldAtMostEight }

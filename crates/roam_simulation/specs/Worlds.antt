@@ -100,7 +100,7 @@ pub record ShowsSession (v : WorldView) (w : World) : Type 0 where
       → c.kept.receiver.newest.state ≡ screen c.kept.version w.server.size w.server.log w.server.cuts c.kept.receiver.newest.number
   pub acts : TakesActsInOrder w
 
--- a datagram to a client instance isn't answered by a gap or a bad change
+-- a datagram to a client instance isn't answered by a gap or a bad diff
 abbrev pub IsNoGap : Event → Reply → Type 0
 IsNoGap (ToClient slot number now) reply = ((reply ≡ Heard IsGap) → ⊥) × ((reply ≡ Failed BadChange) → ⊥)
 IsNoGap _ reply = Unit {0}

@@ -289,7 +289,7 @@ impl World {
     /// Does one event, and returns its reply. The caller's conditions: the numbers of an act are in their ranges, and a client instances in
     /// a slot of 0 to 7. `Refused` and `Fault` leave everything as it was. `Stopped` at a full queue or at want of memory keeps the acts
     /// that were taken before, and the moment of the instance's datagram. From each world that it modelled, the event with its reply leads
-    /// to one that it models afterwards. No datagram that comes to an instance leaves a gap or has a bad change.
+    /// to one that it models afterwards. No datagram that comes to an instance leaves a gap or has a bad diff.
     pub fn step(&mut self, alloc: Global, event: &Event) -> Reply
         requires handed_in { IsHandedIn event.now }
         ensures stands { (session : ℕ) (size : SessionSize) (es : List EventOf) (rs : List ReplyOf)

@@ -162,7 +162,7 @@ module _ {S : Type 0} (s : Sending S) (r : Receiving S) (WasSent : Update → Ty
         window = l.window;
       }
 
-  -- the newest is sent at a moment, with whatever change
+  -- the newest is sent at a moment, with whatever diff
   pub in_step_sent : (IsSentNow : Update → Type 0) (now : ℕ) (change : List ℕ)
       → ((u : Update) → IsSentNow u → WasSent u ⊎ (u ≡ update_of s change)) → AreInStep (sent_at s now) r IsSentNow WasAnswered
   in_step_sent IsSentNow now change only =

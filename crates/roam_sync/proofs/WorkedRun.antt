@@ -6,7 +6,7 @@ use Rattle.roam_sync.specs.Receivers.{Receiving}
 use Rattle.roam_sync.specs.Links.{Update, update_of, Hears, numbers_held, numbers_had}
 use Rattle.roam_sync.specs.Laws.{Link, begun, Event, Offer, Send, Deliver, Answer, Acknowledge, Runs}
 
--- a change is the new number
+-- a diff is the new number
 abbrev applied : ℕ → List ℕ → Option ℕ
 applied base [] = None
 applied base (n ∷ rest) = Some n

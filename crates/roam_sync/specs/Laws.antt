@@ -23,7 +23,7 @@ begun state = record { sender = sender_start state; receiver = receiver_start st
 pub data Event : Type 0 where
   -- the state of this number is offered
   Offer : ℕ → Event
-  -- the newest is sent at this moment, with this change
+  -- the newest is sent at this moment, with this diff
   Send : ℕ → List ℕ → Event
   -- an update that was ever sent comes to the receiver, and is new
   Deliver : Update → Event
@@ -97,7 +97,7 @@ abbrev pub NoUpdateMakesAGap : {S : Type 0} → (S → List ℕ → Option S) �
 NoUpdateMakesAGap {S} applied = (states : ℕ → S) (events : List Event) (link : Link S) → Runs applied states events link
     → (u : Update) → Contains link.updates u → step_for link.receiver u.old u.new u.floor ≢ step.Gap
 
--- whatever update comes that was ever sent, its change leads from the state that the receiver has to the state of its new number
+-- whatever update comes that was ever sent, its diff leads from the state that the receiver has to the state of its new number
 abbrev pub NoChangeIsBad : {S : Type 0} → (S → List ℕ → Option S) → Type 0
 NoChangeIsBad {S} applied = (states : ℕ → S) (events : List Event) (link : Link S) → Runs applied states events link
     → (u : Update) → Contains link.updates u → (base : S) → state_at u.old (pairs link.receiver) ≡ Some base

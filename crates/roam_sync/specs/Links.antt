@@ -13,11 +13,11 @@ pub record Update : Type 0 where
   pub floor : ℕ
   pub change : List ℕ
 
--- the update with this change that leads from the base to the newest, and lets all below the base be dropped
+-- the update with this diff that leads from the base to the newest, and lets all below the base be dropped
 abbrev pub update_of : {S : Type 0} → Sending S → List ℕ → Update
 update_of s change = record { old = s.base.number; new = (newest s).number; floor = s.base.number; change = change }
 
--- a change that leads from the base to the newest
+-- a diff that leads from the base to the newest
 abbrev pub IsChange : {S : Type 0} → (S → List ℕ → Option S) → Sending S → List ℕ → Type 0
 IsChange applied s change = applied s.base.state change ≡ Option.Some (newest s).state
 

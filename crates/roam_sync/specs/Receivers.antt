@@ -45,7 +45,7 @@ step_for r old new floor =
     else if nat_le most_held (length (from_floor floor (pairs r))) then step.Gap
     else step.New
 
--- A new state is taken: the change is applied to the state with the number old, and pairs below floor are dropped.
+-- A new state is taken: the diff is applied to the state with the number old, and pairs below floor are dropped.
 pub record Takes {S : Type 0} (applied : S → List ℕ → Option S) (r : Receiving S) (old new floor : ℕ) (change : List ℕ)
     (r' : Receiving S) : Type 0 where
   pub base : S

@@ -17,7 +17,7 @@ pub fn both_ends_agree<S: Synced>()
     ensures updates { UpdatesLeadOn S.applied }
 {}
 
-/// After every list of events of one link, any update that was ever sent makes no gap and has no bad change, and neither end ever has a
+/// After every list of events of one link, any update that was ever sent makes no gap and has no bad diff, and neither end ever has a
 /// ninth pair.
 pub fn each_update_is_welcome<S: Synced>()
     ensures gap { NoUpdateMakesAGap S.applied }

@@ -1,7 +1,7 @@
 //! The two ends of a link of numbered states, over any lawful state.
 //!
 //! The model is Mosh's State Synchronization Protocol. This project's profile deviates in three points. A sender keeps at most eight states
-//! and drops none without an acknowledgement. A change is always against the base, which the other end is known to have. An end measures no
+//! and drops none without an acknowledgement. A diff is always against the base, which the other end is known to have. An end measures no
 //! time.
 #![tactic(auto)]
 

@@ -68,7 +68,7 @@ impl<S: Synced> Receiver<S> {
     }
 
     /// Takes an instruction that leads from the state numbered `old` to the one numbered `new`. `Old` if that isn't above the newest. `Gap`
-    /// if the old state isn't there, or there would be a ninth after those below `floor` are dropped. Else the change is applied to a copy
+    /// if the old state isn't there, or there would be a ninth after those below `floor` are dropped. Else the diff is applied to a copy
     /// of the old state. `BadChange` if it leads to no state, `OutOfMemory`.
     pub fn take(
         &mut self,
@@ -84,7 +84,7 @@ impl<S: Synced> Receiver<S> {
         ensures answer { IfOk result (λ step. step ≡ step_for self.old old new floor) }
         // An instruction that isn't new changes nothing.
         ensures same { OnOk result (step_for self.old old new floor ≢ Step.New → self.new ≡ self.old) }
-        // A new one's change is applied to the state with its old number.
+        // A new one's diff is applied to the state with its old number.
         ensures taken { result ≡ Ok Step.New → Takes S.applied self.old old new floor change.now self.new }
         ensures bad { IsErrOf result Fault.BadChange →
             ((base : S) → state_at old (pairs self.old) ≡ Some base → S.applied base change.now ≡ None) }
@@ -102,7 +102,7 @@ impl<S: Synced> Receiver<S> {
         if kept(self.earlier.as_slice(), &self.newest, floor) >= MOST_HELD {
             return Ok(Step::Gap);
         }
-        // An old change, or one with a gap, was answered above: it takes no memory, and a bad one is not refused.
+        // An old diff, or one with a gap, was answered above: it takes no memory, and a bad one is not refused.
         let mut state = base.copy(alloc)?;
         state.apply(alloc, change)?;
         self.earlier.try_reserve(1)?;

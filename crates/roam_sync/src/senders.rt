@@ -19,7 +19,7 @@ pub struct Held<S> {
     pub sent: bool,
 }
 
-/// The change that leads the other end from the state numbered `old` to the one numbered `new`, and lets it drop the states below `floor`.
+/// The diff that leads the other end from the state numbered `old` to the one numbered `new`, and lets it drop the states below `floor`.
 #[derive(Drop)]
 pub struct Instruction {
     pub old: u64,

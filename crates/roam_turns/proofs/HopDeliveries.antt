@@ -190,7 +190,7 @@ module _ (session id n : ℕ) (c : Client) (r : Record) (shot : Screenshot) (rea
       let e : nat_le 8 (length (from_floor r.sender.base.number (pairs c.kept.receiver))) ≡ false = grind (arith, nat_tests) in
       rw (a, ready.base, e) refl
 
-  -- the change leads from the base to the screen
+  -- the diff leads from the base to the screen
   leads : (base : Screenshot) → state_at r.sender.base.number (pairs c.kept.receiver) ≡ Some base
       → applied_by c.kept.version base (told r n shot).change ≡ Some shot
   leads base at =

@@ -182,7 +182,7 @@ is_to d id client lt = tells_client d (subst (λ (k : ℕ). k < 2 ^ 64) (sym cli
 
 -- ---- a record to which a number is offered
 
--- its instruction: the change from its base to the number's screen
+-- its instruction: the diff from its base to the number's screen
 abbrev pub told : Record → ℕ → Screenshot → DownValue
 told r n shot =
     record {

@@ -1,4 +1,4 @@
--- How long a change's text with a table may be: 33 bytes a place, of which 9 are in the table, and 16.
+-- How long a diff's text with a table may be: 33 bytes a place, of which 9 are in the table, and 16.
 use Rattle.std.proofs.Common.{◌≡◌, ℕ, ◌+◌, ◌*◌, ◌≤◌, Bool, true, false, List, [], ◌∷◌, ◌++◌, length, refl, sym, ap, ◌∙◌, arith, inl, inr, length-append}
 use Rattle.std.specs.Prelude.{All}
 use Rattle.std.proofs.lemmas.Bool.{cases_Bool}
@@ -79,7 +79,7 @@ module _ (table : List Style) where
             omega (arith, more, is, cell)
       ]
 
--- a change has at most 3,300,016 bytes
+-- a diff has at most 3,300,016 bytes
 length_table : (table : List Style) → length (table_text table) ≡ 9 * length table
 length_table [] = refl
 length_table (s ∷ table) = omega (arith, length-append (entry_text s) (table_text table), length_entry s, length_table table)

@@ -1,4 +1,4 @@
--- A spelled change is read again. The change from a base to a screen, applied to the base, gives the screen.
+-- A spelled diff is read again. The diff from a base to a screen, applied to the base, gives the screen.
 use Rattle.std.proofs.Common.{◌≡◌, ℕ, ◌+◌, ◌*◌, ◌^◌, ◌<◌, ◌≤◌, Bool, true, false, cond, eqb, leb, ◌&&◌, List, [], ◌∷◌, ◌++◌, length, drop, Option, Some, None, refl, sym, ap, subst, ◌∙◌, arith}
 use Rattle.std.specs.Prelude.{All, option_and_then}
 use Rattle.std.proofs.lemmas.Bool.{le-leb}
@@ -79,7 +79,7 @@ some_change x = Some x
 abbrev made : Head → Option (List Run) → Option Change
 made h o = option_and_then (λ runs. some_change (change_of h runs)) o
 
--- a spelled change is read
+-- a spelled diff is read
 pub change_again : (x : Change) → IsChange x → AreShort x.runs → change_read (change_text x) ≡ some_change x
 change_again x is short =
     let t = change_text x in
@@ -111,7 +111,7 @@ change_again x is short =
 
 -- ---- screens
 
--- the change from a base to a screen is one
+-- the diff from a base to a screen is one
 pub is_change_to : (base s : Screenshot) → IsScreenshot s → IsChange (change_to base s)
 is_change_to base s h =
     let start = sized_cells s.rows s.cols base in

@@ -1,4 +1,4 @@
--- A change that is read is spelled so, and the result of a text on a base is that of the change that it spells.
+-- A diff that is read is spelled so, and the result of a text on a base is that of the diff that it spells.
 use Rattle.std.proofs.Common.{◌≡◌, ℕ, zero, suc, ◌+◌, ◌*◌, ◌<◌, ◌≤◌, eqb, leb, ◌&&◌, List, [], ◌∷◌, ◌++◌, length, drop, Some, refl, sym, ap, subst, ◌∙◌, arith}
 use Rattle.std.specs.Prelude.{All, option_and_then, slice_index}
 use Rattle.std.proofs.lemmas.Bool.{and_parts, eqb-true, leb-true}
@@ -85,7 +85,7 @@ head_spelled text fits long few =
     ∙ ap (λ (x : ℕ). x ∷ drop 9 text) (sym (bit_of (slice_index text 8) (omega (arith, few))))
     ∙ ap (λ (t : List ℕ). bit (eqb (slice_index text 8) 1) ∷ t) (number_4 9 text (omega (arith, long)) fits)))))
 
--- a change that is read is spelled so
+-- a diff that is read is spelled so
 pub change_spelled : (text : List ℕ) (x : Change) → All (λ (b : ℕ). b < 256) text → change_read text ≡ Some x → Spells x text
 change_spelled text x all e =
     let fits = are_bytes text all in
@@ -112,7 +112,7 @@ change_spelled text x all e =
           ∙ ap (λ (t : List ℕ). head_text h ++ t) are.spelled ∙ ap (λ (n : ℕ). head_text (record h { runs = n }) ++ runs_text Whole runs) (sym are.count);
     }))
 
--- two changes with one text are one
+-- two diffs with one text are one
 pub one_change : (x y : Change) (text : List ℕ) → Spells x text → Spells y text → x ≡ y
 one_change x y text h k =
     let both : Some x ≡ Some y =

@@ -1,4 +1,4 @@
--- The text of a change from its parts.
+-- The text of a diff from its parts.
 use Rattle.std.proofs.Common.{◌≡◌, ℕ, ◌*◌, ◌≤◌, List, [], ◌++◌, length, refl, ap, ◌∙◌, arith}
 use Rattle.roam_screens.specs.Screenshot.{Screenshot, IsScreenshot}
 use Rattle.roam_update.specs.ChangeText.{head_of, head_text}
@@ -12,7 +12,7 @@ use Rattle.roam_update.proofs.Said.{styles_are, behind_table, runs_same, runs_wh
 use Rattle.roam_update.proofs.Sizing.{area}
 use Rattle.roam_update.proofs.UsedUp.{count_all}
 
--- a change has no more styles than a screen has places
+-- a diff has no more styles than a screen has places
 pub few_styles : (base s : Screenshot) → IsScreenshot s → length (styles_used [] (change_to base s).runs) ≤ 100000
 few_styles base s h =
     let is = is_change_to base s h in
@@ -20,7 +20,7 @@ few_styles base s h =
     let few = area s.rows s.cols h.size.most_rows h.size.most_columns in
     omega (arith, count, few)
 
--- the parts of a change's text are that text
+-- the parts of a diff's text are that text
 pub joined_is : (base s : Screenshot) (body : List ℕ) → body ≡ [] ++ runs_said (Numbered [] 0) (change_to base s).runs
     → joined_text (head_of (change_to base s)) (styles_used [] (change_to base s).runs) (length (change_to base s).runs) body ≡ difference_two base s
 joined_is base s body e =

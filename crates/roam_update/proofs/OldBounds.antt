@@ -1,4 +1,4 @@
--- How long a change's text may be: 26 bytes a place, and 13.
+-- How long a diff's text may be: 26 bytes a place, and 13.
 use Rattle.std.proofs.Common.{◌≡◌, ℕ, ◌+◌, ◌*◌, ◌≤◌, Bool, true, false, List, [], ◌∷◌, length, refl, sym, ap, ◌∙◌, arith, inl, inr, length-append}
 use Rattle.std.specs.Prelude.{All}
 use Rattle.std.proofs.lemmas.Bool.{cases_Bool}
@@ -72,7 +72,7 @@ bound inside k (b ∷ bs) (c ∷ cs) h p =
           omega (arith, more, is, cell)
     ]
 
--- a change has at most 650,013 bytes
+-- a diff has at most 650,013 bytes
 pub most_one : (base s : Screenshot) → IsOldScreenshot s → length (difference_one base s) ≤ 650013
 most_one base s old =
     let h = old.screenshot in

@@ -59,7 +59,7 @@ short_from inside k (b ∷ bs) (c ∷ cs) h =
 abbrev some_screenshot : Screenshot → Option Screenshot
 some_screenshot s = Some s
 
--- applying the change to the base gives the screen
+-- applying the diff to the base gives the screen
 pub leads_one : (base s : Screenshot) → IsOldScreenshot s → applied_one base (difference_one base s) ≡ Some s
 leads_one base s old =
     let h = old.screenshot in

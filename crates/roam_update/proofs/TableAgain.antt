@@ -1,4 +1,4 @@
--- A change spelled with a table is read again. The change from a base to a screen, applied to the base, gives the screen.
+-- A diff spelled with a table is read again. The diff from a base to a screen, applied to the base, gives the screen.
 use Rattle.std.proofs.Common.{◌≡◌, ℕ, ◌*◌, ◌≤◌, Bool, true, false, cond, leb, ◌&&◌, List, [], ◌∷◌, ◌++◌, length, drop, Option, Some, None, refl, sym, ap, subst, ◌∙◌, arith, append_assoc, length-append, inl, inr}
 use Rattle.std.specs.Prelude.{option_and_then, slice_get}
 use Rattle.std.proofs.lemmas.Bool.{le-leb, cases_Bool}
@@ -114,7 +114,7 @@ some_change x = Some x
 abbrev then_runs : ℕ → Head → Table → Option Change
 then_runs end h table = option_and_then (λ runs. some_change (change_of h runs)) (numbered_read end table)
 
--- a spelled change is read
+-- a spelled diff is read
 pub tabled_again : (x : Change) → IsChange x → tabled_read (tabled_text x) ≡ some_change x
 tabled_again x is =
     let t = tabled_text x in
@@ -165,7 +165,7 @@ tabled_again x is =
 abbrev some_screenshot : Screenshot → Option Screenshot
 some_screenshot s = Some s
 
--- applying the change to the base gives the screen
+-- applying the diff to the base gives the screen
 pub leads_two : (base s : Screenshot) → IsScreenshot s → applied_two base (difference_two base s) ≡ some_screenshot s
 leads_two base s h =
     let start = sized_cells s.rows s.cols base in

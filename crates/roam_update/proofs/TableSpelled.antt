@@ -1,4 +1,4 @@
--- A change that is read with a table is spelled so, and the result of a text on a base is that of the change that it spells.
+-- A diff that is read with a table is spelled so, and the result of a text on a base is that of the diff that it spells.
 use Rattle.std.proofs.Common.{◌≡◌, ℕ, zero, suc, ◌*◌, ◌^◌, ◌<◌, ◌≤◌, Bool, true, false, cond, eqb, leb, ◌&&◌, List, [], ◌∷◌, ◌++◌, length, drop, Option, Some, None, refl, sym, ap, subst, ◌∙◌, arith, append_assoc, inl, inr}
 use Rattle.std.specs.Prelude.{All, option_and_then, slice_index}
 use Rattle.std.proofs.lemmas.Bool.{and_parts, eqb-true, leb-true, cases_Bool}
@@ -142,7 +142,7 @@ front_spelled text fits long few =
     ∙ ap (λ (t : List ℕ). big_bytes 2 (big_number 2 (drop 6 text)) ++ t) (drop_more text 8 0 (omega (arith, long))
     ∙ ap (λ (x : ℕ). x ∷ drop 9 text) (sym (bit_of (slice_index text 8) (omega (arith, few))))))))
 
--- a change that is read is spelled so
+-- a diff that is read is spelled so
 pub tabled_spelled : (text : List ℕ) (x : Change) → All (λ (b : ℕ). b < 256) text → tabled_read text ≡ Some x → SpellsTabled x text
 tabled_spelled text x all e =
     let fits = are_bytes text all in
@@ -202,7 +202,7 @@ few_entries count end n text table runs fits few e f =
     let all = count_all end runs are.apart in
     omega (arith, all, used, is)
 
--- two changes with one text are one
+-- two diffs with one text are one
 pub one_tabled : (x y : Change) (text : List ℕ) → SpellsTabled x text → SpellsTabled y text → x ≡ y
 one_tabled x y text h k =
     let both : Some x ≡ Some y = sym (tabled_again x h.change) ∙ ap tabled_read (sym h.spelled ∙ k.spelled) ∙ tabled_again y k.change in

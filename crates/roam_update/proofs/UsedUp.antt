@@ -317,7 +317,7 @@ count_runs table least end (run ∷ runs) h apart =
     let more = count_runs (styles_after table run.cells) (run.first + length run.cells + 1) end runs (omega (arith, apart.0.to)) apart.1 in
     omega (arith, cells, more, apart.0.from)
 
--- and so of all the runs of a change
+-- and so of all the runs of a diff
 pub count_all : (end : ℕ) (runs : List Run) → AreApart 0 end runs → length (styles_used [] runs) ≤ end
 unfolding styles_used AreApart
 count_all end [] apart = omega arith

@@ -1,4 +1,4 @@
--- A change, and the one text that it has (this project's profile). Numbers are big-endian; a text is a list of bytes.
+-- A diff, and the one text that it has (this project's profile). Numbers are big-endian; a text is a list of bytes.
 use Rattle.std.specs.Prelude.{All, ◌≡◌, ℕ, zero, suc, ◌+◌, ◌*◌, ◌^◌, ◌<◌, Bool, true, ◌&&◌, ◌==◌, nat_le, List, [], ◌∷◌, ◌++◌, length, drop, slice_index, Option, Some, None, option_and_then, if◌then◌else◌}
 use Rattle.std.specs.List.{flat_map}
 use Rattle.byteorder.specs.Endian.{big_bytes, big_number}
@@ -19,7 +19,7 @@ pub record Change : Type 0 where
   pub visible : Bool
   pub runs : List Run
 
--- A change that has a text: its size is one of a screen, its cursor has two bytes for each number, its runs stay on the screen, rise and do
+-- A diff that has a text: its size is one of a screen, its cursor has two bytes for each number, its runs stay on the screen, rise and do
 -- not touch, and a screen may show its cells.
 pub record IsChange (x : Change) : Type 0 where
   pub size : IsSize x.rows x.cols
@@ -42,12 +42,12 @@ head_text h =
     big_bytes 2 h.rows
     ++ (big_bytes 2 h.cols ++ (big_bytes 2 h.cursor_row ++ (big_bytes 2 h.cursor_col ++ (bit h.visible ∷ big_bytes 4 h.runs))))
 
--- the head of a change, before its runs
+-- the head of a diff, before its runs
 abbrev pub head_of : Change → Head
 head_of x =
     record { rows = x.rows; cols = x.cols; cursor_row = x.cursor_row; cursor_col = x.cursor_col; visible = x.visible; runs = length x.runs }
 
--- the text of a change
+-- the text of a diff
 abbrev pub change_text : Change → List ℕ
 change_text x = head_text (head_of x) ++ runs_text Whole x.runs
 
@@ -55,7 +55,7 @@ change_text x = head_text (head_of x) ++ runs_text Whole x.runs
 abbrev pub AreShort : List Run → Type 0
 AreShort runs = All (λ (run : Run). All (λ (g : Glyph). is_short_style g.style ≡ true) run.cells) runs
 
--- the grammar: a change and its text
+-- the grammar: a diff and its text
 pub record Spells (x : Change) (text : List ℕ) : Type 0 where
   pub change : IsChange x
   pub short : AreShort x.runs
@@ -91,11 +91,11 @@ head_at text =
       runs = big_number 4 (drop 9 text);
     }
 
--- whether a change may begin with these bytes: there are 13, the ninth is 0 or 1, and the size is one of a screen
+-- whether a diff may begin with these bytes: there are 13, the ninth is 0 or 1, and the size is one of a screen
 abbrev pub has_head : List ℕ → Bool
 has_head text = nat_le 13 (length text) && (nat_le (slice_index text 8) 1 && is_size (big_number 2 text) (big_number 2 (drop 2 text)))
 
--- the change of a head and runs
+-- the diff of a head and runs
 abbrev pub change_of : Head → List Run → Change
 change_of h runs =
     record { rows = h.rows; cols = h.cols; cursor_row = h.cursor_row; cursor_col = h.cursor_col; visible = h.visible; runs = runs }
@@ -104,7 +104,7 @@ change_of h runs =
 abbrev pub body_read : Head → List ℕ → Option (List Run)
 body_read h text = runs_read Whole h.runs 0 (h.rows * h.cols) (drop 13 text)
 
--- the change that a text spells
+-- the diff that a text spells
 abbrev pub change_read : List ℕ → Option Change
 change_read text =
     if has_head text then option_and_then (λ runs. Some (change_of (head_at text) runs)) (body_read (head_at text) text) else None

@@ -1,4 +1,4 @@
--- The result of a change on a screen, and the change that leads from one screen to another.
+-- The result of a diff on a screen, and the diff that leads from one screen to another.
 use Rattle.std.specs.Prelude.{◌≡◌, ℕ, List, Option, Some, None, option_and_then, if◌then◌else◌}
 use Rattle.roam_screens.specs.Screenshot.{Screenshot, IsScreenshot}
 use Rattle.roam_update.specs.Runs.{runs_between, patched_cells}
@@ -10,7 +10,7 @@ use Rattle.roam_cells.specs.Glyph.{Glyph}
 use Rattle.roam_screens.specs.Narrow.{IsOldScreenshot}
 use Rattle.roam_update.specs.declared.change_text.Head.{Head}
 
--- a base brought to a change's size, with the cells of its runs and its cursor
+-- a base brought to a diff's size, with the cells of its runs and its cursor
 abbrev pub screen_by : Screenshot → Change → Screenshot
 screen_by base x =
     record {
@@ -26,7 +26,7 @@ screen_by base x =
 abbrev pub if_screenshot : Screenshot → Option Screenshot
 if_screenshot s = if is_screenshot s then Some s else None
 
--- the result of a text of version 2 on a base: none if it spells no change, or the result is no screen that can be shown
+-- the result of a text of version 2 on a base: none if it spells no diff, or the result is no screen that can be shown
 abbrev pub applied_two : Screenshot → List ℕ → Option Screenshot
 applied_two base text = option_and_then (λ x. if_screenshot (screen_by base x)) (tabled_read text)
 
@@ -38,14 +38,14 @@ if_old_screenshot s = if is_old_screenshot s then Some s else None
 abbrev pub applied_one : Screenshot → List ℕ → Option Screenshot
 applied_one base text = option_and_then (λ x. if_old_screenshot (screen_by base x)) (change_read text)
 
--- a text spells a change that makes of a base a screen that is shown, and this is the screen
+-- a text spells a diff that makes of a base a screen that is shown, and this is the screen
 pub record Makes (base : Screenshot) (text : List ℕ) (s : Screenshot) : Type 0 where
   pub change : Change
   pub spells : SpellsTabled change text
   pub screen : screen_by base change ≡ s
   pub shown : IsScreenshot s
 
--- the change that names, in maximal runs, exactly the places at which a screen differs from the base brought to its size
+-- the diff that names, in maximal runs, exactly the places at which a screen differs from the base brought to its size
 abbrev pub change_to : Screenshot → Screenshot → Change
 change_to base s =
     record {
@@ -57,22 +57,22 @@ change_to base s =
       runs = runs_between (sized_cells s.rows s.cols base) s.cells;
     }
 
--- the text of version 2 of the change that leads from a base, the first, to a screen
+-- the text of version 2 of the diff that leads from a base, the first, to a screen
 abbrev pub difference_two : Screenshot → Screenshot → List ℕ
 difference_two base s = tabled_text (change_to base s)
 
--- a text of version 1 spells a change that makes of a base a screen of version 1, and this is the screen
+-- a text of version 1 spells a diff that makes of a base a screen of version 1, and this is the screen
 pub record MakesOld (base : Screenshot) (text : List ℕ) (s : Screenshot) : Type 0 where
   pub change : Change
   pub spells : Spells change text
   pub screen : screen_by base change ≡ s
   pub shown : IsOldScreenshot s
 
--- the text of version 1 of the change that leads from a base, the first, to a screen
+-- the text of version 1 of the diff that leads from a base, the first, to a screen
 abbrev pub difference_one : Screenshot → Screenshot → List ℕ
 difference_one base s = change_text (change_to base s)
 
--- the screen of a change's head and cells
+-- the screen of a diff's head and cells
 abbrev pub shown_by : Head → List Glyph → Screenshot
 shown_by h cells =
     record { rows = h.rows; cols = h.cols; cells = cells; cursor_row = h.cursor_row; cursor_col = h.cursor_col; visible = h.visible }

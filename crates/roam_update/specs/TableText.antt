@@ -1,4 +1,4 @@
--- A change that says each style once, in a table, and the one text that it has (this project's profile). Numbers are big-endian; a text is
+-- A diff that says each style once, in a table, and the one text that it has (this project's profile). Numbers are big-endian; a text is
 -- a list of bytes.
 use Rattle.std.specs.Prelude.{◌≡◌, ℕ, zero, suc, ◌*◌, Bool, ◌&&◌, ◌==◌, nat_le, List, [], ◌∷◌, ◌++◌, length, drop, slice_index, Option, Some, None, option_and_then, if◌then◌else◌}
 use Rattle.std.specs.List.{flat_map}
@@ -36,15 +36,15 @@ front_text h =
 abbrev pub joined_text : Head → List Style → ℕ → List ℕ → List ℕ
 joined_text h table n runs = front_text h ++ (big_bytes 3 (length table) ++ (table_text table ++ (big_bytes 4 n ++ runs)))
 
--- the text of a change with a table
+-- the text of a diff with a table
 abbrev pub text_with : List Style → Change → List ℕ
 text_with table x = joined_text (head_of x) table (length x.runs) (runs_text (Numbered table 0) x.runs)
 
--- the text of a change: the table has exactly the styles of its cells, each once, in order of first use
+-- the text of a diff: the table has exactly the styles of its cells, each once, in order of first use
 abbrev pub tabled_text : Change → List ℕ
 tabled_text x = text_with (styles_used [] x.runs) x
 
--- the grammar: a change and its text
+-- the grammar: a diff and its text
 pub record SpellsTabled (x : Change) (text : List ℕ) : Type 0 where
   pub change : IsChange x
   pub spelled : text ≡ tabled_text x
@@ -84,7 +84,7 @@ table_read zero before text = Some (record { styles = before; rest = text })
 table_read (suc n) before text =
     option_and_then (λ s. table_read n (before ++ s ∷ []) (drop 9 text)) (entry_beside before text)
 
--- whether a change may begin with these bytes: there are 12, the ninth is 0 or 1, and the size is one of a screen
+-- whether a diff may begin with these bytes: there are 12, the ninth is 0 or 1, and the size is one of a screen
 abbrev pub has_front : List ℕ → Bool
 has_front text = nat_le 12 (length text) && (nat_le (slice_index text 8) 1 && is_size (big_number 2 text) (big_number 2 (drop 2 text)))
 
@@ -109,7 +109,7 @@ numbered_read end table =
 abbrev pub table_in : List ℕ → Option Table
 table_in text = table_read (big_number 3 (drop 9 text)) [] (drop 12 text)
 
--- the change that a text spells
+-- the diff that a text spells
 abbrev pub tabled_read : List ℕ → Option Change
 tabled_read text =
     if has_front text then

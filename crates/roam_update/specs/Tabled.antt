@@ -10,7 +10,7 @@ use Rattle.roam_update.specs.Styles.{Whole, Numbered}
 use Rattle.roam_update.specs.TableText.{Table, has_front, front_at, entry_read, table_in}
 use Rattle.roam_update.specs.declared.change_text.Head.{Head}
 
--- the head of a text, if a change with a table may begin so
+-- the head of a text, if a diff with a table may begin so
 abbrev pub head_of_text : List ℕ → Option Head
 head_of_text text = if has_front text then Some (front_at text) else None
 
@@ -39,7 +39,7 @@ cells_behind base h table =
 abbrev pub cells_in : Screenshot → Head → List ℕ → Option (List Glyph)
 cells_in base h text = option_and_then (cells_behind base h) (table_in text)
 
--- the head of a text of version 1, if a change may begin so
+-- the head of a text of version 1, if a diff may begin so
 abbrev pub old_head_of_text : List ℕ → Option Head
 old_head_of_text text = if has_head text then Some (head_at text) else None
 

@@ -1,4 +1,4 @@
-//! The text of a change, written and read.
+//! The text of a diff, written and read.
 
 ghost use Rattle.std.specs.Prelude.{◌≡◌, ◌≤◌, ◌+◌, ◌*◌, ◌-◌, ◌<◌, ◌^◌, List, [], ◌++◌, length, slice_range, ◌⊎◌, Some, None, IfOk, IfErr, OnOk, IsErrOf, IsOkUnless};
 ghost use Rattle.roam_screens.specs.Lines.{cells_in_order, AreLines};
@@ -21,7 +21,7 @@ use roam_cells::{Cell, Fault};
 use roam_screens::Seen;
 use std::alloc::{AllocError, Global};
 
-/// The head of a change, before its runs: its size, its cursor's row and column, the cursor's visibility, and the number of runs.
+/// The head of a diff, before its runs: its size, its cursor's row and column, the cursor's visibility, and the number of runs.
 #[derive(Clone, Copy)]
 pub struct Head {
     /// Its rows.
@@ -66,7 +66,7 @@ impl Head {
         bytes
     }
 
-    /// Returns the head of a change's text of version 1, or `None` if no change begins so.
+    /// Returns the head of a diff's text of version 1, or `None` if no diff begins so.
     pub fn read_old(text: &[u8]) -> Option<Head>
         ensures head { result ≡ old_head_of_text text.now }
     {
@@ -88,7 +88,7 @@ impl Head {
         }
     }
 
-    /// Returns the head of a change's text, without a number of runs, or `None` if no change with a table begins so.
+    /// Returns the head of a diff's text, without a number of runs, or `None` if no diff with a table begins so.
     pub fn read(text: &[u8]) -> Option<Head>
         ensures head { result ≡ head_of_text text.now }
     {

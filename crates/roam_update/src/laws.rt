@@ -1,4 +1,4 @@
-//! Laws of changes, over every base, screen and text. Each is the contract of a function with an empty body.
+//! Laws of diffs, over every base, screen and text. Each is the contract of a function with an empty body.
 
 ghost use Rattle.std.specs.Prelude.{All, ◌≡◌, ℕ, ◌≤◌, ◌<◌, ◌*◌, ◌↔◌, List, Some, length, IsTrue};
 ghost use Rattle.roam_screens.specs.Narrow.{IsOldScreenshot};
@@ -11,14 +11,14 @@ ghost use Rattle.roam_update.specs.Shots.{Makes, MakesOld, applied_one, applied_
 ghost use Rattle.roam_update.specs.Sizes.{sized_cells};
 ghost use Rattle.roam_update.specs.Tested.{is_screenshot};
 
-/// The change that leads to a screen has at most 3,300,016 bytes, and in version 1 at most 650,013.
+/// The diff that leads to a screen has at most 3,300,016 bytes, and in version 1 at most 650,013.
 #[tactic(auto, using(crate::proofs::Bounds::most_two, crate::proofs::OldBounds::most_one))]
 pub fn most_bytes()
     ensures most { (base s : Screenshot) → IsScreenshot s → length (difference_two base s) ≤ 3300016 }
     ensures old { (base s : Screenshot) → IsOldScreenshot s → length (difference_one base s) ≤ 650013 }
 {}
 
-/// The change that leads from a base to a screen names exactly the places at which the screen differs from the base brought to its size, in
+/// The diff that leads from a base to a screen names exactly the places at which the screen differs from the base brought to its size, in
 /// runs that rise and do not touch: each of them is maximal.
 pub fn named_places()
     ensures named { (base s : Screenshot) (k : ℕ) → IsScreenshot s → k < length s.cells
@@ -26,7 +26,7 @@ pub fn named_places()
     ensures apart { (base s : Screenshot) → IsScreenshot s → AreApart 0 (s.rows * s.cols) (change_to base s).runs }
 {}
 
-/// The grammar both ways: a spelled change is read as that change, a change that is read spells the text, and two changes with one text are
+/// The grammar both ways: a spelled diff is read as that change, a diff that is read spells the text, and two diffs with one text are
 /// equal.
 pub fn grammar()
     ensures again { (x : Change) (text : List ℕ) → Spells x text → change_read text ≡ Some x }
@@ -41,7 +41,7 @@ pub fn tabled_grammar()
     ensures one { (x y : Change) (text : List ℕ) → SpellsTabled x text → SpellsTabled y text → x ≡ y }
 {}
 
-/// A text makes a screen of a base exactly if it spells a change whose result is a screen that can be shown, and then that one. The test
+/// A text makes a screen of a base exactly if it spells a diff whose result is a screen that can be shown, and then that one. The test
 /// that decides it is true exactly for such screens.
 #[tactic(auto, using(crate::proofs::Testing::screenshot_is, crate::proofs::Testing::is_screenshot_of))]
 pub fn made_screens()

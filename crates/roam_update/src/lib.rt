@@ -1,4 +1,4 @@
-//! States that are kept alike at two ends by changes, and the change of a screen.
+//! States that are kept alike at two ends by diffs, and the diff of a screen.
 #![tactic(auto)]
 
 pub use synced::Synced;

@@ -1,4 +1,4 @@
-//! The change of a screen of version 1, in the text of version 1.
+//! The diff of a screen of version 1, in the text of version 1.
 
 ghost use Rattle.std.specs.Prelude.{◌≡◌, Some, None, OnOk, OnErr, IfErr, IsErrOf, ◌⊎◌};
 ghost use Rattle.roam_update.specs.Shots.{applied_one};

@@ -1,4 +1,4 @@
-//! The change of a screen that shares its rows, in the text of version 2.
+//! The diff of a screen that shares its rows, in the text of version 2.
 
 ghost use Rattle.std.specs.Prelude.{◌≡◌, Some, None, OnOk, OnErr, IfErr, IsErrOf, ◌⊎◌};
 ghost use Rattle.roam_update.specs.Shots.{applied_two};

@@ -1,4 +1,4 @@
-//! The change of a screen, in the texts of both versions.
+//! The diff of a screen, in the texts of both versions.
 
 ghost use Rattle.std.specs.Prelude.{◌≡◌, ◌≤◌, ◌<◌, ◌*◌, ◌++◌, ◌↔◌, List, [], Some, None, length, IfOk, OnOk, IsTrue, IfErr, IsErrOf, ◌⊎◌};
 ghost use Rattle.roam_cells.specs.Glyph.{Glyph};
@@ -72,7 +72,7 @@ fn add_changes<B: Seen, S: Seen>(
     add_runs(text, numbers, &base, shot)
 }
 
-// A change's text from its parts.
+// A diff's text from its parts.
 fn joined(
     alloc: Global,
     head: Head,
@@ -92,7 +92,7 @@ fn joined(
     Ok(text)
 }
 
-// Returns the head of a change to a screen, before its runs.
+// Returns the head of a diff to a screen, before its runs.
 fn head_of<S: Seen>(shot: &S, runs: u32) -> Head
     ensures head { result ≡ record {
       rows = (S.screen shot.now).rows;
@@ -114,7 +114,7 @@ fn head_of<S: Seen>(shot: &S, runs: u32) -> Head
     }
 }
 
-/// Returns the text of version 2 of the change from a base to a screen. The table comes before the runs that fill it, so they are written
+/// Returns the text of version 2 of the diff from a base to a screen. The table comes before the runs that fill it, so they are written
 /// first.
 #[tactic(auto, using(crate::proofs::Joined::few_styles))]
 pub fn change_text<B: Seen, S: Seen>(
@@ -133,7 +133,7 @@ pub fn change_text<B: Seen, S: Seen>(
     Ok(text)
 }
 
-/// The text of version 1 of the change from a base to a screen. The head has the number of runs, so they are written first.
+/// The text of version 1 of the diff from a base to a screen. The head has the number of runs, so they are written first.
 pub fn old_change_text<B: Seen, S: Seen>(
     alloc: Global,
     base: &B,
@@ -149,7 +149,7 @@ pub fn old_change_text<B: Seen, S: Seen>(
     Ok(text)
 }
 
-// Returns the rows of a base brought to a change's size, with its runs put in, if that leaves whole characters. If the size stays, a row
+// Returns the rows of a base brought to a diff's size, with its runs put in, if that leaves whole characters. If the size stays, a row
 // that no run names is that of the base.
 #[tactic(auto, using(crate::proofs::Sizing::area))]
 fn patched(
@@ -175,7 +175,7 @@ fn patched(
     Ok(lines)
 }
 
-// The screen of a change's rows and its cursor.
+// The screen of a diff's rows and its cursor.
 fn screen(head: Head, lines: Vec<Line>) -> RowShot
     requires lines { AreLines head.rows head.cols lines.items }
     requires screen { IsScreenshot (shown_by head (cells_in_order lines.items)) }

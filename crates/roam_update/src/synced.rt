@@ -5,12 +5,12 @@ ghost use Rattle.std.specs.Prelude.{◌≡◌, ◌++◌, ◌⊎◌, ℕ, List, O
 use roam_cells::Fault;
 use std::alloc::Global;
 
-/// A state that another end follows by changes, each a text that leads from a base to a state.
+/// A state that another end follows by diffs, each a text that leads from a base to a state.
 pub trait Synced: Drop {
-    /// The result of a text on a base: none if it is no change, or leads to no state.
+    /// The result of a text on a base: none if it is no diff, or leads to no state.
     ghost applied: { Self → List ℕ → Option Self };
 
-    /// The text of the change that leads from a base, the first, to a state.
+    /// The text of the diff that leads from a base, the first, to a state.
     ghost difference: { Self → Self → List ℕ };
 
     /// The same state in memory of its own.
@@ -18,7 +18,7 @@ pub trait Synced: Drop {
         ensures same { IfOk result (λ state. state ≡ self.now) }
         ensures fault { IsOkUnless result Fault.OutOfMemory };
 
-    /// Adds the text of the change that leads from `base` to this state at the end of `out`.
+    /// Adds the text of the diff that leads from `base` to this state at the end of `out`.
     fn write_change(&self, alloc: Global, base: &Self, out: &mut Vec<u8>) -> Result<(), Fault>
         ensures written { OnOk result (out.new.items ≡ out.old.items ++ difference base.now self.now) }
         // Whoever applies it to the base has this state.

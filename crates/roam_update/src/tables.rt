@@ -1,4 +1,4 @@
-//! The table of styles of a change, as it is read.
+//! The table of styles of a diff, as it is read.
 
 ghost use Rattle.roam_cells.specs.Inks.{style_numbered};
 ghost use Rattle.std.specs.Prelude.{◌≡◌, ◌≤◌, ◌+◌, ◌*◌, [], length, drop, map, IfOk, OnOk, IsSome, IfErr, IsErrOf, ◌⊎◌, Some, None};

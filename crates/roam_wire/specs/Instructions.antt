@@ -70,6 +70,6 @@ pub record HasActs (watches : Bool) (bytes : List ℕ) : Type 0 where
   pub count : (1 ≤ big_number 2 (drop 16 bytes)) × (big_number 2 (drop 16 bytes) ≤ most_acts)
   pub typed : watches ≡ false
 
--- the reason for which bytes are no instruction that has so many before its change or its acts
+-- the reason for which bytes are no instruction that has so many before its diff or its acts
 abbrev pub reason_for : ℕ → List ℕ → Reason
 reason_for head bytes = if nat_lt (length bytes) head then Short else Length

@@ -1,4 +1,4 @@
-//! Instructions in both directions: a change of the screen for a client, acts for the server.
+//! Instructions in both directions: a diff of the screen for a client, acts for the server.
 ghost use Rattle.std.specs.Prelude.{◌≡◌, ◌++◌, ◌⊎◌, IfOk, IfErr, IsErrOf, IsOkUnless, MatchResult};
 ghost use Rattle.std.specs.List.{All};
 ghost use Rattle.roam_acts.specs.Acts.{IsInRange};
@@ -10,7 +10,7 @@ use roam_acts::{Act, read_acts, write_acts};
 use roam_cells::{Fault, Reason};
 use std::alloc::Global;
 
-// The number of bytes before a change.
+// The number of bytes before a diff.
 const DOWN: usize = 32;
 
 // The number of bytes before the acts.
@@ -19,10 +19,10 @@ const UP: usize = 18;
 /// An instruction to a client: how its screen changes, and which of its acts were taken. Each number is below 2^62.
 #[derive(Debug, Drop)]
 pub struct Down {
-    /// The number of the screen that the change is written against, at most `new`.
+    /// The number of the screen that the diff is written against, at most `new`.
     pub old: u64,
 
-    /// The number of the screen that the change leads to.
+    /// The number of the screen that the diff leads to.
     pub new: u64,
 
     /// The lowest number of a screen that may still be written against, at most `old`.
@@ -31,7 +31,7 @@ pub struct Down {
     /// How many of the client's acts were taken.
     pub acked: u64,
 
-    /// The text of the change.
+    /// The text of the diff.
     pub change: Vec<u8>,
 }
 

@@ -3,7 +3,7 @@ use roam_cells::Fault;
 use roam_update::Synced;
 use std::alloc::Global;
 
-/// A number, whose change is its eight bytes.
+/// A number, whose diff is its eight bytes.
 #[derive(Clone, Copy)]
 pub struct Counter {
     pub value: u64,

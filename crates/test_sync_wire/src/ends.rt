@@ -4,7 +4,7 @@
 //! takes the newest back; `acked N` acknowledges a number. `sent T` gives the sender a moment in milliseconds, and `due T` asks whether its
 //! newest is to be sent at one. `len N` is the number of states in the sender, and `tells OLD NEW` the two numbers of its instruction.
 //! `send` keeps the instruction, numbered from 0; after `comes K N` delivers it, the receiver shows the number N. `round N LEN` is a round,
-//! after which the receiver shows N and the sender has so many states. `take OLD NEW FLOOR` gives the receiver a change that no sender
+//! after which the receiver shows N and the sender has so many states. `take OLD NEW FLOOR` gives the receiver a diff that no sender
 //! wrote; `bad` ones have seven bytes.
 ghost use Rattle.std.specs.Prelude.{◌≡◌, ◌≤◌, ℕ, List, OnOk, Ok};
 ghost use Rattle.roam_sync.specs.Senders.{acked, sent_at};
@@ -252,7 +252,7 @@ fn offered<S: Numbered>(alloc: Global, sender: &mut Sender<S>, number: u64) -> &
     }
 }
 
-// Returns true if an instruction leads from one number to another, and its change from the one state to the other.
+// Returns true if an instruction leads from one number to another, and its diff from the one state to the other.
 fn tells<S: Numbered>(
     alloc: Global,
     sender: &Sender<S>,
@@ -309,7 +309,7 @@ fn shows<S: Numbered>(receiver: &Receiver<S>, number: u64) -> bool {
     newest == number && state.is(number)
 }
 
-// Returns a receiver's answer to a change; no update leads from below its floor, or down.
+// Returns a receiver's answer to a diff; no update leads from below its floor, or down.
 fn taken<S: Numbered>(
     alloc: Global,
     receiver: &mut Receiver<S>,
@@ -338,7 +338,7 @@ fn goes_round<S: Numbered>(alloc: Global, link: &mut Link<S>, row: [u64; 3], tol
     step_word(step) == told && shows(&link.receiver, row[0]) && link.sender.len() as u64 == row[1]
 }
 
-// The change that leads from the state of one number to that of another; or seven bytes, which lead nowhere.
+// The diff that leads from the state of one number to that of another; or seven bytes, which lead nowhere.
 fn change_of<S: Numbered>(alloc: Global, old: u64, new: u64, told: &str) -> Result<Vec<u8>, Fault> {
     let mut change = Vec::new(alloc);
     if told == "bad" {
@@ -349,7 +349,7 @@ fn change_of<S: Numbered>(alloc: Global, old: u64, new: u64, told: &str) -> Resu
     Ok(change)
 }
 
-// Returns true if a receiver has this answer to a change, and shows the state of its newest number.
+// Returns true if a receiver has this answer to a diff, and shows the state of its newest number.
 fn takes<S: Numbered>(
     alloc: Global,
     receiver: &mut Receiver<S>,

@@ -6,7 +6,7 @@ use std::alloc::Global;
 use std::test::*;
 
 // The version, the length of a text, the number of its fragments, and the length of the last; or that it is too long. The instruction of
-// the largest change, with a style a cell at 200 by 500, has 2,500,056 bytes.
+// the largest diff, with a style a cell at 200 by 500, has 2,500,056 bytes.
 const CUTS: &str = "\
 1 0: 0 0
 1 1: 1 1

@@ -46,7 +46,7 @@ fn down_by_hand(alloc: Global, row: [u64; 4]) -> Result<Vec<u8>, Fault> {
     Ok(text)
 }
 
-// Returns true if an instruction has these numbers, and the rest of its text as its change.
+// Returns true if an instruction has these numbers, and the rest of its text as its diff.
 fn has_numbers(down: &Down, row: [u64; 4], bytes: &[u8]) -> bool {
     [down.old, down.new, down.floor, down.acked] == row
         && bytes.get(32..) == Some(down.change.as_slice())
@@ -76,7 +76,7 @@ fn holds_down(alloc: Global, line: &str) -> bool {
     false
 }
 
-// Returns true if each beginning is refused before the change, and is an instruction from there on.
+// Returns true if each beginning is refused before the diff, and is an instruction from there on.
 fn downs_begin(alloc: Global) -> bool {
     let row = [1, 2, 1, 3];
     let Ok(text) = down_by_hand(alloc, row) else {

@@ -1,5 +1,5 @@
 //! Tests of synchronization by public calls alone: the two ends of numbered states, and the datagrams and instructions on the network. The
-//! changes in instructions are tested with the painter, in `test_update_paint`.
+//! diffs in instructions are tested with the painter, in `test_update_paint`.
 //!
 //! They have a crate of their own, since the gate proves a crate with tests twice.
 #![tactic(auto)]

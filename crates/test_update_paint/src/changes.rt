@@ -1,4 +1,4 @@
-//! Changes of screens, byte for byte, in version 1: texts that are written again as read, refused texts, and changes between screens. The
+//! Diffs of screens, byte for byte, in version 1: texts that are written again as read, refused texts, and diffs between screens. The
 //! parts that both versions share take any screen.
 //!
 //! Tables are texts of hexadecimal digits in words; a word with `*8` behind it is repeated eight times. A row has a result and a text:
@@ -80,8 +80,8 @@ const SCREENS: &str = "\
 0018 0050 0001 0001 01 00000001 00000000 00000780 01000000000000000079*1920
 0064 00fa 0001 0001 01 00000001 00000000 000061a8 0100000000000000007a*25000";
 
-// Screens that an independent terminal made of random input, with the changes of an independent writer; and the longest one of one letter a
-// cell, with ten bytes a cell, eight a run's head, and thirteen a change.
+// Screens that an independent terminal made of random input, with the diffs of an independent writer; and the longest one of one letter a
+// cell, with ten bytes a cell, eight a run's head, and thirteen a diff.
 const HOPS: &str = "\
 0002 0004 0002 0002 01 00000001 00000004 00000001 010000000000 0000002d
 > 0002 0004 0002 0001 01 00000001 00000004 00000001 010000000000 0000002d
@@ -279,7 +279,7 @@ pub fn holds<S: Synced + Seen>(alloc: Global, blank: &S, old: &str, row: &str) -
     }
 }
 
-// Returns true if the change from one screen to another leads there.
+// Returns true if the diff from one screen to another leads there.
 fn leads<S: Synced + Seen>(alloc: Global, base: &S, shot: &S) -> bool {
     match change(alloc, base, shot) {
         Ok(text) => matches!(made(alloc, base, &text), Ok(copy) if is_same(&copy, shot)),
@@ -296,7 +296,7 @@ fn leads_to_each<S: Synced + Seen>(alloc: Global, blank: &S, base: &S, screens: 
     true
 }
 
-/// Returns true if changes lead from a screen to each of them.
+/// Returns true if diffs lead from a screen to each of them.
 pub fn reaches<S: Synced + Seen>(alloc: Global, blank: &S, screen: &str, screens: &str) -> bool {
     matches!(made_by(alloc, blank, screen), Ok(base) if leads_to_each(alloc, blank, &base, screens))
 }
@@ -456,7 +456,7 @@ fn change_len(alloc: Global, base: &RowShot1, shot: &RowShot1) -> usize {
     }
 }
 
-// Returns the length of the change from a wide character in 8 columns to a blank screen of fewer; 0 if memory is refused.
+// Returns the length of the diff from a wide character in 8 columns to a blank screen of fewer; 0 if memory is refused.
 fn cut_len(alloc: Global, cols: u16, col: u8, flags: u8) -> usize {
     match (wide_at(alloc, col, flags), blank_of(alloc, cols)) {
         (Ok(base), Ok(blank)) => change_len(alloc, &base, &blank),
@@ -532,7 +532,7 @@ fn each_changed_byte_is_refused_or_exact(rt: HostRuntime) {
     }
 }
 
-// A change is added at the end, and turns each corner. A wide cell that is cut is a space in its style, at each column of each width.
+// A diff is added at the end, and turns each corner. A wide cell that is cut is a space in its style, at each column of each width.
 #[test]
 fn ends_corners_and_cuts(rt: HostRuntime) {
     assert!(rt; is_tried(rt.alloc(), Trial::AddedAtTheEnd), "end");
@@ -552,7 +552,7 @@ fn is_done_or_kept(answer: Result<(), Fault>, is_done: bool, is_kept: bool) -> b
     }
 }
 
-/// Returns true if the change from one screen to another is written and applied so, or memory is refused and nothing changes.
+/// Returns true if the diff from one screen to another is written and applied so, or memory is refused and nothing changes.
 pub fn is_changed_or_kept<S: Synced + Seen>(
     alloc: Global,
     old: &mut S,

@@ -1,4 +1,4 @@
-//! The texts that lead from one screen to another, for `roam_bench hops`: the changes of both versions, and the painting; and tests of
+//! The texts that lead from one screen to another, for `roam_bench hops`: the diffs of both versions, and the painting; and tests of
 //! them, by public calls alone.
 //!
 //! They have a crate of their own, since the gate proves a crate with tests twice.
@@ -47,14 +47,14 @@ pub fn screen(alloc: Global, rows: u16, cols: u16, bytes: &[u8]) -> Result<Shot,
     shot_after(alloc, &mut term, bytes)
 }
 
-/// The change that leads from one screen to another.
+/// The diff that leads from one screen to another.
 pub fn change<S: Synced>(alloc: Global, old: &S, new: &S) -> Result<Vec<u8>, Fault> {
     let mut text = Vec::new(alloc);
     new.write_change(alloc, old, &mut text)?;
     Ok(text)
 }
 
-/// The change between what version 1 shows of two screens.
+/// The diff between what version 1 shows of two screens.
 pub fn narrow_change(alloc: Global, old: &RowShot, new: &RowShot) -> Result<Vec<u8>, Fault> {
     let old = RowShot1::of(alloc, old)?;
     let new = RowShot1::of(alloc, new)?;

@@ -1,4 +1,4 @@
-//! Changes of screens of version 2, byte for byte: each style is said once, in a table. Tables of texts are written as those of version 1.
+//! Diffs of screens of version 2, byte for byte: each style is said once, in a table. Tables of texts are written as those of version 1.
 
 use crate::changes::{bytes_of, holds, is_changed_or_kept, is_kept, made, made_by, reaches};
 use crate::narrow_change;
@@ -131,7 +131,7 @@ fn keeps_the_largest(alloc: Global, blank: &RowShot) -> bool {
     matches!(largest(alloc), Ok(text) if text.len() == 2_500_024 && is_kept(alloc, blank, &text))
 }
 
-// Texts that are no change, refused with any memory: nine styles for eight places, a table of eight that is cut short, a missing number of
+// Texts that are no diff, refused with any memory: nine styles for eight places, a table of eight that is cut short, a missing number of
 // runs, and a bad first style.
 const REFUSED_AT_ONCE: &str = "\
 0002 0004 0001 0001 01 000009 000000000000000000 010000000000000000 020000000000000000 030000000000000000 040000000000000000 \
@@ -177,7 +177,7 @@ fn is_cut(old: &RowShot1) -> bool {
     old.rows() == 100 && old.cols() == 250 && old.cursor() == (99, 7) && !old.visible()
 }
 
-// A mixture in both versions; the longest change has a style a cell; a large screen in version 1.
+// A mixture in both versions; the longest diff has a style a cell; a large screen in version 1.
 #[test]
 fn a_mixture_the_longest_change_and_a_large_screen(rt: HostRuntime) {
     let alloc = rt.alloc();
