@@ -109,7 +109,7 @@ def prefix(folder):
     check(f"{len(PREFIXES)} keys may be the prefix", len(PREFIXES) == 30 and len(failed) == before, PREFIXES)
     for name in ("C-B", "C-[", "C-1", "a", "C-", "\x01"):
         told = subprocess.run(tool("mux", "detach"), stderr=subprocess.PIPE, env={**os.environ, "ROAM_PREFIX": name}, check=False).stderr
-        check(f"ROAM_PREFIX={name!r} is refused by name", told.startswith(f"mux: ROAM_PREFIX is {name!r}, ".encode()), told)
+        check(f"ROAM_PREFIX={name!r} is refused by name", told.startswith(f"mux: ROAM_PREFIX is {name!r}; ".encode()), told)
     outer = Outer(tool("mux", "other"), environment={"ROAM_PREFIX": "M-a"})
     check("and before a session is launched", outer.shows("mux: ROAM_PREFIX is 'M-a'") and outer.ends() and not listed(), outer.rows)
     outer = Outer(tool("mux", "other"), environment={"ROAM_PREFIX": "C-a"})
