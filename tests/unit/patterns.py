@@ -107,6 +107,7 @@ KNOWN = {
     ("roam_live/common/tty.py", "unwrapped", "ESC"): WRITES,
     ("roam_live/protocol/spawn_request.py", "RUN", "re"): LINES,
     ("roam_live/host/uploads.py", "STATUS", "re"): LINES,
+    ("roam_live/host/log_skip.py", "without", "ESC"): ROWS,
     ("roam_live/host/rewrap.py", "", "ESC"): "goes to a pane round the text of a rewrap, and reads nothing",
     ("roam_live/host/scrollback.py", "SHOWS_OTHER", "ESC"): "is handed to the scrollback process, and reads nothing",
     ("roam_live/host/scrollback_store.py", "characters", "ESC"): ROWS,

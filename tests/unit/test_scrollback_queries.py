@@ -178,6 +178,15 @@ class Asked(Rows):
         self.loop.turns(3)
         self.assertEqual(read_now(one).split(b"\n")[:2], [b"rows 1 5 2903 100 600", b" 2900"])
 
+    def test_log_back(self):
+        """Rows that are withdrawn and leave again at another width are sent once."""
+        one = self.connect(b"log 1 5 3\n")
+        self.prints(b"rows 0 4 16\n+cd\n ef\n+gh\n+ij\n")
+        self.assertEqual(read_now(one), b"rows 1 5 3 4 16\n+cd\n ef\n+gh\n+ij\n")
+        self.prints(b"back 0 4\n")
+        self.prints(b"rows 0 2 13\n cdef\n+ghijk\n")
+        self.assertEqual(read_now(one), b"rows 1 5 4 1 3\n+k\n")
+        self.assertEqual(self.scrollback.panes[1].rows.end, 5)
 
     def test_log_waits(self):
         """The host waits a second for a slow log reader, and the output of the scrollback process stays unread meanwhile. If the reader

@@ -13,8 +13,8 @@ from roam_live.common.retry import Retry
 from roam_live.common.suppress import suppress
 from roam_live.config.environment import DEFAULT_ROWS, chosen_history
 from roam_live.host.pane_scrollback import PaneScrollback
-from roam_live.host.scrollback_process import (ANSWERS, BACK, CLEARED, LEAST_SIZE, LOST, MOST_SIZE, MOST_TERMINALS, NONE, ROWS, SCREEN,
-                                               TEXT, ScrollbackProcess, ScrollbackRecord)
+from roam_live.host.scrollback_process import (ANSWERS, BACK, CLEARED, LEAST_SIZE, LOST, MOST_RECORD, MOST_SIZE, MOST_TERMINALS, NONE,
+                                               ROWS, SCREEN, TEXT, ScrollbackProcess, ScrollbackRecord)
 from roam_live.host.scrollback_store import PaneRows, RowsRoom, Snapshot
 
 TYPE_CHECKING = False
@@ -103,6 +103,8 @@ class Scrollback:
         # The number of log readers; a call for new rows of a pane with such readers; and a check for a reader to wait for.
         self.logs = 0
         self.logs_came: Callable[[PaneRows], object] = lambda rows: None
+        # A call for rows of such a pane that are withdrawn, from a number on.
+        self.logs_back: Callable[[PaneRows, int, list[bytes]], object] = lambda rows, end, withdrawn: None
         self.waits_for_logs: Callable[[], bool] = lambda: False
         # Called if rows arrived or a pane closed, for a waiting peer; and if panes are read from now on, or aren't any more.
         self.came: Callable[[], object] = lambda: None
@@ -389,7 +391,7 @@ class Scrollback:
         elif record.word == CLEARED:
             pane.rows.clear()
         elif record.word == BACK:
-            pane.rows.withdraw(record.count)
+            self.take_back(pane, record.count)
         elif record.word in ANSWERS:
             self.take_answer(pane, record)
         elif pane.terminal == record.terminal:
@@ -399,6 +401,14 @@ class Scrollback:
             self.came()
         if pane.logs:
             self.logs_came(pane.rows)
+
+    def take_back(self, pane: PaneScrollback, count: int) -> None:
+        """Withdraw the newest rows of a pane."""
+        rows = pane.rows
+        end = max(rows.first, rows.end - count)
+        if pane.logs and end < rows.end:
+            self.logs_back(rows, end, rows.newest(end).rows(end, rows.end - end, count, MOST_RECORD)[1])
+        rows.withdraw(count)
 
     def take_screen(self, pane: PaneScrollback, record: ScrollbackRecord) -> None:
         """Answer the oldest request for the screen of a pane."""

@@ -2,6 +2,7 @@
 from __future__ import annotations
 
 from roam_live.common.text import decimal_in
+from roam_live.host.log_skip import LogSkip
 from roam_live.host.pane_scrollback import PaneScrollback
 from roam_live.host.scrollback import Scrollback, pane_key, pane_of_key
 from roam_live.host.scrollback_store import ScrollbackRange, Search, Snapshot
@@ -46,9 +47,10 @@ class RowAsker:
         self.is_asking = False
         self.search: Search | None = None
         self.found_begin = ""
-        # The pane whose rows it logs, and its next row.
+        # The pane whose rows it logs, its next row, and the part of the next rows that it has got.
         self.logged: PaneScrollback | None = None
         self.next_row = 0
+        self.log_skip = LogSkip()
         # True if its wait is over, and no other begins until it has read everything.
         self.is_late = False
         self.is_closed = False
@@ -168,7 +170,7 @@ class RowAsker:
         if self.logged:
             self.logged.logs += 1
             self.scrollback.logs += 1
-            self.next_row, self.is_late = first, False
+            self.next_row, self.is_late, self.log_skip = first, False, LogSkip()
         else:
             self.say(f"{LOG} {pane} {generation} {NONE}")
 
@@ -179,6 +181,12 @@ class RowAsker:
             logged.logs -= 1
             self.scrollback.logs -= 1
             self.scrollback.unlogged(logged)
+
+    def skip_logged(self, end: int, withdrawn: list[bytes]) -> None:
+        """Skip rows that are withdrawn from a number on, as far as they were sent."""
+        if self.next_row > end:
+            self.log_skip.add(withdrawn[: self.next_row - end])
+            self.next_row = end
 
     # ---- delayed answers
 
@@ -223,7 +231,9 @@ class RowAsker:
         first, found = rows.newest(self.next_row).rows(self.next_row, rows.end) if rows.end > self.next_row else (0, [])
         if found:
             self.next_row = first + len(found)
-            self.say_rows(pane_of_key(rows.pane)[1], rows.generation, first, found, self.said_of(rows.pane))
+            found = self.log_skip.rest(found)
+            if found:
+                self.say_rows(pane_of_key(rows.pane)[1], rows.generation, self.next_row - len(found), found, self.said_of(rows.pane))
             return True
         self.is_late = False
         if logged.is_gone or logged.has_last and self.next_row == rows.end:

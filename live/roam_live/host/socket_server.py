@@ -79,7 +79,7 @@ class HostSocket:
     def offer_rows(self, rows: Scrollback) -> None:
         """Answer requests about these scrollback rows."""
         self.rows, rows.came = rows, self.see_to_rows
-        rows.logs_came, rows.waits_for_logs = self.tell_logged, self.has_full_log
+        rows.logs_came, rows.logs_back, rows.waits_for_logs = self.tell_logged, self.skip_logged, self.has_full_log
 
     # ---- the socket
 
@@ -274,6 +274,12 @@ class HostSocket:
         for peer in self.peers:
             if peer.asker and peer.asker.logged and peer.asker.logged.rows is rows and not peer.is_full():
                 peer.asker.tell_logged()
+
+    def skip_logged(self, rows: PaneRows, end: int, withdrawn: list[bytes]) -> None:
+        """Have the log readers of a pane skip rows that are withdrawn from a number on, once they leave again."""
+        for peer in self.peers:
+            if peer.asker and peer.asker.logged and peer.asker.logged.rows is rows:
+                peer.asker.skip_logged(end, withdrawn)
 
     def see_to_rows(self) -> None:
         """Continue with requests about rows before the next wait."""

@@ -1,8 +1,12 @@
 """Lines that survive a resize: a split that is closed again, a terminal that is narrower for a moment, vim in between, and a zoom of nine panes."""
+import os
 import shutil
+import signal
+import subprocess
 import time
 
-from tried import Outer, check, comes, said, scene, tool
+from scenes.zoom import there
+from tried import Outer, check, children, comes, is_scrollback_process, noted, said, scene, tool
 
 # Lines that are wider than a pane after a split, each with a number at both ends.
 LINES = [f"<{number:02d} " + "abcdefghi " * 7 + f"{number:02d}>" for number in range(1, 9)]
@@ -99,3 +103,137 @@ def resize_writes(folder):
     words = said("capture", "-S", "-", "-J", "work")[1].replace("\n", " ")
     counts = [words.count(f"number {number} of a line") for number in range(1, 3001)]
     check("each line is stored once", counts == [1] * 3000, [(number + 1, count) for number, count in enumerate(counts) if count != 1][:20])
+
+
+@scene
+def resize_within(folder):
+    """Rows are whole after sizes within a character, a control sequence, a title and a synchronized update."""
+    outer = begun()
+    for name, first, rest in (("a character", "\\344\\270", "\\255"), ("a control sequence", "\\033[3", "1mred\\033[0m"),
+                              ("a title", "\\033]2;ti", "tle\\007"), ("an update", "\\033[?2026hone", "two\\033[?2026l")):
+        outer.type(f"printf '{first}'; sleep 1; printf '{rest}\\n'\r".encode())
+        time.sleep(0.3)
+        outer.resize(24, 50)
+        time.sleep(0.2)
+        outer.resize(24, 90)
+        time.sleep(1)
+        outer.type(PRINTS)
+        check(f"a size within {name}: the lines are shown", comes(lambda: are_whole(outer)), outer.rows())
+    outer.resize(24, 41)
+    outer.resize(24, 90)
+    check("two sizes at once leave them whole", comes(lambda: are_whole(outer)), outer.rows())
+
+
+@scene
+def resize_without(folder):
+    """A scrollback process that is stopped or killed delays no size, and later lines are whole again."""
+    outer = begun()
+    process = next(one for one in children(noted("work")["host"][0]) if is_scrollback_process(one))
+    os.kill(process, signal.SIGSTOP)
+    outer.resize(24, 50)
+    time.sleep(1)
+    outer.type(b"stty size\r")
+    check("a stopped one delays no size", outer.shows("23 50", 5), outer.rows())
+    os.kill(process, signal.SIGCONT)
+    outer.resize(24, 90)
+    time.sleep(0.5)
+    os.kill(process, signal.SIGKILL)
+    outer.resize(24, 60)
+    time.sleep(1)
+    outer.type(b"clear; stty size\r")
+    check("nor does a killed one", outer.shows("23 60", 5), outer.rows())
+    outer.resize(24, 90)
+    time.sleep(1)
+    outer.type(b"\x02c")
+    outer.settled(0)
+    outer.type(PRINTS)
+    check("a new pane has whole lines", comes(lambda: are_whole(outer)), outer.rows())
+    outer.type(b"\x02%")
+    time.sleep(1)
+    outer.type(b"exit\r")
+    check("also after a split", comes(lambda: are_whole(outer)), outer.rows())
+
+
+@scene
+def resize_log(folder):
+    """`mux log` prints each line once across fifty sizes."""
+    outer = Outer(tool("mux", "new", "work"), (24, 80))
+    outer.settled(0)
+    with open(folder / "log", "wb") as log:
+        process = subprocess.Popen(tool("mux", "log", "-J", "work"), stdout=log)
+
+        def is_logging():
+            outer.type(b"seq 60\r")
+            time.sleep(0.5)
+            return os.path.getsize(folder / "log") > 0
+        check("the log has begun", comes(is_logging))
+        outer.type(b"i=0; while [ $i -lt 900 ]; do i=$((i+1)); echo \"logged $i of a line that is long enough to wrap in a narrow pane\"; "
+                   b"[ $((i % 10)) = 0 ] && sleep 0.1; done; echo written\r")
+        for place in range(50):
+            outer.resize(24, (80, 50, 64, 40)[place % 4])
+            time.sleep(0.2)
+        outer.resize(24, 80)
+        check("all is written", comes(lambda: any(row.startswith("written") for row in outer.rows()), 60), outer.rows())
+        outer.type(b"exit\r")
+        process.wait(30)
+    words = (folder / "log").read_text(encoding="utf-8").replace("\n", " ")
+    counts = [words.count(f"logged {number} of a line") for number in range(1, 901)]
+    wrong = [(number + 1, count) for number, count in enumerate(counts) if count != 1]
+    check("each line is logged once", not wrong, (wrong[:20], words[:300]))
+
+
+@scene
+def resize_prompt(folder):
+    """A right-hand prompt wraps with its line, and is there once at the width before."""
+    outer = begun()
+    outer.type(b"PS1='$(printf \"\\r\\033[80Cright\\r\")$ '; clear; echo begun\r")
+    check("the prompt is shown", comes(lambda: sum("right" in row for row in outer.rows()) == 1), outer.rows())
+    outer.resize(24, 60)
+    time.sleep(0.5)
+    outer.resize(24, 90)
+    check("it is there once at the width before", comes(lambda: sum("right" in row for row in outer.rows()) == 1), outer.rows())
+    outer.type(b"echo typed\r")
+    check("and the shell goes on", outer.shows("typed"), outer.rows())
+
+
+@scene
+def resize_endless(folder):
+    """A line of 100 MB passes through sizes, and the session goes on."""
+    outer = Outer(tool("mux", "new", "work"), (24, 80))
+    outer.settled(0)
+    outer.type(b"head -c 100000000 /dev/zero | tr '\\0' a; echo; echo over\r")
+    for place in range(20):
+        outer.resize(24, (80, 50, 64, 40)[place % 4])
+        time.sleep(0.2)
+    outer.resize(24, 80)
+    check("the line ends", comes(lambda: any(row.startswith("over") for row in outer.rows()), 120), outer.rows())
+    check("a line of letters is above", comes(lambda: outer.rows()[0].startswith("a" * 60)), outer.rows())
+
+
+@scene
+def resize_zooms(folder):
+    """Nine full panes have all their characters after a hundred zooms."""
+    outer = Outer(tool("mux", "new", "work"), (40, 120))
+    outer.settled(0)
+    for key in (b"\x02%", b"\x02%", b"\x02\"", b"\x02\"", b"\x02\x1b[D\x02\"", b"\x02\"", b"\x02\x1b[D\x02\"", b"\x02\""):
+        outer.type(key)
+        time.sleep(0.3)
+    outer.type(b"\x02 ")
+    time.sleep(0.5)
+    panes = sorted(there("work").rects)
+    check("nine panes are there", len(panes) == 9, panes)
+    for pane in panes:
+        said("send", "-l", f"work.{pane}", f"PS1='$ '; clear; for n in 1 2 3 4; do echo p{pane}-$n-abcdefghijklmnopqrstuvwxyz; done")
+        said("send", f"work.{pane}", "Enter")
+    time.sleep(1)
+
+    def texts():
+        return [said("capture", "-J", f"work.{pane}")[1] for pane in panes]
+    before = texts()
+    begin = time.monotonic()
+    for _ in range(100):
+        outer.type(b"\x02z")
+        time.sleep(0.05)
+    time.sleep(1)
+    check("every pane has its text", comes(lambda: texts() == before), list(zip(before, texts())))
+    check("in time", time.monotonic() - begin < 60, time.monotonic() - begin)
