@@ -1,10 +1,12 @@
 -- The effect of a size and of the text of a rewrap on a source.
-use Rattle.std.proofs.Common.{◌≡◌, ℕ, ◌-◌, Bool, true, false, List, [], ◌∷◌, ◌++◌, map, Some, None, refl, sym, ap, ◌∙◌, arith, append_assoc}
+use Rattle.std.proofs.Common.{◌≡◌, ℕ, ◌+◌, ◌-◌, Bool, true, false, List, [], ◌∷◌, ◌++◌, map, Some, None, refl, sym, ap, ◌∙◌, arith, append_assoc, take, drop, take-append-drop}
 use Rattle.std.specs.Prelude.{codes, if◌then◌else◌}
 use Rattle.std.specs.Fmt.{digits}
 use Rattle.std.proofs.lemmas.List.{append_cancel_left, append-nil, map-append}
+use Rattle.roam_cells.specs.Inks.{InkValue}
 use Rattle.roam_charset.specs.declared.charsets.Charset.TheVariants.{Ascii}
 use Rattle.roam_charset.specs.declared.sets.Element.TheVariants.{G0}
+use Rattle.roam_controls.specs.declared.modes.Modes.{Modes}
 use Rattle.roam_grid.specs.Frames.{after_resizing}
 use Rattle.roam_paint.proofs.Readings.{IsFinal, legible-plain, legible-private}
 use Rattle.roam_paint.proofs.Text as paint
@@ -12,11 +14,14 @@ use Rattle.roam_repaint.proofs.Reading.{text_is_read}
 use Rattle.roam_repaint.proofs.Whole.{text_repaints}
 use Rattle.roam_repaint.specs.Repainted.{IsPlain, IsRepaint, IsRepainted, column_after}
 use Rattle.roam_repaint.specs.Repainting.{Repaint, repaint_text, repainting}
-use Rattle.roam_rewrap.specs.Windows.{ReflowView}
+use Rattle.roam_rewrap.proofs.Joining.{lines_stay}
+use Rattle.roam_rewrap.specs.Lines.{TextRow, lines_of}
+use Rattle.roam_rewrap.specs.Windows.{ReflowView, reflowed}
 use Rattle.roam_screens.specs.Screenshot.{Screenshot}
 use Rattle.roam_scrollback.specs.Lines.{LinesView}
-use Rattle.roam_scrollback.specs.Rewraps.{IsBroughtTo, IsRewrapped, RewrapShows, closing, opening}
+use Rattle.roam_scrollback.specs.Rewraps.{IsBroughtTo, IsRewrapped, IsLike, IsPrepared, Leads, RewrapKeepsLines, RewrapShows, TextLeads, closing, columns_before, opening, text_from}
 use Rattle.roam_scrollback.specs.Sources.{SourceView}
+use Rattle.roam_scrollback.specs.declared.wraps.Wrap.{Wrap}
 use Rattle.roam_scrollback.proofs.Through.{live-append}
 use Rattle.roam_term.specs.ControlFunctions.{csi}
 use Rattle.roam_term.specs.Terminal.{Live, changed_by, live_after, sized_to}
@@ -264,3 +269,133 @@ module _ (old new : SourceView) (lines lines' : LinesView) (rows cols back : ℕ
 
 pub rewrap_shows : RewrapShows
 rewrap_shows old new lines lines' rows cols back text log reads is = brought old new lines lines' rows cols back text log reads is
+
+-- ---- the lines
+
+in-parts : (off rows : ℕ) (all : List TextRow) → take off all ++ (take rows (drop off all) ++ drop rows (drop off all)) ≡ all
+in-parts off rows all = ap (λ l. take off all ++ l) (take-append-drop rows (drop off all)) ∙ take-append-drop off all
+
+pub rewrap_keeps_lines : RewrapKeepsLines
+rewrap_keeps_lines old new lines lines' rows cols back text is =
+    ap lines_of (in-parts is.reflow.off rows is.reflow.rows) ∙ ap (λ (f : ReflowView). lines_of f.rows) is.prepared.is
+    ∙ lines_stay cols (text_from is.first is.prepared.height lines.kept old.live old.wraps)
+
+-- ---- another terminal
+
+abbrev without-modes : Live → Live
+without-modes t = record t { modes = record t.modes { insert = false; reverse_screen = false }; printed = None }
+
+opens-any : (t : Live) → live_after t opens ≡ without-modes t
+unfolding changed_by
+opens-any t = refl
+
+in-three : (a b c d : List Function) → ((a ++ b) ++ c) ++ d ≡ a ++ (b ++ (c ++ d))
+in-three a b c d = append_assoc (a ++ b) c d ∙ append_assoc a b (c ++ d)
+
+module _ (l : Live) (wraps : List Wrap) (kept : List TextRow) (rows cols first back : ℕ) (reflow : ReflowView) (text : List ℕ)
+    (p : IsPrepared l wraps kept rows cols first back reflow text) (t : Live) (like : IsLike l rows cols t) (log : List Item)
+    (rest : AtRest log) where
+  abbrev rp : Repaint
+  rp = p.brings.repaint
+
+  abbrev t1 : Live
+  t1 = without-modes t
+
+  abbrev on-log : List Item
+  on-log = log ++ map Byte opening
+
+  abbrev closed : List Function
+  closed = closes l.modes.insert l.modes.reverse_screen
+
+  shot-same : rp.shot ≡ (reflowed (text_from first p.height kept l wraps)
+      (record { row = back + l.screen.row; col = columns_before l.screen }) rows cols l.modes.cursor_visible).shot
+  shot-same = p.brings.shot ∙ ap (λ (f : ReflowView). f.shot) p.is
+
+  can-paint : IsRepaint t1 rp
+  can-paint = record {
+    shot = p.brings.painted;
+    rows = ap (λ (s : Screenshot). s.rows) shot-same ∙ sym like.height;
+    cols = ap (λ (s : Screenshot). s.cols) shot-same ∙ sym like.width;
+    pends = p.brings.pends;
+    style = p.brings.styled;
+  }
+
+  is-plain : IsPlain t1
+  is-plain = record {
+    main = like.main;
+    single = like.single;
+    replaces = refl;
+    origin = ap (λ (m : Modes). m.origin) like.modes ∙ p.brings.origin;
+    reverse = refl;
+    unguarded = ap (λ (i : InkValue). i.guarded) like.pen ∙ p.brings.unguarded;
+  }
+
+  painted-on : IsRepainted t1 rp (live_after t1 (repainting rp))
+  painted-on = text_repaints t1 rp is-plain can-paint
+
+  text-read : functions_of (log ++ map Byte text) ≡ functions_of log ++ (opens ++ (repainting rp ++ closed))
+  text-read =
+      let begun = opening-read log rest in
+      let painted = text_is_read t1 on-log rp can-paint begun.rests in
+      ap (λ bytes. functions_of (log ++ map Byte bytes)) p.brings.is
+      ∙ sym (ap functions_of (together on-log (repaint_text rp) (closing l.modes) ∙ together log opening (repaint_text rp ++ closing l.modes)))
+      ∙ closing-read l.modes.insert l.modes.reverse_screen (on-log ++ map Byte (repaint_text rp)) painted.rests
+      ∙ ap (λ fs. fs ++ closed) (painted.functions ∙ ap (λ fs. fs ++ repainting rp) begun.functions)
+      ∙ in-three (functions_of log) opens (repainting rp) closed
+
+  pen-same : record { style = rp.style; guarded = false } ≡ t.pen
+  pen-same =
+      (λ j. record { style = p.brings.style j; guarded = sym p.brings.unguarded j }) ∙ sym like.pen
+
+  modes-same : record t.modes {
+    insert = l.modes.insert;
+    reverse_screen = l.modes.reverse_screen;
+    autowrap = rp.wraps;
+    cursor_visible = rp.shot.visible;
+  } ≡ t.modes
+  modes-same = λ j. record t.modes {
+    insert = ap (λ (m : Modes). m.insert) (sym like.modes) j;
+    reverse_screen = ap (λ (m : Modes). m.reverse_screen) (sym like.modes) j;
+    autowrap = (p.brings.wraps ∙ ap (λ (m : Modes). m.autowrap) (sym like.modes)) j;
+    cursor_visible = (ap (λ (s : Screenshot). s.visible) shot-same ∙ ap (λ (m : Modes). m.cursor_visible) (sym like.modes)) j;
+  }
+
+  leads : Leads t rp text log
+  leads =
+      let u : Live = record {
+        screen =
+            record {
+              rows = t.screen.rows;
+              cols = t.screen.cols;
+              cells = painted-on.cells;
+              row = rp.shot.cursor_row - 1;
+              col = column_after rp;
+              pending = rp.pending;
+              top = 0;
+              bottom = t.screen.rows - 1;
+              stops = t.screen.stops;
+            };
+        other = t.other;
+        alternate = false;
+        pen = record { style = rp.style; guarded = false };
+        modes = record t1.modes { autowrap = rp.wraps; cursor_visible = rp.shot.visible };
+        sets = record t.sets { g0 = Ascii; locked = G0 };
+        saved = t.saved;
+        saved_alternate = t.saved_alternate;
+        printed = None;
+      } in
+      record {
+        functions = opens ++ (repainting rp ++ closed);
+        read = text-read;
+        cells = painted-on.cells;
+        is =
+            live-append t opens (repainting rp ++ closed) ∙ ap (λ v. live_after v (repainting rp ++ closed)) (opens-any t)
+            ∙ live-append t1 (repainting rp) closed ∙ ap (λ v. live_after v closed) painted-on.is
+            ∙ closes-so l.modes.insert l.modes.reverse_screen u refl refl refl
+            ∙ (λ j. record u { alternate = sym like.main j; pen = pen-same j; modes = modes-same j });
+        places = painted-on.places;
+      }
+
+pub text_leads : TextLeads
+text_leads l wraps kept rows cols first back reflow text p t like log rest =
+    leads l wraps kept rows cols first back reflow text p t like log rest

@@ -9,7 +9,7 @@ use Rattle.roam_controls.specs.declared.modes.Modes.{Modes}
 use Rattle.roam_grid.specs.Screen.{Screen}
 use Rattle.roam_repaint.specs.Repainted.{MayPend, column_after}
 use Rattle.roam_repaint.specs.Repainting.{Repaint, repaint_text}
-use Rattle.roam_rewrap.specs.Lines.{TextRow}
+use Rattle.roam_rewrap.specs.Lines.{TextRow, lines_of}
 use Rattle.roam_rewrap.specs.Windows.{ReflowView, reflowed, shown_rows}
 use Rattle.roam_screens.specs.Screenshot.{IsScreenshot}
 use Rattle.roam_scrollback.specs.Lines.{LinesView, Writes, left_of}
@@ -151,3 +151,51 @@ abbrev pub RewrapShows : Type 0
 RewrapShows =
     (old new : SourceView) (lines lines' : LinesView) (rows cols back : ℕ) (text : List ℕ) (log : List Item) → Reads old.reader log
     → (is : IsRewrapped old new lines lines' rows cols back text) → IsBroughtTo old.live rows cols is.prepared.brings.repaint new.live
+
+-- No line is cut, and no cell is lost or doubled. The rows that leave, those on the screen and those below it that don't fit have the lines
+-- of the kept rows that came back and of the old screen.
+abbrev pub RewrapKeepsLines : Type 0
+RewrapKeepsLines =
+    (old new : SourceView) (lines lines' : LinesView) (rows cols back : ℕ) (text : List ℕ)
+    → (is : IsRewrapped old new lines lines' rows cols back text)
+    → lines_of (take is.reflow.off is.reflow.rows
+    ++ (shown_rows rows is.reflow.off is.reflow.rows ++ drop rows (drop is.reflow.off is.reflow.rows)))
+    ≡ lines_of (text_from is.first is.prepared.height lines.kept old.live old.wraps)
+
+-- ---- the same text on another terminal
+
+-- a terminal of the new size that shows its main screen, with the modes and the pen of another one, and no single shift waiting
+pub record IsLike (l : Live) (rows cols : ℕ) (t : Live) : Type 0 where
+  pub main : t.alternate ≡ false
+  pub single : t.sets.single ≡ None
+  pub modes : t.modes ≡ l.modes
+  pub pen : t.pen ≡ l.pen
+  pub height : t.screen.rows ≡ rows
+  pub width : t.screen.cols ≡ cols
+
+-- a text is read as functions, and these paint a screen on a terminal; all else is as it was
+pub record Leads (t : Live) (r : Repaint) (text : List ℕ) (log : List Item) : Type 0 where
+  pub functions : List Function
+  pub read : functions_of (log ++ map Byte text) ≡ functions_of log ++ functions
+  pub cells : List Glyph
+  pub is : live_after t functions ≡ record t {
+    screen =
+        record t.screen {
+          cells = cells;
+          row = r.shot.cursor_row - 1;
+          col = column_after r;
+          pending = r.pending;
+          top = 0;
+          bottom = t.screen.rows - 1;
+        };
+    sets = record t.sets { g0 = Ascii; locked = G0 };
+    printed = None;
+  }
+  pub places : (i j : ℕ) → i < t.screen.rows → j < t.screen.cols → cell_at t.screen.cols cells i j ≡ shown_at r.shot i j
+
+-- the text of a rewrap leads any such terminal to the same screen, whatever it shows
+abbrev pub TextLeads : Type 0
+TextLeads =
+    (l : Live) (wraps : List Wrap) (kept : List TextRow) (rows cols first back : ℕ) (reflow : ReflowView) (text : List ℕ)
+    → (prepared : IsPrepared l wraps kept rows cols first back reflow text) → (t : Live) → IsLike l rows cols t → (log : List Item)
+    → AtRest log → Leads t prepared.brings.repaint text log

@@ -1,6 +1,6 @@
 //! Laws of the definitions, each the contract of a function without a body.
 ghost use Rattle.roam_scrollback.specs.Leading.{RowTextLeads};
-ghost use Rattle.roam_scrollback.specs.Rewraps.{RewrapShows};
+ghost use Rattle.roam_scrollback.specs.Rewraps.{RewrapKeepsLines, RewrapShows, TextLeads};
 ghost use Rattle.roam_scrollback.specs.Sources.{RowsAreThoseThatLeft};
 
 /// The lines that a source writes as it reads are the next part of all rows that left.
@@ -13,7 +13,11 @@ pub fn row_text_leads()
     ensures leads { RowTextLeads }
 {}
 
-/// A source that was brought to another size shows its text there; its modes, style, sets and saved cursor are as they were.
+/// A source behind a rewrap shows its text at the new size; its modes, style and saved cursor are as before. No line is cut: the rows that
+/// leave and those on the screen have the lines of the text. The text leads any terminal of the new size to the same screen, if its modes and
+/// style are the same.
 pub fn rewrap_shows()
     ensures shows { RewrapShows }
+    ensures lines { RewrapKeepsLines }
+    ensures leads { TextLeads }
 {}

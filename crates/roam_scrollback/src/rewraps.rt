@@ -1,4 +1,4 @@
-//! The main screen at another size, with its text whole.
+//! The main screen at another size, without cutting text.
 ghost use Rattle.std.specs.Prelude.{◌≡◌, ◌<◌, ◌≤◌, ◌+◌, ◌-◌, ◌∷◌, ◌++◌, IfOk, IfSome, OnOk, IsTrue, drop, false, length, map, take, true};
 ghost use Rattle.roam_cells.specs.Limits.{IsSize, most_rows};
 ghost use Rattle.roam_cells.specs.Glyph.{IsStyle};
@@ -22,15 +22,15 @@ use roam_rewrap::{Reflow, Row, ScreenPosition};
 use roam_term::Canvas;
 use std::alloc::{AllocError, Global};
 
-/// The result of a rewrap: the number of rows that came back, and a text. The text leads another terminal, which read the same bytes and
-/// has the new size, to the same screen.
+/// The result of a rewrap: the number of rows that came back, and the text that brings another terminal to the same screen, if it has read
+/// the same bytes and has the new size.
 #[derive(Drop)]
 pub struct Rewrap {
     pub back: usize,
     pub text: Vec<u8>,
 }
 
-/// Why a terminal was not brought to another size with its text whole. Nothing changed.
+/// Why a terminal keeps its size. Nothing changed.
 #[derive(Clone, Copy, Debug, PartialEq, Eq)]
 pub enum NotRewrapped {
     /// It is within a sequence or a character, or its next character is not ASCII.

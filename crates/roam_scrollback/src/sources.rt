@@ -323,9 +323,9 @@ impl RowSource {
         }
     }
 
-    /// Gives the terminal another size with its text whole. The newest rows that left come back as far as they fit, rows wrap at the new
-    /// width, and the lines of the rows that leave then are written. The lines must be those of this terminal. After an error, which
-    /// `NotRewrapped` explains, nothing changed.
+    /// Gives the terminal another size without cutting text. The newest rows that left come back as far as they fit, the text wraps at the
+    /// new width, and the rows that leave are written. `lines` has to keep the rows that left this terminal. If the terminal keeps its size,
+    /// nothing changes.
     pub fn rewrap(
         &mut self,
         alloc: Global,

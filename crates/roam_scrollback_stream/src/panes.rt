@@ -58,7 +58,7 @@ impl Tellings {
         self.out.clear();
     }
 
-    // The rows that are kept of a terminal are with its lines, or no longer.
+    // Exchanges the kept rows of a terminal with those of the lines.
     fn swap_kept(&mut self, kept: &mut RecentRows)
         ensures lines { self.new ≡ record self.old { lines = record self.old.lines { kept = kept.old } } }
         ensures kept { kept.new ≡ self.old.lines.kept }
@@ -66,7 +66,7 @@ impl Tellings {
         self.lines.swap_kept(kept);
     }
 
-    // Takes the kept rows of a terminal back from its lines. None is kept after the earlier rows were erased, or a row was lost.
+    // Takes the kept rows back from the lines. None is kept if the rows that left are erased, or if one was lost.
     fn take_kept(&mut self, kept: &mut RecentRows, cleared: bool)
         ensures lines { self.new ≡ record self.old { lines = record self.old.lines { kept = kept.old } } }
         ensures kept { kept.new ≡ kept_behind cleared self.old.lines }
@@ -90,7 +90,7 @@ impl Tellings {
         Ok(())
     }
 
-    // Appends the number of rows that came back, the new lines, and the text.
+    // Writes the records of a rewrap: the rows taken back, the rows that leave, and the text.
     fn push_rewrap(&mut self, number: u16, rewrap: &Rewrap) -> Result<(), AllocError>
         ensures out { OnOk result (self.new.out ≡ self.old.out
             ++ (back_text number rewrap.now.back ++ (rows_text number self.old.lines
@@ -105,7 +105,7 @@ impl Tellings {
         Ok(())
     }
 
-    // A word says why a terminal was not brought to another size.
+    // Writes why a terminal keeps its size.
     fn push_refusal(&mut self, number: u16, why: NotRewrapped) -> Result<(), AllocError>
         ensures out { OnOk result (self.new.out ≡ self.old.out ++ named_text (refusal_word why) number) }
         ensures lines { OnOk result (self.new.lines ≡ self.old.lines) }
@@ -113,7 +113,7 @@ impl Tellings {
         push_named(&mut self.out, refusal_word(why), number)
     }
 
-    // Appends the answer.
+    // Writes the answer to a rewrap.
     fn push_answer(
         &mut self,
         number: u16,
@@ -133,7 +133,7 @@ impl Tellings {
     }
 }
 
-// The word for it.
+// Returns the word of the record.
 fn refusal_word(why: NotRewrapped) -> &'static str
     ensures word { result.now ≡ refusal_word why }
 {
@@ -306,7 +306,7 @@ impl Pane {
         }
     }
 
-    /// It gets another size with its text whole, or a word says why it doesn't; `OutOfMemory`.
+    /// Gives the terminal another size without cutting text, or writes why it keeps its size; `OutOfMemory`.
     pub fn rewrap(
         &mut self,
         alloc: Global,

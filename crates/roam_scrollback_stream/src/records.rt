@@ -70,7 +70,7 @@ pub fn push_screen(out: &mut Vec<u8>, number: u16, lines: &LeftLines) -> Result<
     push_lines(out, "screen ", number, lines)
 }
 
-/// A word and a terminal.
+/// Writes a record of a word and a terminal.
 pub fn push_named(out: &mut Vec<u8>, word: &str, number: u16) -> Result<(), AllocError>
     ensures text { OnOk result (out.new.items ≡ out.old.items ++ named_text word.now number) }
 {
@@ -78,7 +78,7 @@ pub fn push_named(out: &mut Vec<u8>, word: &str, number: u16) -> Result<(), Allo
     out.extend_from_slice(b"\n")
 }
 
-/// So many rows that were reported are back.
+/// Withdraws the newest rows that were reported.
 pub fn push_back(out: &mut Vec<u8>, number: u16, back: usize) -> Result<(), AllocError>
     ensures text { OnOk result (out.new.items ≡ out.old.items ++ back_text number back) }
 {
@@ -90,7 +90,7 @@ pub fn push_back(out: &mut Vec<u8>, number: u16, back: usize) -> Result<(), Allo
     out.extend_from_slice(b"\n")
 }
 
-/// The text that brings another terminal to the new size.
+/// Writes the text that brings another terminal to the new size.
 pub fn push_text(out: &mut Vec<u8>, number: u16, text: &[u8]) -> Result<(), AllocError>
     ensures text { OnOk result (out.new.items ≡ out.old.items ++ brought_text number text.now) }
 {

@@ -17,7 +17,7 @@ pub enum Request {
     Pane(u16, u16, u16),
     /// Another size, of so many rows and columns.
     Size(u16, u16, u16),
-    /// Another size with its text whole, of so many rows and columns.
+    /// Another size without cutting text, of so many rows and columns.
     Rewrap(u16, u16, u16),
     /// So many bytes follow, which its program wrote.
     Bytes(u16, u64),

@@ -67,8 +67,8 @@ fn resize(
     Ok(true)
 }
 
-// Gives the terminal at a place another size with its text whole, or says why it can't. Returns false if none is there, or the size is no
-// size of a screen.
+// Gives the terminal at a place another size without cutting text, or says why not. Returns false if none is there, or the size is no size
+// of a screen.
 fn rewrap(
     place: &mut Option<Pane>,
     alloc: Global,
@@ -489,18 +489,18 @@ fn read_all<R: Read, W: Write>(
 /// |---|---|
 /// | `pane N ROWS COLS` | puts a new terminal at N, 0 to 1,023, of 2 to 200 rows and 4 to 500 columns |
 /// | `size N ROWS COLS` | gives the terminal another size |
-/// | `rewrap N ROWS COLS` | gives the terminal another size with its text whole, or writes the reason against it |
+/// | `rewrap N ROWS COLS` | gives the terminal another size without cutting text, or says why not |
 /// | `bytes N LENGTH`, and that many bytes | feeds the bytes to the terminal |
 /// | `screen N` | writes the rows of the terminal's screen |
 /// | `gone N` | removes the terminal |
 ///
-/// If `normalize` is true, bytes first go through the filter of `roam_normalize`, as in the server. Each read is answered before the next
-/// one.
+/// If `normalize` is true, bytes first go through the filter of `roam_normalize`, as in the server. What came by one read is answered
+/// before the next read.
 ///
 /// # Errors
 ///
 /// `Record` if a line is no record, or its terminal isn't there, or the size is outside the limits; the number is that of the line, from 1.
-/// `Read` and `Write` if the reader or the writer fails. `Core` if memory runs out. In each case the output before the error is written.
+/// `Read` and `Write` if the reader or the writer fails. `Core` if memory runs out. In each case what came before is written.
 pub fn run_rows<R: Read, W: Write>(
     alloc: Global,
     normalize: bool,
