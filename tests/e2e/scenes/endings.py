@@ -119,6 +119,12 @@ def frozen(folder):
         stuck.close()
 
 
+def has_open(process, end):
+    """Return True if a process has a file open whose name ends so."""
+    names = pathlib.Path(f"/proc/{process}/fd").iterdir()
+    return any(os.path.realpath(name).endswith(end) for name in names)
+
+
 @scene
 def moved(folder):
     """A front end continues after its files are moved away: copy mode, a command and the settings work."""
@@ -128,8 +134,7 @@ def moved(folder):
     outer.shows("$ ")
     outer.type(b"seq 1 50\r")
     outer.shows("50")
-    # The front end opens its bundle 0.2 s after its start.
-    time.sleep(1)
+    check("the front end has opened its bundle", comes(lambda: has_open(outer.process.pid, ".bundle"), 60))
     (folder / "tree").rename(folder / "moved")
     for keys, text in ((b"\x02[", "copy mode"), (b"/4", "4"), (b"\rq", "[1] 1:"), (b"\x02:display-message moved\r", "moved"),
                        (b"\x02R", "roam.conf was read"), (b"\x02?", "list the keys")):
