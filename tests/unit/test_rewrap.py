@@ -3,7 +3,7 @@ from unittest import mock
 
 from aids import StillLoop
 from roam_live.host.pane import PaneCommand
-from roam_live.host.rewrap import ANSWER_WAIT, BEGINS_UPDATE, ENDS_UPDATE, PASSED_ON, PaneResizer
+from roam_live.host.rewrap import ANSWER_WAIT, BEGINS_UPDATE, ENDS_UPDATE, MOST_LATE, PASSED_ON, PaneResizer
 from roam_live.host.scrollback_process import GATHERS, BadRecord, ScrollbackRecords
 from roam_live.host.scrollback_store import RowsRoom
 from roam_live.host.state import PaneState
@@ -164,21 +164,67 @@ class Resized(Keeping):
         self.prints(b"other 0\n")
         self.handed()
         self.resizer.leave_other()
+        self.answer_late(b"none 0\n")
         self.pass_time(ANSWER_WAIT + 0.01)
         self.assertTrue(self.handed().endswith(b"gone 2\ngone 0\n"))
 
-    def test_silent(self):
-        """Without an answer in time another terminal begins, since it isn't known how the one before was resized."""
+    def answer_late(self, answer):
+        """Have each answer be too late, as often as the host asks again."""
+        for _ in range(MOST_LATE):
+            self.handed()
+            self.pass_time(ANSWER_WAIT + 0.01)
+            self.assertEqual((self.handed(), self.pane.quota), (b"", None))
+            self.prints(answer)
+
+    def test_late(self):
+        """Programs wait no longer for an answer that is late. The host drops its text, and asks again once it has come."""
         self.write()
         self.resizer.resize(NARROW)
         self.handed()
         self.pass_time(ANSWER_WAIT + 0.01)
-        self.assertEqual((self.handed(), self.pane.sizes, self.pane.quota), (b"gone 0\n", [NARROW], None))
+        self.assertEqual((self.handed(), self.pane.sizes, self.pane.quota), (b"", [NARROW], None))
+        self.scrollback.feed(1, b"b")
+        self.pass_time(GATHERS)
+        self.assertEqual(self.handed(), b"bytes 0 1\nb")
+        self.prints(b"text 0 1\nx")
+        self.assertEqual((self.handed(), self.pane.shown, self.pane.quota), (b"rewrap 0 23 39\n", [], 0))
+        self.prints(b"text 0 1\ny")
+        self.assertEqual((self.pane.shown, self.pane.sizes[-1], self.pane.quota), ([UPDATE % b"y"], NARROW, None))
+
+    def test_late_sizes(self):
+        """Of two questions the late answer of the first is dropped, and that of the second counts."""
+        self.write()
+        self.resizer.resize(NARROW)
+        self.pass_time(ANSWER_WAIT + 0.01)
+        self.resizer.resize(WIDE)
+        self.assertEqual(self.handed(), b"rewrap 0 23 39\nrewrap 0 23 80\n")
+        self.prints(b"text 0 1\nx")
+        self.prints(b"text 0 1\ny")
+        self.assertEqual((self.pane.shown, self.pane.sizes[-1], self.handed()), ([UPDATE % b"y"], WIDE, b""))
+
+    def test_late_closed(self):
+        """A late answer for a pane that is gone asks for nothing."""
+        self.write()
+        self.resizer.resize(NARROW)
+        self.pass_time(ANSWER_WAIT + 0.01)
+        self.handed()
+        self.resizer.close()
+        self.prints(b"text 0 1\nx")
+        self.assertEqual((self.handed(), self.pane.shown), (b"", []))
+
+    def test_silent(self):
+        """After many late answers another terminal begins, since it isn't known how the one before was resized."""
+        self.write()
+        self.resizer.resize(NARROW)
+        self.answer_late(b"text 0 1\nx")
+        self.handed()
+        self.pass_time(ANSWER_WAIT + 0.01)
+        self.assertEqual((self.handed(), self.pane.sizes[-1], self.pane.quota), (b"gone 0\n", NARROW, None))
         self.prints(b"text 0 1\nx")
         self.scrollback.feed(1, b"b")
         self.assertEqual((self.handed(), self.pane.shown), (b"pane 1 23 39\nbytes 1 1\nb", []))
         self.resizer.resize(WIDE)
-        self.assertEqual((self.handed(), self.pane.sizes), (b"size 1 23 80\n", [NARROW, WIDE]))
+        self.assertEqual((self.handed(), self.pane.sizes[-1]), (b"size 1 23 80\n", WIDE))
 
     def test_ended(self):
         """If the scrollback process ends meanwhile, the programs learn the size at once."""

@@ -17,8 +17,9 @@ if TYPE_CHECKING:
     from roam_live.host.pane import PaneCommand
     from roam_live.host.scrollback import Scrollback
 
-# An answer takes at most so many seconds; then the size cuts the rows.
+# Programs wait for an answer so many seconds. If one comes later, the host asks again, so often at most; then the size cuts the rows.
 ANSWER_WAIT = 0.1
+MOST_LATE = 5
 
 # Within a control sequence or a character so many more bytes of output are passed on before the next question.
 PASSED_ON = 1024
@@ -36,14 +37,15 @@ class PaneResizer:
         # The newest size, and the one that is asked for now.
         self.wanted = pane.state.size
         self.asked: Size | None = None
-        # True while the answer to a question is missing.
+        # True while the answer to a question is missing; the number of answers that are too late, and how often one was since the last size.
         self.is_in_flight = False
+        self.late = self.was_late = 0
         # True if a size came while the programs showed the alternate screen. The lines of the main screen are kept, and wrapped later.
         self.is_owed = False
 
     def resize(self, size: Size) -> None:
         """Give the pane a new size."""
-        self.wanted = size
+        self.wanted, self.was_late = size, 0
         if self.asked is None and size != self.pane.state.size:
             self.ask()
 
@@ -60,7 +62,12 @@ class PaneResizer:
             self.loop.later(self.name, ANSWER_WAIT, self.give_up)
 
     def take(self, word: str, text: bytes) -> None:
-        """Take an answer of the scrollback process."""
+        """Take an answer of the scrollback process. One that is too late is for a screen that has changed since."""
+        if self.late:
+            self.late -= 1
+            if self.asked is None and not self.late:
+                self.ask()
+            return
         self.is_in_flight = False
         if self.asked is None:
             return
@@ -79,17 +86,20 @@ class PaneResizer:
             self.finish()
 
     def give_up(self) -> None:
-        """Cut the rows, since no answer came in time. If one may still come, the terminal of the scrollback process begins anew."""
-        if self.is_in_flight:
+        """Go on without an answer. If one may still come, the host asks again then; after MOST_LATE of these the rows are cut."""
+        is_late = self.is_in_flight and self.was_late < MOST_LATE
+        if is_late:
+            self.late, self.was_late = self.late + 1, self.was_late + 1
+        elif self.is_in_flight:
             self.scrollback.cut_by(self.key, self.wanted)
         self.is_owed = False
-        self.finish()
+        self.finish(not is_late)
 
-    def finish(self) -> None:
-        """Tell the programs the size, and read their output again."""
+    def finish(self, is_answered: bool = True) -> None:
+        """Tell the programs the size, and read their output again. The scrollback process learns it too, unless its answer is missing."""
         self.loop.drop(self.name)
         self.asked, self.is_in_flight = None, False
-        if not self.is_owed:
+        if is_answered and not self.is_owed:
             self.scrollback.resize(self.key, self.wanted)
         self.pane.resize(self.wanted)
         self.pane.release()
@@ -102,6 +112,6 @@ class PaneResizer:
 
     def close(self) -> None:
         """Ask no more, since the pane is gone."""
-        self.asked = None
+        self.asked, self.late = None, 0
         self.loop.drop(self.name)
 
