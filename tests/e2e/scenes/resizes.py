@@ -136,7 +136,7 @@ def resize_without(folder):
     check("a stopped one delays no size", outer.shows("23 50", 5), outer.rows())
     os.kill(process, signal.SIGCONT)
     outer.resize(24, 90)
-    time.sleep(0.5)
+    check("the lines are whole once it continues", comes(lambda: are_whole(outer)), outer.rows())
     os.kill(process, signal.SIGKILL)
     outer.resize(24, 60)
     time.sleep(1)
