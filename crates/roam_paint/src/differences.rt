@@ -13,8 +13,8 @@ pub fn is_same_size<O: Seen, N: Seen>(old: &O, new: &N) -> bool
     old.rows() == new.rows() && old.cols() == new.cols()
 }
 
-// Returns true if two cells show different things.
-fn is_other(one: &Cell, other: &Cell) -> bool
+/// Returns true if two cells show different things.
+pub fn is_other(one: &Cell, other: &Cell) -> bool
     ensures other { result ≡ not (same one.now other.now) }
 {
     !one.is_same(other)

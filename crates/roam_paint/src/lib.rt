@@ -6,5 +6,6 @@ pub mod laws;
 mod painting;
 mod sequences;
 
-pub use painting::{open, paint};
-pub use sequences::{push_points, push_restyle};
+pub use differences::{cell_of, is_other};
+pub use painting::{is_same_style, open, paint};
+pub use sequences::{push_code, push_number, push_points, push_restyle};

@@ -56,7 +56,8 @@ fn restyle(text: &mut Vec<u8>, same: bool, style: Style) -> Result<(), AllocErro
     Ok(())
 }
 
-fn is_same_style(one: Style, other: Style) -> bool
+/// Returns true if two styles are equal.
+pub fn is_same_style(one: Style, other: Style) -> bool
     ensures same { result ≡ same_style one other }
 {
     one.is_same(other)

@@ -10,7 +10,8 @@ use itoa::Buffer;
 use roam_cells::{Cell, Colour, Style};
 use std::alloc::AllocError;
 
-fn push_number(text: &mut Vec<u8>, n: u16) -> Result<(), AllocError>
+/// Appends a number in decimals.
+pub fn push_number(text: &mut Vec<u8>, n: u16) -> Result<(), AllocError>
     ensures number { OnOk result (text.new.items ≡ text.old.items ++ decimal n) }
 {
     let mut buffer = Buffer::new();
@@ -29,7 +30,8 @@ pub fn push_place_cursor(text: &mut Vec<u8>, row: u16, col: u16) -> Result<(), A
     text.extend_from_slice(b"H")
 }
 
-fn push_code(text: &mut Vec<u8>, on: bool, code: u16) -> Result<(), AllocError>
+/// Appends a further parameter behind a semicolon, if it is on.
+pub fn push_code(text: &mut Vec<u8>, on: bool, code: u16) -> Result<(), AllocError>
     ensures text { OnOk result (text.new.items ≡ text.old.items ++ code_text on code) }
 {
     if on {

@@ -12,11 +12,11 @@ ghost use Rattle.roam_scroll_paint.specs.Rows.{IsSameRow};
 ghost use Rattle.roam_scroll_paint.specs.Counting.{flag_size, flags_size, colour_size, mixture_size, style_size};
 
 use crate::choice::is_known;
-use crate::differences::{cell_of, is_same_size};
+use crate::differences::is_same_size;
 use crate::marks::{bytes_of, digits, move_cost};
-use crate::renditions::is_same_style;
 use crate::rows::is_drawn;
 use roam_cells::{Cell, Colour, Style};
+use roam_paint::{cell_of, is_other, is_same_style};
 use roam_screens::Seen;
 
 // The count so far, and the style that is set then.
@@ -153,12 +153,6 @@ fn drawn_bytes<O: Seen, N: Seen>(
         bytes,
         style: cell.style(),
     }
-}
-
-fn is_other(one: &Cell, other: &Cell) -> bool
-    ensures other { result ≡ not (same one.now other.now) }
-{
-    !one.is_same(other)
 }
 
 // Returns true if a place of screens of one size, from 0, or the one behind the last column differs.

@@ -18,15 +18,6 @@ pub fn is_same_size<O: Seen, N: Seen>(old: &O, new: &N) -> bool
     old.rows() == new.rows() && old.cols() == new.cols()
 }
 
-/// The cell at a row and a column, from 0.
-pub fn cell_of<S: Seen>(screen: &S, row: usize, col: usize) -> &Cell
-    requires inside { (row < (S.screen screen.now).rows) × (col < (S.screen screen.now).cols) }
-    ensures cell { result.now ≡ shown_at (S.screen screen.now) row col }
-{
-    screen.facts();
-    &screen.row(row as u16)[col]
-}
-
 /// The cells that a row shows before it is drawn: those of a row of the old screen, or blanks.
 pub fn row_over<'a, O: Seen>(old: &'a O, blanks: &'a [Cell], source: Option<u16>) -> &'a [Cell]
     requires source { IfSome source (λ r. (r < (O.screen old.now).rows) × ((O.screen old.now).cols ≡ length blanks.now)) }

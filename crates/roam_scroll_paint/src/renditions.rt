@@ -7,14 +7,8 @@ ghost use Rattle.roam_scroll_paint.specs.Styles.{flag_added, colour_words, colou
 
 use crate::sequences::{push_rendition, push_restyle};
 use roam_cells::{Colour, Style};
+use roam_paint::is_same_style;
 use std::alloc::{AllocError, Global};
-
-/// Returns true if two styles are equal.
-pub fn is_same_style(one: Style, other: Style) -> bool
-    ensures same { result ≡ same_style one other }
-{
-    one.is_same(other)
-}
 
 fn is_same_colour(one: Colour, other: Colour) -> bool
     ensures same { result ≡ same_colour one other }

@@ -9,10 +9,10 @@ ghost use Rattle.roam_scroll_paint.specs.Sequences.{text_of};
 ghost use Rattle.roam_scroll_paint.specs.Styles.{styled_from};
 ghost use Rattle.roam_scroll_paint.specs.Rows.{is_marked, placing_at, placed_in, written_cell, written_row, ends_at, erasing_from, style_left, erase_line, row_functions, row_style_left};
 
-use crate::differences::cell_of;
 use crate::renditions::push_styled_from;
-use crate::sequences::{push_erase_line, push_placing_at, push_points};
+use crate::sequences::{push_erase_line, push_placing_at};
 use roam_cells::{Cell, Style};
+use roam_paint::{cell_of, push_points};
 use roam_screens::Seen;
 use std::alloc::AllocError;
 

@@ -1,7 +1,6 @@
 //! The text of a painter's functions.
-ghost use Rattle.std.specs.Prelude.{◌≡◌, ◌∷◌, [], ◌++◌, ◌<◌, ◌+◌, OnOk, decimal, length, replicate, true, None, IfSome};
+ghost use Rattle.std.specs.Prelude.{◌≡◌, ◌∷◌, [], ◌++◌, ◌<◌, ◌+◌, OnOk, length, replicate, true, None, IfSome};
 ghost use Rattle.std.specs.List.{flat_map};
-ghost use Rattle.std.specs.Char.{encode_utf8};
 ghost use Rattle.roam_term.specs.ControlFunctions.{csi, place_cursor, set_style, set_mixture, restyle, erase_all, hide_cursor, show_cursor};
 ghost use Rattle.roam_paint.specs.Texts.{code_text, colour_text};
 ghost use Rattle.roam_scroll_paint.specs.Sequences.{text_of};
@@ -9,16 +8,9 @@ ghost use Rattle.roam_scroll_paint.specs.Bands.{to_row, set_margins, reset_margi
 ghost use Rattle.roam_scroll_paint.specs.Rows.{placing_at, erase_line};
 
 use crate::bands::Band;
-use itoa::Buffer;
-use roam_cells::{Cell, Colour, Style};
+use roam_cells::{Colour, Style};
+use roam_paint::{push_code, push_number};
 use std::alloc::AllocError;
-
-fn push_number(text: &mut Vec<u8>, n: u16) -> Result<(), AllocError>
-    ensures number { OnOk result (text.new.items ≡ text.old.items ++ decimal n) }
-{
-    let mut buffer = Buffer::new();
-    text.extend_from_slice(buffer.format(n).as_bytes())
-}
 
 // CUP (ECMA-48 8.3.21) to a row and a column, both from 1.
 #[tactic(auto, using(roam_paint::proofs::Spellings::place_cursor_text))]
@@ -125,16 +117,6 @@ fn push_band(text: &mut Vec<u8>, band: Band) -> Result<(), AllocError>
     Ok(())
 }
 
-fn push_code(text: &mut Vec<u8>, on: bool, code: u16) -> Result<(), AllocError>
-    ensures text { OnOk result (text.new.items ≡ text.old.items ++ code_text on code) }
-{
-    if on {
-        text.extend_from_slice(b";")?;
-        push_number(text, code)?;
-    }
-    Ok(())
-}
-
 fn push_colour(text: &mut Vec<u8>, code: u16, colour: Colour) -> Result<(), AllocError>
     ensures text { OnOk result (text.new.items ≡ text.old.items ++ colour_text code colour) }
 {
@@ -214,24 +196,6 @@ pub fn push_rendition(text: &mut Vec<u8>, codes: &[u16]) -> Result<(), AllocErro
     push_number(text, codes[0])?;
     push_codes(text, &codes[1..])?;
     text.extend_from_slice(b"m")?;
-    Ok(())
-}
-
-fn push_point(text: &mut Vec<u8>, point: char) -> Result<(), AllocError>
-    ensures text { OnOk result (text.new.items ≡ text.old.items ++ encode_utf8 point) }
-{
-    let mut bytes = [0u8; 4];
-    text.extend_from_slice(point.encode_utf8(&mut bytes).as_bytes())
-}
-
-/// The code points of a cell, in UTF-8; a right half has none.
-pub fn push_points(text: &mut Vec<u8>, cell: &Cell) -> Result<(), AllocError>
-    ensures text { OnOk result (text.new.items ≡ text.old.items ++ flat_map encode_utf8 cell.now.points) }
-{
-    let points = cell.chars();
-    for point in points.as_slice() {
-        push_point(text, *point)?;
-    }
     Ok(())
 }
 
