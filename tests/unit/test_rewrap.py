@@ -226,6 +226,19 @@ class Resized(Keeping):
         self.resizer.resize(WIDE)
         self.assertEqual((self.handed(), self.pane.sizes[-1]), (b"size 1 23 80\n", WIDE))
 
+    def test_losing(self):
+        """While output for the scrollback process is lost, the size cuts at once, and the pane's rows say that some were lost."""
+        self.write()
+        self.scrollback.is_losing = True
+        self.resizer.resize(NARROW)
+        self.assertEqual((self.pane.sizes, self.pane.quota, self.handed()), ([NARROW], None, b""))
+        self.scrollback.feed(1, b"b")
+        self.scrollback.is_losing = False
+        self.scrollback.feed(1, b"c")
+        self.assertEqual(self.handed(), b"pane 1 23 39\nbytes 1 1\ncgone 0\n")
+        self.prints(b"rows 1 1 3\n d\n")
+        self.assertEqual(all_rows(self.scrollback.panes[1].rows)[1], [" [rows were lost here]", " d"])
+
     def test_ended(self):
         """If the scrollback process ends meanwhile, the programs learn the size at once."""
         self.write()

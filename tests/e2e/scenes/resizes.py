@@ -237,3 +237,22 @@ def resize_zooms(folder):
     time.sleep(1)
     check("every pane has its text", comes(lambda: texts() == before), list(zip(before, texts())))
     check("in time", time.monotonic() - begin < 60, time.monotonic() - begin)
+
+
+@scene
+def resize_fits(folder):
+    """C-b r at a smaller terminal wraps the lines, and C-b r at the larger one makes them whole."""
+    outer = begun()
+    small = Outer(tool("mux", "work"), (24, 50))
+    check("the smaller one shows a part", comes(lambda: small.rows()[-1].rstrip().endswith("C-b r fits")), small.rows())
+    small.type(b"\x02r")
+    time.sleep(0.5)
+    if any("y/n" in row for row in small.rows()):
+        small.type(b"y")
+    check("C-b r wraps the lines", comes(lambda: not are_whole(outer) and any(row.startswith("08>") or "08>" in row for row in small.rows())),
+          small.rows())
+    outer.type(b"\x02r")
+    time.sleep(0.5)
+    if any("y/n" in row for row in outer.rows()):
+        outer.type(b"y")
+    check("C-b r at the larger one makes them whole", comes(lambda: are_whole(outer)), outer.rows())
