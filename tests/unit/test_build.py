@@ -62,9 +62,18 @@ class Reading(Case):
         self.assertEqual(tool.ways(CRATES, tool.needed(CRATES, "roam")), {"low": 160.0, "left": 150.0, "right": 70.0, "roam": 50.0})
 
     def test_threads(self):
-        """A proof gets the processors that no other needs, one at least and four at most."""
+        """A proof gets the processors that no other needs, one at least and four at most. One of the longest chain gets most of them."""
         for jobs, others, wanted in ((4, 0, 4), (4, 1, 3), (4, 3, 1), (4, 9, 1), (1, 0, 1), (16, 0, 4), (2, 0, 2)):
-            self.assertEqual(tool.threads_for(jobs, others), wanted, (jobs, others))
+            self.assertEqual(tool.threads_for(jobs, others, False), wanted, (jobs, others))
+        for jobs, others, wanted in ((4, 0, 4), (4, 3, 3), (4, 9, 3), (1, 0, 1), (16, 20, 4), (2, 5, 1)):
+            self.assertEqual(tool.threads_for(jobs, others, True), wanted, (jobs, others))
+
+    def test_critical(self):
+        """The longest chain of a goal begins with one crate; the end of a shorter chain is never one."""
+        plan = tool.Plan.of(CRATES, ["roam"], ["left", "right", "roam"])
+        self.assertEqual([name for name in ("left", "right", "roam") if plan.is_critical(name, [])], ["left"])
+        plan.left.remove("left")
+        self.assertEqual([plan.is_critical("right", running) for running in ([], ["left"])], [True, False])
 
 
 class Stale(Case):
