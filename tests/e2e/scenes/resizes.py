@@ -6,7 +6,7 @@ import subprocess
 import time
 
 from scenes.zoom import there
-from tried import Outer, check, children, comes, is_scrollback_process, noted, said, scene, tool
+from tried import SESSION, Outer, check, children, comes, is_scrollback_process, noted, said, scene, tool
 
 # Lines that are wider than a pane after a split, each with a number at both ends.
 LINES = [f"<{number:02d} " + "abcdefghi " * 7 + f"{number:02d}>" for number in range(1, 9)]
@@ -18,7 +18,7 @@ PRINTS = b"PS1='$ '; clear; i=0; while [ $i -lt 8 ]; do i=$((i+1)); printf '<%02
 
 def begun():
     """Return a terminal with a new session of one pane, in which the lines are shown."""
-    outer = Outer(tool("mux", "new", "work"), (24, 90))
+    outer = Outer(tool("mux", "new", SESSION), (24, 90))
     outer.settled(0)
     outer.type(PRINTS)
     check("the lines are shown", comes(lambda: are_whole(outer)), outer.rows())
@@ -43,7 +43,7 @@ def resize_split(folder):
     time.sleep(0.5)
     outer.type(b"exit\r")
     check("and after one in the other direction", comes(lambda: are_whole(outer)), outer.rows())
-    check("mux capture has each once", [said("capture", "work")[1].count(line[:8]) for line in LINES] == [1] * 8, said("capture", "work"))
+    check("mux capture has each once", [said("capture", SESSION)[1].count(line[:8]) for line in LINES] == [1] * 8, said("capture", SESSION))
 
 
 @scene
@@ -62,8 +62,8 @@ def resize_narrow(folder):
     time.sleep(1)
     outer.resize(24, 90)
     check("they come back from the scrollback", comes(lambda: are_whole(outer)), outer.rows())
-    check("none is stored twice", [said("capture", "-S", "-", "work")[1].count(line[:8]) for line in LINES] == [1] * 8,
-          said("capture", "-S", "-", "work"))
+    check("none is stored twice", [said("capture", "-S", "-", SESSION)[1].count(line[:8]) for line in LINES] == [1] * 8,
+          said("capture", "-S", "-", SESSION))
 
 
 @scene
@@ -90,7 +90,7 @@ def resize_vim(folder):
 @scene
 def resize_writes(folder):
     """Numbered lines of a program that writes all the time are stored once each, while sizes change."""
-    outer = Outer(tool("mux", "new", "work"), (24, 80))
+    outer = Outer(tool("mux", "new", SESSION), (24, 80))
     outer.settled(0)
     outer.type(b"i=0; while [ $i -lt 3000 ]; do i=$((i+1)); echo \"number $i of a line that is long enough to wrap in a narrow pane\"; "
                b"[ $((i % 20)) = 0 ] && sleep 0.05; done; echo written\r")
@@ -100,7 +100,7 @@ def resize_writes(folder):
     outer.resize(24, 80)
     check("all is written", comes(lambda: any(row.startswith("written") for row in outer.rows()), 60), outer.rows())
     time.sleep(1)
-    words = said("capture", "-S", "-", "-J", "work")[1].replace("\n", " ")
+    words = said("capture", "-S", "-", "-J", SESSION)[1].replace("\n", " ")
     counts = [words.count(f"number {number} of a line") for number in range(1, 3001)]
     check("each line is stored once", counts == [1] * 3000, [(number + 1, count) for number, count in enumerate(counts) if count != 1][:20])
 
@@ -128,7 +128,7 @@ def resize_within(folder):
 def resize_without(folder):
     """A scrollback process that is stopped or killed delays no size, and later lines are whole again."""
     outer = begun()
-    process = next(one for one in children(noted("work")["host"][0]) if is_scrollback_process(one))
+    process = next(one for one in children(noted(SESSION)["host"][0]) if is_scrollback_process(one))
     os.kill(process, signal.SIGSTOP)
     outer.resize(24, 50)
     time.sleep(1)
@@ -157,10 +157,10 @@ def resize_without(folder):
 @scene
 def resize_log(folder):
     """`mux log` prints each line once across fifty sizes."""
-    outer = Outer(tool("mux", "new", "work"), (24, 80))
+    outer = Outer(tool("mux", "new", SESSION), (24, 80))
     outer.settled(0)
     with open(folder / "log", "wb") as log:
-        process = subprocess.Popen(tool("mux", "log", "-J", "work"), stdout=log)
+        process = subprocess.Popen(tool("mux", "log", "-J", SESSION), stdout=log)
 
         def is_logging():
             outer.type(b"seq 60\r")
@@ -199,7 +199,7 @@ def resize_prompt(folder):
 @scene
 def resize_endless(folder):
     """A line of 100 MB passes through sizes, and the session goes on."""
-    outer = Outer(tool("mux", "new", "work"), (24, 80))
+    outer = Outer(tool("mux", "new", SESSION), (24, 80))
     outer.settled(0)
     outer.type(b"head -c 100000000 /dev/zero | tr '\\0' a; echo; echo over\r")
     for place in range(20):
@@ -213,22 +213,22 @@ def resize_endless(folder):
 @scene
 def resize_zooms(folder):
     """Nine full panes have all their characters after a hundred zooms."""
-    outer = Outer(tool("mux", "new", "work"), (40, 120))
+    outer = Outer(tool("mux", "new", SESSION), (40, 120))
     outer.settled(0)
     for key in (b"\x02%", b"\x02%", b"\x02\"", b"\x02\"", b"\x02\x1b[D\x02\"", b"\x02\"", b"\x02\x1b[D\x02\"", b"\x02\""):
         outer.type(key)
         time.sleep(0.3)
     outer.type(b"\x02 ")
     time.sleep(0.5)
-    panes = sorted(there("work").rects)
+    panes = sorted(there(SESSION).rects)
     check("nine panes are there", len(panes) == 9, panes)
     for pane in panes:
-        said("send", "-l", f"work.{pane}", f"PS1='$ '; clear; for n in 1 2 3 4; do echo p{pane}-$n-abcdefghijklmnopqrstuvwxyz; done")
-        said("send", f"work.{pane}", "Enter")
+        said("send", "-l", f"{SESSION}.{pane}", f"PS1='$ '; clear; for n in 1 2 3 4; do echo p{pane}-$n-abcdefghijklmnopqrstuvwxyz; done")
+        said("send", f"{SESSION}.{pane}", "Enter")
     time.sleep(1)
 
     def texts():
-        return [said("capture", "-J", f"work.{pane}")[1] for pane in panes]
+        return [said("capture", "-J", f"{SESSION}.{pane}")[1] for pane in panes]
     before = texts()
     begin = time.monotonic()
     for _ in range(100):
@@ -243,7 +243,7 @@ def resize_zooms(folder):
 def resize_fits(folder):
     """C-b r at a smaller terminal wraps the lines, and C-b r at the larger one makes them whole."""
     outer = begun()
-    small = Outer(tool("mux", "work"), (24, 50))
+    small = Outer(tool("mux", SESSION), (24, 50))
     check("the smaller one shows a part", comes(lambda: small.rows()[-1].rstrip().endswith("C-b r fits")), small.rows())
     small.type(b"\x02r")
     time.sleep(0.5)
