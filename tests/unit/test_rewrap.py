@@ -2,9 +2,10 @@
 from unittest import mock
 
 from aids import StillLoop
+from roam_live.host import scrollback
 from roam_live.host.pane import PaneCommand
 from roam_live.host.rewrap import ANSWER_WAIT, BEGINS_UPDATE, ENDS_UPDATE, MOST_LATE, PASSED_ON, PaneResizer
-from roam_live.host.scrollback_process import GATHERS, BadRecord, ScrollbackRecords
+from roam_live.host.scrollback_process import GATHERS, MOST_TERMINALS, BadRecord, ScrollbackRecords
 from roam_live.host.scrollback_store import RowsRoom
 from roam_live.host.state import PaneState
 from test_scrollback import Keeping
@@ -151,6 +152,17 @@ class Resized(Keeping):
         self.assertEqual(self.handed(), b"screen 1\n")
         self.prints(b"rows 1 1 3\n x\nscreen 1 1 4\n vi\n")
         self.assertEqual(([snapshot.screen.data for snapshot in found], self.scrollback.panes[1].rows.end), ([b" vi\n"], 0))
+
+    def test_numbers(self):
+        """A new terminal gets a number that no pane uses, and not every pane gets a second one."""
+        self.own_main()
+        self.scrollback.last = MOST_TERMINALS - 1
+        self.scrollback.begin(2, 1, WIDE)
+        self.scrollback.feed(2, b"b")
+        self.assertEqual(self.handed(), b"pane 2 23 80\nbytes 2 1\nb")
+        self.patch_of(scrollback, "MOST_SECONDS", 1)
+        self.scrollback.keep_main(2, NARROW)
+        self.assertEqual((self.handed(), self.scrollback.panes[2].second), (b"", -1))
 
     def test_alternate_cut(self):
         """If the main screen can't be wrapped after all, the size cuts it; so does a missing answer."""

@@ -37,7 +37,8 @@ class PaneResizer:
         # The newest size, and the one that is asked for now.
         self.wanted = pane.state.size
         self.asked: Size | None = None
-        # True while the answer to a question is missing; the number of answers that are too late, and how often one was since the last size.
+        # True while the answer to a question is missing. Then the number of answers that are too late, and how many were since the last
+        # size.
         self.is_in_flight = False
         self.late = self.was_late = 0
         # True if a size came while the programs showed the alternate screen. The lines of the main screen are kept, and wrapped later.

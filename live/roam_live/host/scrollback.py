@@ -45,6 +45,9 @@ TOLD_FOR = 60.0
 # The rows of an ended pane stay for at most so many seconds, for log readers.
 LAST_WAIT = 10.0
 
+# The most second terminals, so that each of 891 panes finds a number for its first one. A pane above that shows its screen at the old size.
+MOST_SECONDS = 64
+
 # The sequence that shows the alternate screen (xterm, 1049).
 SHOWS_OTHER = b"\x1b[?1049h"
 
@@ -243,6 +246,8 @@ class Scrollback:
         if pane.second >= 0:
             self.process.add("size {} {} {}".format(pane.second, *allowed(size)))
             return
+        if sum(other.second >= 0 for other in self.panes.values()) >= MOST_SECONDS:
+            return
         pane.second = self.new_terminal(size)
         self.seconds[pane.second] = pane
         self.process.add_bytes(pane.second, SHOWS_OTHER)
@@ -301,9 +306,11 @@ class Scrollback:
             self.process.add_bytes(pane.terminal, SHOWS_OTHER)
 
     def new_terminal(self, size: Size) -> int:
-        """Begin a terminal in the scrollback process, and return its number."""
+        """Begin a terminal in the scrollback process, and return its number, which no pane uses."""
         assert self.process is not None
-        self.last = (self.last + 1) % MOST_TERMINALS
+        used = {number for pane in [*self.panes.values(), *self.leaving] for number in (pane.terminal, pane.second)}
+        self.last = next(number % MOST_TERMINALS for number in range(self.last + 1, self.last + 1 + MOST_TERMINALS)
+                         if number % MOST_TERMINALS not in used)
         self.terminals.pop(self.last, None)
         self.seconds.pop(self.last, None)
         self.process.add("pane {} {} {}".format(self.last, *allowed(size)))
