@@ -132,14 +132,24 @@ pub fn try_listen<R: Files + Net>(rt: &R, path: &str) -> io::Result<()> {
     remove_file(rt, path)
 }
 
-/// Writes a file that this user alone may read, whole or not at all: it is written under another name beside, and renamed.
-pub fn write_alone(files: &impl Files, beside: &str, path: &str, text: &[u8]) -> io::Result<()> {
-    // A file left by an earlier run doesn't matter.
-    let _ = remove_file(files, beside);
+// Creates a file that this user alone may read, writes a text to it, and renames it.
+fn write_renamed(files: &impl Files, beside: &str, path: &str, text: &[u8]) -> io::Result<()> {
     let mut options = OpenOptions::new();
     options.write(true).create_new(true).mode(OWN_FILE);
     let mut file = options.open(files, beside)?;
     file.write_all(text)?;
     drop(file);
     rename(files, beside, path)
+}
+
+/// Writes a file that this user alone may read, whole or not at all: it is written under another name beside, and renamed.
+pub fn write_alone(files: &impl Files, beside: &str, path: &str, text: &[u8]) -> io::Result<()> {
+    // A file left by an earlier run doesn't matter.
+    let _ = remove_file(files, beside);
+    let written = write_renamed(files, beside, path, text);
+    if written.is_err() {
+        // Nor does one that can't be removed.
+        let _ = remove_file(files, beside);
+    }
+    written
 }
