@@ -8,9 +8,11 @@ from unittest import mock
 from aids import Case
 from roam_live.common import late_modules
 from roam_live.common.late_modules import LateModules
+from roam_live.config.command_table import DEFAULT_KEYS
 from roam_live.frontend import bindings
 from roam_live.frontend.commands import REPLACED
 from roam_live.frontend.copymode import controller
+from roam_live.frontend.interpreter import DETACHES
 from test_app import Fronts
 
 LIVE = pathlib.Path(late_modules.__file__).resolve().parents[2]
@@ -89,6 +91,18 @@ class Gone(Fronts):
             self.type(b"\x02[x")
         self.assertEqual((self.front.display.row.told, self.front.left), (REPLACED, None))
         self.assertIn(b"char 78\n", client.recv(9999))
+
+    def test_prefix(self):
+        """If the table of commands is missing, a key after the prefix is reported, the next one is typed, and C-b d detaches."""
+        self.assertEqual(DEFAULT_KEYS[DETACHES], "detach-client")
+        client = self.connect()
+        self.paints()
+        with mock.patch.object(bindings, "DEFAULTS", {}), mock.patch.object(bindings, "default_wishes", side_effect=ImportError("gone")):
+            self.type(b"\x02[x")
+            self.assertEqual((self.front.display.row.told, self.front.left), (REPLACED, None))
+            self.assertIn(b"char 78\n", client.recv(9999))
+            self.type(b"\x02d")
+        self.assertEqual(self.front.left, "[detached]")
 
     def test_keys(self):
         """Without a bundle the keys after the prefix are loaded before a replacement is possible."""

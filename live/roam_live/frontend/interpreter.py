@@ -14,7 +14,7 @@ from roam_live.frontend.commands import Commands
 from roam_live.frontend.display import Display
 from roam_live.frontend.effects import Effect
 from roam_live.frontend.modes import (GOES, CopyKeysMode, CopyPasteMode, HelpMode, HoldMode, LineMode, Mode, ModeStack, PastingMode,
-                                      PickingMode, leaves_paused, under_notice, while_paused)
+                                      PickingMode, PrefixMode, leaves_paused, under_notice, while_paused)
 from roam_live.input.extended_keys import ANSWERED
 from roam_live.input.keys import Key, Keys
 from roam_live.input.mouse_reports import MOUSE
@@ -35,6 +35,9 @@ REPORTED = (COLOUR, ANSWERED, MOUSE)
 # Seconds for other terminals to detach, and for the message with their number.
 LEAVES_IN = 2.0
 OTHERS_STAY = "cannot detach the others: the pty host does not answer"
+
+# The key that detaches after the prefix by default.
+DETACHES = "d"
 
 # The message for an unbound key.
 UNBOUND = "{0} {1} is not bound; {0} ? lists the keys"
@@ -149,6 +152,15 @@ class Interpreter:
         try:
             self.take(key)
         except ImportError:
+            self.take_replaced(key)
+
+    def take_replaced(self, key: Key) -> None:
+        """Report that roam was replaced, and end the prefix. Its key to detach works without the table of commands too."""
+        is_prefixed = self.modes.has(PrefixMode)
+        self.modes.drop(PrefixMode)
+        if is_prefixed and key.name == DETACHES:
+            self.grant("detach")
+        else:
             self.commands().tell_replaced()
 
     def reported(self, key: Key) -> None:
