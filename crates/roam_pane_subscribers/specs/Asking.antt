@@ -21,7 +21,7 @@ pub record AsksFor (line : List ℕ) (close : Close) : Type 0 where
 
 -- A line is done at a moment, with these panes, and gets this reply. It may declare the pty host, or ask for metadata, clips or questions.
 -- It may ask for no close, or for one of a pane that is gone or is the only one. Otherwise the close begins, and the focus goes to the pane
--- that it names; or the server's instance refused it.
+-- that it names. If memory runs out, nothing begins.
 pub data DoesLine (now : PaneList) (line : List ℕ) (moment : ℕ) (old new : Closer) (said : List ℕ) : Type 0 where
   host : is_host_line line ≡ true → new ≡ old → said ≡ [] → DoesLine now line moment old new said
   metadata : is_metadata_line line ≡ true → new ≡ old → said ≡ [] → DoesLine now line moment old new said
@@ -35,8 +35,8 @@ pub data DoesLine (now : PaneList) (line : List ℕ) (moment : ℕ) (old new : C
       → said ≡ codes "last pane\n" → DoesLine now line moment old new said
   closes : (close : Close) → AsksFor line close → is_making now close.pane close.generation ≡ true → (IsAlone now close.pane → ⊥)
       → Closes old new close.pane close.generation (focus_after now close) moment → said ≡ [] → DoesLine now line moment old new said
-  refused : (close : Close) → AsksFor line close → is_making now close.pane close.generation ≡ true → new.closing ≡ old.closing
-      → said ≡ codes "out of memory\n" → DoesLine now line moment old new said
+  refused : (close : Close) → AsksFor line close → is_making now close.pane close.generation ≡ true → (IsAlone now close.pane → ⊥)
+      → new.closing ≡ old.closing → new.datagram ≡ old.datagram → said ≡ codes "out of memory\n" → DoesLine now line moment old new said
 
 -- the first line was done and removed, and its reply is queued; or the subscriber was disconnected
 pub record TakesLine {S : Type 0} (now : PaneList) (moment : ℕ) (closer closer' : Closer) (old new : Subscriber S) : Type 0 where

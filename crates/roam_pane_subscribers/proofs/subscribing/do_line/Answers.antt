@@ -16,17 +16,18 @@ returns-in-LastPane c =
 
 pub returns-in-Ok : goal.returns-in-Ok
 returns-in-Ok c =
-    let may = may_close c.acts_for.result c.args.now.now c.in-Some.close.pane c.in-Some.close.generation c.in-Acts.after c.in-Acts.is c.acts_for.ensures.gone c.acts_for.ensures.last in
+    let may = may_close _ c.args.now.now _ _ _ c.in-Acts.is c.acts_for.ensures.gone c.acts_for.ensures.last in
     let focus = focus_is _ _ _ c.in-Acts.is c.acts_for.ensures.acts in
     record {
       does = closes c.in-Some.close (asks_for _ _ _ c.in-Some.is c.read_close.ensures.found) may.0 may.1
-          (subst (λ after. Closes c.args.closer.now c.close.new.self c.in-Some.close.pane c.in-Some.close.generation after c.args.moment) focus
-          (search rules)) refl;
+          (subst (λ after. Closes c.args.closer.now c.close.new.self c.in-Some.close.pane c.in-Some.close.generation after c.args.moment)
+          focus (search rules)) refl;
     }
 
 pub returns-in-Err : goal.returns-in-Err
 returns-in-Err c =
-    let may = may_close c.acts_for.result c.args.now.now c.in-Some.close.pane c.in-Some.close.generation c.in-Acts.after c.in-Acts.is c.acts_for.ensures.gone c.acts_for.ensures.last in
+    let may = may_close _ c.args.now.now _ _ _ c.in-Acts.is c.acts_for.ensures.gone c.acts_for.ensures.last in
     record {
-      does = refused c.in-Some.close (asks_for _ _ _ c.in-Some.is c.read_close.ensures.found) may.0 (search rules) refl;
+      does = refused c.in-Some.close (asks_for _ _ _ c.in-Some.is c.read_close.ensures.found) may.0 may.1
+          (search rules) (search rules) refl;
     }
