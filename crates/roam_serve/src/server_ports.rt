@@ -360,6 +360,7 @@ impl<R: Clock + Drop> ServerPorts<R> {
         ensures moment { self.new.moment ≡ self.old.moment }
         ensures clock { self.new.clock ≡ self.old.clock }
         ensures echoes { self.new.echoes ≡ self.old.echoes }
+        ensures turn { self.new.is_udp_next ≡ self.old.is_udp_next }
     {
         if !self.clients.flush() || !self.closer.is_free() {
             self.waits.stir();
@@ -423,6 +424,7 @@ impl<R: Clock + Drop> ServerPorts<R> {
         ensures echoes { self.new.echoes ≡ self.old.echoes }
         ensures telling { self.new.telling ≡ self.old.telling }
         ensures clipping { self.new.clipping ≡ self.old.clipping }
+        ensures turn { self.new.is_udp_next ≡ self.old.is_udp_next }
     {
         self.take_subscribers();
         let may_ask = self
@@ -444,6 +446,7 @@ impl<R: Clock + Drop> ServerPorts<R> {
         ensures clock { self.new.clock ≡ self.old.clock }
         ensures echoes { self.new.echoes ≡ self.old.echoes }
         ensures clipping { self.new.clipping ≡ self.old.clipping }
+        ensures turn { self.new.is_udp_next ≡ self.old.is_udp_next }
     {
         tell_metadata(
             self.alloc,
@@ -465,6 +468,7 @@ impl<R: Clock + Drop> ServerPorts<R> {
         ensures clock { self.new.clock ≡ self.old.clock }
         ensures echoes { self.new.echoes ≡ self.old.echoes }
         ensures telling { self.new.telling ≡ self.old.telling }
+        ensures turn { self.new.is_udp_next ≡ self.old.is_udp_next }
     {
         tell_clips(
             self.alloc,
@@ -487,6 +491,7 @@ impl<R: Clock + Drop> ServerPorts<R> {
         ensures echoes { self.new.echoes ≡ self.old.echoes }
         ensures telling { self.new.telling ≡ self.old.telling }
         ensures clipping { self.new.clipping ≡ self.old.clipping }
+        ensures turn { self.new.is_udp_next ≡ self.old.is_udp_next }
     {
         tell_queries(self.alloc, &mut self.subscribers, &self.panes);
     }
@@ -498,6 +503,7 @@ impl<R: Clock + Drop> ServerPorts<R> {
         ensures panes { AllZip IsMended self.old.panes.all.items self.new.panes.all.items
             ⊎ (self.new.panes ≡ self.old.panes) }
         ensures moment { self.new.moment ≡ self.old.moment }
+        ensures turn { self.new.is_udp_next ≡ self.old.is_udp_next }
     {
         if !is_time(Some(self.mended), self.clock, MENDS) {
             return;
@@ -565,6 +571,7 @@ impl<R: Clock + Drop> Ports for ServerPorts<R> {
         } }
         ensures moment { self.new.moment ≡ result }
         ensures panes { self.new.panes ≡ self.old.panes }
+        ensures turn { self.new.is_udp_next ≡ self.old.is_udp_next }
     {
         self.clock = self.moments.now();
         let goes_on = self.panes.any_goes_on();
@@ -582,6 +589,8 @@ impl<R: Clock + Drop> Ports for ServerPorts<R> {
         ensures own { IfSome self.old.closer.datagram (λ datagram. GivesOwn datagram.items buf.new result) }
         ensures others { self.old.closer.datagram ≡ None → IfSome result (λ r. IsOf self.old.clients r.0 ⊎ (number_of r.0 ≡ None)) }
         ensures closer { self.new.closer ≡ record self.old.closer { datagram = None } }
+        ensures turn { self.old.closer.datagram ≡ None → self.new.is_udp_next ≡ not self.old.is_udp_next }
+        ensures own_turn { IfSome self.old.closer.datagram (λ _. self.new.is_udp_next ≡ self.old.is_udp_next) }
         ensures stirs { IfSome result (λ _. self.new.waits.quiet ≡ false) }
         ensures panes { self.new.panes ≡ self.old.panes }
     {
@@ -601,6 +610,7 @@ impl<R: Clock + Drop> Ports for ServerPorts<R> {
             IsQueuedFor self.old.clients.all.items self.new.clients.all.items (number_of to) bytes.now) }
         ensures far { number_of to ≡ None → SendsBy self.old.clock to self.old.udp self.new.udp bytes.now result }
         ensures panes { self.new.panes ≡ self.old.panes }
+        ensures turn { self.new.is_udp_next ≡ self.old.is_udp_next }
     {
         if to == OWN {
             self.closer.hear(self.alloc, bytes, self.moment);
@@ -616,6 +626,7 @@ impl<R: Clock + Drop> Ports for ServerPorts<R> {
     fn pane_generations(&mut self, pane: u8, generation: Option<u64>)
         ensures lives { Changes (Generations generation) pane self.old.panes.all.items self.new.panes.all.items }
         ensures waits { self.new.waits ≡ self.old.waits }
+        ensures turn { self.new.is_udp_next ≡ self.old.is_udp_next }
     {
         self.panes.live(pane, generation);
     }
@@ -644,6 +655,7 @@ impl<R: Clock + Drop> Ports for ServerPorts<R> {
           left = if is_full (typed_in self.old.echoes.typed pane) result (length buf.old) self.old.clock
               then self.old.echoes.left - 1 else self.old.echoes.left;
         } }
+        ensures turn { self.new.is_udp_next ≡ self.old.is_udp_next }
     {
         let had_peer = self.panes.has_peer(pane);
         let asks = self.panes.queries_at(pane);
@@ -667,6 +679,7 @@ impl<R: Clock + Drop> Ports for ServerPorts<R> {
         ensures stirs { 0 < result → self.new.waits.quiet ≡ false }
         ensures echoes { self.new.echoes ≡ self.old.echoes }
         ensures still { self.new.waits.quiet ≡ true → 1 ≤ pane → IsStill pane self.old.panes.all.items self.new.panes.all.items }
+        ensures turn { self.new.is_udp_next ≡ self.old.is_udp_next }
     {
         let had_peer = self.panes.has_peer(pane);
         let count = self.panes.write(self.waits.registry(), pane, bytes);
@@ -680,6 +693,7 @@ impl<R: Clock + Drop> Ports for ServerPorts<R> {
     fn show(&mut self, _bytes: &[u8]) -> bool
         ensures none { result ≡ false }
         ensures panes { self.new.panes ≡ self.old.panes }
+        ensures turn { self.new.is_udp_next ≡ self.old.is_udp_next }
     {
         false
     }
