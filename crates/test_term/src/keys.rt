@@ -1,5 +1,5 @@
 //! Keys: the bytes of each kind under the modes of a terminal, and a full queue.
-use crate::trials::{Trial, stands};
+use crate::term_trials::{Trial, stands};
 use roam_acts::{Act, Key, read_act};
 use roam_cells::Fault;
 use roam_term::Term;

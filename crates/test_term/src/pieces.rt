@@ -1,7 +1,7 @@
 //! The terminal of a pane, fed by pieces: renditions, sizes, the queue of answers. The tests of `roam show` have the effect of text and
 //! moves on a screen.
-use crate::rows::shows;
-use crate::trials::{Trial, stands};
+use crate::term_rows::shows;
+use crate::term_trials::{Trial, stands};
 use roam_cells::{Colour, Fault, Style};
 use roam_screens::Shot;
 use roam_term::{MOST_PIECE, Term};

@@ -1,6 +1,6 @@
 //! The history, views and sizes: the rows that leave for the history, the rows of a view, and the effect of a size on both.
-use crate::rows::{pair, shown, shows};
-use crate::trials::{Trial, stands};
+use crate::term_rows::{pair, shown, shows};
+use crate::term_trials::{Trial, stands};
 use roam_cells::Fault;
 use roam_screens::Shot;
 use roam_term::Term;

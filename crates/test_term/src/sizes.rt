@@ -1,5 +1,5 @@
 //! Sizes from each to each: the rows that leave, the cut parts, and the cursor, on the main and on the alternate screen.
-use crate::trials::{Trial, stands};
+use crate::term_trials::{Trial, stands};
 use roam_cells::Fault;
 use roam_screens::Shot;
 use roam_term::Term;

@@ -2,8 +2,8 @@
 //!
 //! A row has bytes and the cursor that shows their effect. On a screen of 3 by 8 an X is written in the last column of the first row, then
 //! the bytes, then a Y. If the wrap is still pending, Y goes to the second row. Control characters are written as their pictures.
-use crate::rows::{bytes_of, is_at};
-use crate::trials::{Trial, stands};
+use crate::term_rows::{bytes_of, is_at};
+use crate::term_trials::{Trial, stands};
 use roam_term::Term;
 use std::alloc::Global;
 use std::test::*;

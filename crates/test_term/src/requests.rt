@@ -8,8 +8,9 @@
 //! `generations`, those of the panes from 1 on; `marked`, the marked rows, from 1; `digits`, that each of nine panes shows its number.
 //! Behind `shows` follow rows of the face from the first, without the blanks at their ends, the cursor, and its `extent`. A refused size
 //! has the refusal in its place. Control characters and spaces at the end are written as their pictures (U+2400 to U+2420).
-use crate::memory::face_of;
-use crate::words::{bytes_of, halves, reads_numbers, short, word_of};
+use crate::session_memory::face_of;
+use crate::session_words::{halves, reads_numbers, short, word_of};
+use crate::term_rows::bytes_of;
 use roam_acts::read_act;
 use roam_cells::{Cell, Fault, Style, are_same_cells};
 use roam_screens::{RowShot, Seen};

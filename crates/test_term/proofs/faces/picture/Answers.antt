@@ -1,7 +1,7 @@
 use Rattle.std.proofs.Common.{◌≡◌, ◌*◌, List, length, refl, sym, subst, ap, ◌∙◌, arith}
 use Rattle.roam_cells.specs.Glyph.{Glyph}
 use Rattle.roam_cells.specs.Place.{AreWhole}
-use Rattle.test_layout.proofs.faces.picture.Goals as goal
+use Rattle.test_term.proofs.faces.picture.Goals as goal
 
 pub new-requires-clause-whole : goal.new-requires-clause-whole
 new-requires-clause-whole c =

@@ -1,6 +1,6 @@
 //! Sessions: the effect of acts, bytes and drains on the face and on the queued bytes.
-use crate::memory::made;
 use crate::requests::{does_all, first_wrong, is_same_screen};
+use crate::session_memory::made;
 use roam_session::Session;
 use std::alloc::Global;
 use std::test::*;

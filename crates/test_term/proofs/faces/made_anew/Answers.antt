@@ -1,7 +1,7 @@
 use Rattle.std.proofs.Common.{◌<◌, true, false, sym, ◌∙◌, arith}
 use Rattle.std.proofs.lemmas.Bool.{false≢true}
 use Rattle.std.proofs.lemmas.List.{get_or-replicate}
-use Rattle.test_layout.proofs.faces.made_anew.Goals as goal
+use Rattle.test_term.proofs.faces.made_anew.Goals as goal
 
 -- no mark is off
 pub face_over-requires-clause-kept : goal.face_over-requires-clause-kept

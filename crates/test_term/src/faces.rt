@@ -6,7 +6,7 @@ ghost use Rattle.std.specs.Prelude.{◌≡◌, length, IfOk};
 ghost use Rattle.roam_layout.specs.Layouts.{panes};
 ghost use Rattle.roam_layout.specs.Faces.{ArePictures};
 
-use crate::words::{are_numbers, number};
+use crate::layout_words::{are_numbers, number};
 use roam_acts::{Act, read_act};
 use roam_cells::{Cell, Fault, Style, are_same_cells, are_unguarded, is_well_formed};
 use roam_layout::{Layout, Rect, face, face_over, push_row};

@@ -1,6 +1,5 @@
 //! Words of cases: a table that is one text is proved at once, whatever its length.
 use roam_cells::{Fault, Reason};
-use std::alloc::Global;
 
 /// The word for a refusal; no case has that for one of another kind.
 pub fn word_of(fault: Fault) -> &'static str {
@@ -39,21 +38,4 @@ pub fn reads_numbers(text: &str, places: &mut [u64]) -> bool {
 /// A number of two bytes: that of a case, or the largest.
 pub fn short(number: u64) -> u16 {
     number.min(0xFFFF) as u16
-}
-
-// The character of a control picture; any other character is itself.
-fn character_of(c: char) -> char {
-    match c {
-        '\u{2400}'..='\u{2420}' => char::from((c as u32 - 0x2400) as u8),
-        _ => c,
-    }
-}
-
-/// The bytes of a text with pictures of control characters.
-pub fn bytes_of(alloc: Global, spelled: &str) -> Result<String, Fault> {
-    let mut bytes = String::new(alloc);
-    for c in spelled.chars() {
-        bytes.push(character_of(c))?;
-    }
-    Ok(bytes)
 }

@@ -3,8 +3,8 @@
 //!
 //! A row has the bytes, then the three rows of the screen and its cursor. The screen of 3 by 8 was full of letters with the cursor at home.
 //! Control characters are written as their pictures (U+2400 to U+2421).
-use crate::rows::bytes_of;
-use crate::trials::{Trial, stands};
+use crate::term_rows::bytes_of;
+use crate::term_trials::{Trial, stands};
 use roam_term::Term;
 use std::alloc::Global;
 use std::test::*;

@@ -1,14 +1,14 @@
 //! The trials of a terminal. It is made only here: a function that owns one is expensive to prove.
-use crate::edges::feeds;
 use crate::keys::{is_filled, sends};
 use crate::pieces::{
     draws, fills_and_empties, has_nothing, reverses, takes_any, takes_the_longest,
 };
-use crate::rows::shows;
 use crate::scrollback::{
     is_whole, keeps_its_size, loses_the_oldest, shows_after, takes_a_size_inside, takes_a_thousand,
 };
 use crate::sizes::{Case, takes_its_size};
+use crate::term_edges::feeds;
+use crate::term_rows::shows;
 use crate::wraps::leaves_cursor;
 use roam_cells::Style;
 use roam_term::Term;

@@ -1,5 +1,5 @@
 //! Layouts: acts one after another, with the answer to each and the layout then.
-use crate::words::{are_numbers, is_number};
+use crate::layout_words::{are_numbers, is_number};
 use roam_acts::{Act, read_act};
 use roam_cells::Fault;
 use roam_layout::{Changes, Layout, PaneSize, Rect, Way};

@@ -3,7 +3,8 @@ ghost use Rattle.std.specs.Prelude.{◌≤◌, IfOk, OnOk};
 ghost use Rattle.std.specs.List.{All};
 ghost use Rattle.roam_simulation.specs.Events.{IsHandedIn};
 
-use crate::words::{bytes_of, halves, reads_numbers, short, word_of};
+use crate::session_words::{halves, reads_numbers, short, word_of};
+use crate::term_rows::bytes_of;
 use roam_acts::{Act, read_act};
 use roam_cells::Fault;
 use roam_hub::{Addr, Heard};

@@ -10,7 +10,7 @@ use std::alloc::Global;
 // The character of a control picture; any other character is itself.
 fn character_of(c: char) -> char {
     match c {
-        '\u{2400}'..='\u{241F}' => char::from((c as u32 - 0x2400) as u8),
+        '\u{2400}'..='\u{2420}' => char::from((c as u32 - 0x2400) as u8),
         '\u{2421}' => '\u{7F}',
         _ => c,
     }
