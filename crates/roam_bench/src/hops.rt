@@ -5,8 +5,7 @@ use roam_screens::RowShot;
 use std::alloc::Global;
 use std::io::{BufRead, BufReader};
 use std::str::SplitWhitespace;
-use test_scroll_paint::moved;
-use test_update_paint::{change, narrow_change, painted, screen};
+use test_paint::{change, moved, narrow_change, painted, screen};
 
 fn number(words: &mut SplitWhitespace<'_>) -> anyhow::Result<u16> {
     let word = words.next().and_then(|word| word.parse::<u16>().ok());

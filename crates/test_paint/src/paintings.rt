@@ -3,7 +3,8 @@
 //! Tables are texts, one case after another with an empty line between them: the input of two terminals, with a bar between. In `TEXTS` a
 //! name comes before, and the text between their screens behind.
 use crate::screen;
-use roam_cells::{Cell, Fault};
+use crate::screens::{shown_by, shows_after};
+use roam_cells::Fault;
 use roam_paint::{open, paint};
 use roam_screens::Shot;
 use roam_term::Term;
@@ -139,41 +140,9 @@ const PAIRS: &str = "\
 
 2 8 abc\x1B[?5h|2 8 abc";
 
-// Returns the screen of a text such as `2 8 abc`: rows, columns, and the input.
-fn shown_by(alloc: Global, text: &str) -> Result<Shot, Fault> {
-    let (rows, rest) = text.split_once(' ').unwrap_or((text, ""));
-    let (cols, input) = rest.split_once(' ').unwrap_or((rest, ""));
-    let rows = rows.parse::<u16>().unwrap_or(0);
-    let cols = cols.parse::<u16>().unwrap_or(0);
-    screen(alloc, rows, cols, input.as_bytes())
-}
-
 // The screen of 2 by 8 that these bytes make.
 fn small(alloc: Global, input: &str) -> Result<Shot, Fault> {
     screen(alloc, 2, 8, input.as_bytes())
-}
-
-fn has_cell(shown: &Shot, screen: &Shot, row: u16, col: u16) -> bool {
-    let wanted = match screen.at(row, col) {
-        Some(cell) => cell,
-        None => Cell::blank(),
-    };
-    match shown.at(row, col) {
-        Some(cell) => cell.is_same(&wanted),
-        None => false,
-    }
-}
-
-// Returns true if the terminal's screen is the expected one, with blanks outside it.
-fn is_shown(shown: &Shot, screen: &Shot) -> bool {
-    for row in 1..=shown.rows() {
-        for col in 1..=shown.cols() {
-            if !has_cell(shown, screen, row, col) {
-                return false;
-            }
-        }
-    }
-    shown.cursor() == screen.cursor() && shown.visible() == screen.visible()
 }
 
 // The text that opens a terminal and leads it to a screen.
@@ -183,11 +152,6 @@ fn opening_to(alloc: Global, screen: &Shot) -> Result<Vec<u8>, Fault> {
     let blank = Shot::blank(alloc, screen.rows(), screen.cols())?;
     paint(&blank, screen, &mut text)?;
     Ok(text)
-}
-
-// Returns true if a terminal shows a screen after a text.
-fn shows_after(alloc: Global, term: &mut Term, text: &[u8], screen: &Shot) -> bool {
-    term.feed(text).is_ok() && matches!(term.shot(alloc, 0), Ok(shown) if is_shown(&shown, screen))
 }
 
 // The text between two screens, behind `before`.

@@ -3,15 +3,16 @@
 //! Tables are texts, one case after another with an empty line between them. A case of `TEXTS` has a name, and in the next line the rows
 //! and columns of a terminal, its input, the input of another of that size, and the text between their screens, with bars between. A case
 //! of `PAIRS` has two terminals, with a bar between.
-use crate::uses::two_texts;
-use roam_cells::{Cell, Fault};
+use crate::screen;
+use crate::screens::{shown_by, shows_after, size_and_input};
+use crate::scroll_paint_uses::two_texts;
+use roam_cells::Fault;
 use roam_paint::paint;
 use roam_screens::Shot;
 use roam_scroll_paint::paint_moved;
 use roam_term::Term;
 use std::alloc::Global;
 use std::test::*;
-use test_update_paint::screen;
 
 const TEXTS: &str = "\
 nothing
@@ -99,50 +100,6 @@ const PAIRS: &str = "\
 
 4 10 abcdefghij|2 8 \x1B[1;2;3;4;5;7;8;9;31;42mabc\x1B[0;1;31md\x1B[42me";
 
-fn words(text: &str) -> (u16, u16, &str) {
-    let (rows, rest) = text.split_once(' ').unwrap_or((text, ""));
-    let (cols, input) = rest.split_once(' ').unwrap_or((rest, ""));
-    (
-        rows.parse::<u16>().unwrap_or(0),
-        cols.parse::<u16>().unwrap_or(0),
-        input,
-    )
-}
-
-// Returns the screen of a text such as `2 8 abc`: rows, columns, and the input.
-fn shown_by(alloc: Global, text: &str) -> Result<Shot, Fault> {
-    let (rows, cols, input) = words(text);
-    screen(alloc, rows, cols, input.as_bytes())
-}
-
-fn has_cell(shown: &Shot, screen: &Shot, row: u16, col: u16) -> bool {
-    let wanted = match screen.at(row, col) {
-        Some(cell) => cell,
-        None => Cell::blank(),
-    };
-    match shown.at(row, col) {
-        Some(cell) => cell.is_same(&wanted),
-        None => false,
-    }
-}
-
-// Returns true if the terminal's screen is the expected one, with blanks outside it.
-fn is_shown(shown: &Shot, screen: &Shot) -> bool {
-    for row in 1..=shown.rows() {
-        for col in 1..=shown.cols() {
-            if !has_cell(shown, screen, row, col) {
-                return false;
-            }
-        }
-    }
-    shown.cursor() == screen.cursor() && shown.visible() == screen.visible()
-}
-
-// Returns true if a terminal shows a screen after a text.
-fn shows_after(alloc: Global, term: &mut Term, text: &[u8], screen: &Shot) -> bool {
-    term.feed(text).is_ok() && matches!(term.shot(alloc, 0), Ok(shown) if is_shown(&shown, screen))
-}
-
 // Returns the text between two screens, behind `before`, if it is no longer than the one that leaves nothing out.
 fn text_between(alloc: Global, old: &Shot, new: &Shot) -> Result<Vec<u8>, Fault> {
     let mut text = Vec::from_slice(alloc, b"before")?;
@@ -220,7 +177,7 @@ fn holds(alloc: Global, case: &str) -> bool {
     let (_, rest) = case.split_once('\n').unwrap_or((case, ""));
     let (old, rest) = rest.split_once('|').unwrap_or((rest, ""));
     let (input, text) = rest.split_once('|').unwrap_or((rest, ""));
-    let (rows, cols, _) = words(old);
+    let (rows, cols, _) = size_and_input(old);
     match (
         shown_by(alloc, old),
         screen(alloc, rows, cols, input.as_bytes()),

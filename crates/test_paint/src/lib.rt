@@ -1,5 +1,5 @@
-//! The texts that lead from one screen to another, for `roam_bench hops`: the diffs of both versions, and the painting; and tests of
-//! them, by public calls alone.
+//! The texts that lead from one screen to another, for `roam_bench`: the diffs of both versions, and the paintings with and without moved
+//! rows. And tests of them, by public calls alone.
 //!
 //! They have a crate of their own, since the gate proves a crate with tests twice.
 #![tactic(auto)]
@@ -9,11 +9,18 @@ mod changes;
 #[cfg(test)]
 mod paintings;
 #[cfg(test)]
+mod screens;
+#[cfg(test)]
+mod scroll_paint_uses;
+#[cfg(test)]
+mod scroll_paintings;
+#[cfg(test)]
 mod tables;
 
 use roam_cells::Fault;
 use roam_paint::paint;
 use roam_screens::{RowShot, RowShot1, Shot};
+use roam_scroll_paint::paint_moved;
 use roam_term::Term;
 use roam_update::Synced;
 use std::alloc::Global;
@@ -65,5 +72,12 @@ pub fn narrow_change(alloc: Global, old: &RowShot, new: &RowShot) -> Result<Vec<
 pub fn painted(alloc: Global, old: &RowShot, new: &RowShot) -> Result<Vec<u8>, Fault> {
     let mut text = Vec::new(alloc);
     paint(old, new, &mut text)?;
+    Ok(text)
+}
+
+/// Returns the painting with moved rows.
+pub fn moved(alloc: Global, old: &RowShot, new: &RowShot) -> Result<Vec<u8>, Fault> {
+    let mut text = Vec::new(alloc);
+    paint_moved(old, new, &mut text)?;
     Ok(text)
 }
