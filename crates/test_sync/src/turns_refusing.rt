@@ -1,8 +1,8 @@
 //! A server that has memory for nothing: a turn hands it all that came, all the same.
 ghost use Rattle.std.specs.Prelude.{None};
 
-use crate::rows::are_letters;
-use crate::stage::SERVER;
+use crate::turns_rows::are_letters;
+use crate::turns_stage::SERVER;
 use roam_cells::Fault;
 use roam_hub::{Addr, Stop};
 use roam_turns::{MemoryPorts, ServerCore, serve_turn};

@@ -1,5 +1,5 @@
-//! Cores without memory: a refused call changes nothing, and is made once more with the same bytes (`calls`).
-use crate::stage::first_wrong;
+//! Cores without memory: a refused call changes nothing, and is made once more with the same bytes (`hub_calls`).
+use crate::hub_stage::first_wrong;
 use std::test::*;
 
 // The acts are the letters a and b, and a split to the right.

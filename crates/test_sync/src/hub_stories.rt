@@ -1,5 +1,5 @@
 //! Where a server sends to, instances of both versions and those that only watch, and datagrams that no core wrote.
-use crate::stage::first_wrong;
+use crate::hub_stage::first_wrong;
 use std::test::*;
 
 const STORIES: &str = "\

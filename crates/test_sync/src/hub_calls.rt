@@ -1,5 +1,5 @@
 //! Calls of the two cores, made once more if memory was refused; a refused call changes nothing.
-use crate::words::word_of;
+use crate::texts::word_of;
 use roam_cells::{Fault, are_same_cells};
 use roam_hub::{Addr, Client, Heard, Server, Stop};
 use roam_screens::{RowShot, Seen};

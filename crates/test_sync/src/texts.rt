@@ -42,17 +42,34 @@ pub fn word_of(fault: Fault) -> &'static str {
         Fault::BadDatagram(Reason::Version) => "version",
         Fault::BadDatagram(Reason::Kind) => "kind",
         Fault::BadDatagram(Reason::Fragment) => "fragment",
-        Fault::BadChange => "bad",
+        Fault::BadChange => "bad change",
         Fault::SendFull => "full",
         Fault::TooLong => "too long",
+        Fault::OtherClient => "other client",
+        Fault::ClientsFull => "clients full",
+        Fault::Watching => "watching",
+        Fault::Busy => "busy",
         _ => "another",
     }
 }
 
-/// The bytes of hexadecimal digits; none of `-`.
-pub fn bytes_of(alloc: Global, digits: &str) -> Option<Vec<u8>> {
-    if digits == "-" {
+fn bytes_once(alloc: Global, text: &str) -> Option<Vec<u8>> {
+    let mut digits = String::new(alloc);
+    for c in text.chars() {
+        if c != ' ' {
+            digits.push(c).ok()?;
+        }
+    }
+    hex::decode(alloc, digits.as_str()).ok()
+}
+
+/// The bytes of hexadecimal digits with spaces between; no byte for `-`. It is tried once more, as memory may be refused.
+pub fn bytes_of(alloc: Global, text: &str) -> Option<Vec<u8>> {
+    if text == "-" {
         return Some(Vec::new(alloc));
     }
-    hex::decode(alloc, digits).ok()
+    match bytes_once(alloc, text) {
+        None => bytes_once(alloc, text),
+        bytes => bytes,
+    }
 }

@@ -1,9 +1,9 @@
 //! The plays on a stage. One function owns it, since each of its exits is proved with all that is dropped there.
 ghost use Rattle.roam_turns.specs.Painting.{IsBehind};
 
-use crate::failing::{Failure, Failures, NONE, has_settled, is_right, play_all};
-use crate::rows::first_fault;
-use crate::stage::Stage;
+use crate::turns_failing::{Failure, Failures, NONE, has_settled, is_right, play_all};
+use crate::turns_rows::first_fault;
+use crate::turns_stage::Stage;
 use roam_cells::Fault;
 use std::alloc::Global;
 

@@ -1,7 +1,7 @@
 //! Each beginning of a datagram, and each with one byte changed to every other value, to a server that knows an instance of each kind and
 //! to each kind of instance, both to the intended end and to the other: a reply or a named refusal, and after a refusal everything goes on
 //! as if nothing had arrived.
-use crate::calls::{at, is_same, only_of, start_of};
+use crate::hub_calls::{at, is_same, only_of, start_of};
 use roam_cells::Fault;
 use roam_hub::{Addr, Client, Heard, Server};
 use roam_screens::RowShot;

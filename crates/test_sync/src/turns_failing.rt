@@ -3,8 +3,8 @@ ghost use Rattle.std.specs.Prelude.{◌≡◌, IfSome};
 ghost use Rattle.roam_acts.specs.Acts.{IsInRange};
 ghost use Rattle.roam_turns.specs.Painting.{IsBehind};
 
-use crate::plays::{Play, is_played};
-use crate::stage::{End, Stage, carry_down, carry_up, serve_at};
+use crate::turns_plays::{Play, is_played};
+use crate::turns_stage::{End, Stage, carry_down, carry_up, serve_at};
 use roam_acts::{Act, Key};
 use roam_cells::Fault;
 use roam_screens::{Seen, Shot, row_text};

@@ -2,8 +2,9 @@
 ghost use Rattle.std.specs.Prelude.{◌≡◌};
 ghost use Rattle.roam_turns.specs.Painting.{IsBehind};
 
-use crate::plays::{Play, is_played};
-use crate::stage::{End, SERVER, Stage, carry_down, carry_up, serve_at};
+use crate::texts::reads_numbers;
+use crate::turns_plays::{Play, is_played};
+use crate::turns_stage::{End, SERVER, Stage, carry_down, carry_up, serve_at};
 use roam_cells::Fault;
 use roam_hub::Server;
 use roam_turns::memory::RecordedCall;
@@ -66,18 +67,6 @@ struct Row<'a> {
     waits: usize,
     calls: &'a str,
     piece: &'a str,
-}
-
-// Puts the numbers of a text into the places, and returns true if there are equally many.
-fn reads_numbers(text: &str, places: &mut [u64]) -> bool {
-    let mut words = text.split(' ');
-    for place in places.iter_mut() {
-        match words.next().map(|word| word.parse::<u64>()) {
-            Some(Ok(number)) => *place = number,
-            _ => return false,
-        }
-    }
-    words.next().is_none()
 }
 
 fn row_of(line: &str) -> Option<Row<'_>> {

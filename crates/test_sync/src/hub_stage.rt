@@ -14,8 +14,8 @@
 //! the server, and `wakes START` that of an instance: a moment, or `never`.
 ghost use Rattle.std.specs.Prelude.{◌≤◌};
 
-use crate::calls::{answers, at, hears, only_of, sent_down, shows_face, start_of};
-use crate::words::{bytes_of, halves, reads_numbers, short, word_of};
+use crate::hub_calls::{answers, at, hears, only_of, sent_down, shows_face, start_of};
+use crate::texts::{bytes_of, halves, reads_numbers, short, word_of};
 use roam_acts::{Act, Key};
 use roam_cells::Fault;
 use roam_hub::{Addr, Client, Heard, Server};

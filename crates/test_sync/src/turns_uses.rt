@@ -37,7 +37,7 @@ pub fn is_begun(alloc: Global, client: &mut Client, server: Addr) -> bool {
 }
 // README: end
 
-use crate::stage::{SERVER, SESSION};
+use crate::turns_stage::{SERVER, SESSION};
 use std::test::*;
 
 fn is_begun_at_first(alloc: Global) -> bool {

@@ -1,5 +1,5 @@
 use Rattle.roam_turns.specs.Painting.{IsBehind}
-use Rattle.test_turns.proofs.failing.play_all.Given as goal
+use Rattle.test_sync.proofs.turns_failing.play_all.Given as goal
 
 abbrev pub invariant-loop-round : goal.invariant-loop-round
 invariant-loop-round l =

@@ -5,7 +5,7 @@
 //! newest is to be sent at one. `len N` is the number of states in the sender, and `tells OLD NEW` the two numbers of its instruction.
 //! `send` keeps the instruction, numbered from 0; after `comes K N` delivers it, the receiver shows the number N. `round N LEN` is a round,
 //! after which the receiver shows N and the sender has so many states. `take OLD NEW FLOOR` gives the receiver a diff that no sender
-//! wrote; `bad` ones have seven bytes.
+//! wrote; it has seven bytes if `bad change` is expected.
 ghost use Rattle.std.specs.Prelude.{◌≡◌, ◌≤◌, ℕ, List, OnOk, Ok};
 ghost use Rattle.roam_sync.specs.Senders.{acked, sent_at};
 ghost use Rattle.roam_sync.specs.Links.{update_of, IsChange, Delivers};
@@ -195,7 +195,7 @@ take 0 9 0: gap
 
 A bad change leaves a receiver.
 take 0 5 0: new
-take 5 6 0: bad
+take 5 6 0: bad change
 take 5 6 0: new
 
 A number beyond four bytes.
@@ -341,7 +341,7 @@ fn goes_round<S: Numbered>(alloc: Global, link: &mut Link<S>, row: [u64; 3], tol
 // The diff that leads from the state of one number to that of another; or seven bytes, which lead nowhere.
 fn change_of<S: Numbered>(alloc: Global, old: u64, new: u64, told: &str) -> Result<Vec<u8>, Fault> {
     let mut change = Vec::new(alloc);
-    if told == "bad" {
+    if told == "bad change" {
         change.extend_from_slice(&[0; 7])?;
     } else {
         S::of(alloc, new)?.write_change(alloc, &S::of(alloc, old)?, &mut change)?;
