@@ -34,6 +34,7 @@ bench: all
 	bench/latency.sh
 
 try: all
+	tests/program/run
 	tests/e2e/two_processes
 	tests/e2e/run -j "$$(nproc)"
 	tests/stress/try_faults
