@@ -1,8 +1,8 @@
 //! The files of a folder, as text.
 //!
-//! `folder PATH` and `file PATH` make one, `link PATH` makes one to a socket `p2` beside it, and `remove PATH` removes a file. `there PATH`
-//! and `gone PATH` check that there is one or none. `bound FOLDER` binds the sockets of a server there, and leaves their files. `refused
-//! FOLDER` can't bind them; `-` is a folder without a name.
+//! `folder PATH` and `file PATH` make one, `link PATH` makes one to a socket `p2` beside it, and `remove PATH` removes a file. `session PATH`
+//! makes a file with the id of the tests' session, 1. `there PATH` and `gone PATH` check that there is one or none. `bound FOLDER` binds the
+//! sockets of a server there, and leaves their files. `refused FOLDER` can't bind them; `-` is a folder without a name.
 use roam_faults::RunFault;
 use roam_serve::{OwnStart, ServerPorts};
 use roam_sockets::Moments;
@@ -30,8 +30,8 @@ pub fn ports_for<'a>(
     )
 }
 
-/// The ports of a server whose panes are in a folder.
-pub fn ports_in<'a>(
+// The ports of a server whose panes are in a folder.
+fn ports_in<'a>(
     rt: &'a HostRuntime,
     folder: &str,
 ) -> Result<ServerPorts<&'a HostRuntime>, RunFault> {
@@ -53,6 +53,7 @@ fn is_made(rt: &HostRuntime, what: &str, path: &str) -> Result<bool, Fail> {
     match what {
         "folder" => create_dir(rt, path)?,
         "file" => write(rt, path, b"kept")?,
+        "session" => write(rt, path, b"1\n")?,
         "link" => symlink(rt, "p2", path)?,
         "remove" => remove_file(rt, path)?,
         _ => return Ok(false),

@@ -6,13 +6,15 @@
 #[cfg(test)]
 mod acts;
 #[cfg(test)]
+mod chances;
+#[cfg(test)]
 mod doors;
 #[cfg(test)]
 mod echoing;
 #[cfg(test)]
-mod files;
+mod ends;
 #[cfg(test)]
-mod keys;
+mod files;
 #[cfg(test)]
 mod meeting;
 #[cfg(test)]
@@ -20,17 +22,7 @@ mod peers;
 #[cfg(test)]
 mod programs;
 #[cfg(test)]
-mod reasons;
-#[cfg(test)]
-mod runs;
-#[cfg(test)]
-mod scenes;
-#[cfg(test)]
 mod silence;
-#[cfg(test)]
-mod stories;
-#[cfg(test)]
-mod systems;
 #[cfg(test)]
 mod terminals;
 #[cfg(test)]

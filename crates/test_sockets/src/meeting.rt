@@ -24,7 +24,7 @@ use std::test::*;
 
 /// A server with its ports.
 #[derive(Drop)]
-pub struct ServerEnd<'a> {
+struct ServerEnd<'a> {
     server: Server,
     ports: ServerPorts<&'a HostRuntime>,
 }
@@ -46,7 +46,7 @@ struct Meeting<'a> {
 }
 
 /// The first cell that an instance shows is this character.
-pub fn shows(client: &Client, c: char) -> bool {
+fn shows(client: &Client, c: char) -> bool {
     match client.shown().1.at(1, 1) {
         Some(cell) => cell.chars().as_slice() == [c].as_slice(),
         None => false,
@@ -63,12 +63,12 @@ fn asks(alloc: Global, programs: &mut Programs, generation: u64) -> bool {
 
 impl<'a> ServerEnd<'a> {
     /// The port at which it is reached.
-    pub fn port(&self) -> u16 {
+    fn port(&self) -> u16 {
         self.ports.port().unwrap_or(0)
     }
 
     /// One turn of the server at a moment.
-    pub fn serves(&mut self, alloc: Global, moment: u64) {
+    fn serves(&mut self, alloc: Global, moment: u64) {
         self.ports.set_moment(moment);
         serve_turn(alloc, &mut self.server, &mut self.ports);
         self.ports.rest(Some(0));
@@ -300,7 +300,7 @@ fn client_ports<'a>(
 }
 
 /// A server whose panes are in a folder.
-pub fn server_end<'a>(rt: &'a HostRuntime, folder: &str) -> Result<ServerEnd<'a>, Fail> {
+fn server_end<'a>(rt: &'a HostRuntime, folder: &str) -> Result<ServerEnd<'a>, Fail> {
     let own = OwnStart {
         session: 0x5E55,
         id: 0xFF,

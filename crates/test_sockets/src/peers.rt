@@ -8,6 +8,8 @@
 //! metadata, `clips` and a moment sends clips, and `asks` and a moment sends questions. `moment N is M`: if a clock gives N, the moment is
 //! M.
 //!
+//! `mends FOLDER at N`: at moment N, the sockets of the folder are bound anew whose files are gone.
+//!
 //! `wait ends`: input arrives before 20 seconds have passed. `wait lasts`: none arrives within 50 milliseconds. `wait passes` takes either.
 //! `files are removed` by the ports. `start asks ACT, ACT` or `is quiet`: a datagram of the server's own instance arrives with these acts,
 //! or none does.
@@ -189,6 +191,16 @@ fn is_moment(ports: &mut ServerPorts<&HostRuntime>, words: &str) -> bool {
     }
 }
 
+// Binds the sockets of a folder anew whose files are gone, at a moment.
+fn is_mended(rt: &HostRuntime, ports: &mut ServerPorts<&HostRuntime>, words: &str) -> bool {
+    let Some((folder, moment)) = words.split_once(" at ") else {
+        return false;
+    };
+    let is_moment = is_now(ports, moment);
+    ports.mend_sockets(rt, folder, 1);
+    is_moment
+}
+
 // Returns true if a wait ends early or lasts. Twenty seconds are enough on the busiest machine, and no load shortens a wait that lasts.
 fn is_wait(
     rt: &HostRuntime,
@@ -241,6 +253,7 @@ fn is_done(
         "asks" => Ok(are_queries(ports, words)),
         "moment" => Ok(is_moment(ports, words)),
         "files" => are_files(rt, ports, words),
+        "mends" => Ok(is_mended(rt, ports, words)),
         "start" => Ok(is_start(rt.alloc(), ports, words)),
         "wait" => is_wait(rt, ports, words),
         _ => Ok(programs.does(rt, who, words)),
@@ -302,6 +315,9 @@ fn first_wrong_of<'a>(rt: &HostRuntime, stories: &'a str) -> Result<Option<&'a s
 /// A plain file, a folder, and a link to a socket without a listener: none is removed.
 ///
 /// Files of a server that is gone, before they are bound again; while they are in use none is removed.
+///
+/// Sockets whose files were removed are bound anew once a minute, if the folder still belongs to the session. The program of pane 1 stays
+/// connected, and others can connect again.
 ///
 /// The program of pane 2. The pane isn't open, and the program gets nothing; the pane stays in its generation; another generation opens,
 /// and no output of the first program is read.
@@ -374,6 +390,61 @@ first connects unbound/p9
 first waits
 files are removed
 files gone unbound/p1
+
+folder mends
+session mends/session
+ports mends
+pane 1 lives 1
+first connects mends/p1
+first writes a
+pane 1 gives a
+files remove mends/p1
+files remove mends/p9
+files remove mends/panes
+files remove mends/clients
+mends mends at 59999
+files gone mends/p1
+files gone mends/p9
+files gone mends/panes
+files gone mends/clients
+mends mends at 60000
+files there mends/p1
+files there mends/clients
+first writes b
+pane 1 gives b
+first leaves
+pane 1 gives nothing
+first connects mends/p1
+first writes c
+pane 1 gives c
+pane 9 lives 1
+second connects mends/p9
+second writes d
+pane 9 gives d
+second leaves
+second connects mends/panes
+told 1 1 23, none
+second reads 1 1 1 23 80 1/focus 1/
+second leaves
+second connects mends/clients
+told 1 1 23, none
+second waits
+files remove mends/p1
+mends mends at 119999
+files gone mends/p1
+files remove mends/session
+mends mends at 120000
+files gone mends/p1
+files file mends/session
+mends mends at 180000
+files gone mends/p1
+files remove mends/session
+files session mends/session
+mends mends at 239999
+files gone mends/p1
+mends mends at 240000
+files there mends/p1
+files are removed
 
 folder lives
 ports lives

@@ -18,8 +18,8 @@ pub struct Programs {
     others: Vec<UnixStream>,
 }
 
-/// Returns true if bytes are this text, with `/` for LF.
-pub fn are(bytes: &[u8], text: &str) -> bool {
+// Returns true if bytes are this text, with `/` for LF.
+fn are(bytes: &[u8], text: &str) -> bool {
     let ends = bytes
         .iter()
         .map(|byte| if *byte == b'\n' { b'/' } else { *byte });
@@ -174,12 +174,6 @@ impl Programs {
             "others" => self.others_do(rt, words),
             _ => false,
         }
-    }
-
-    /// The first program is at the other end of this stream.
-    pub fn first_is(&mut self, stream: UnixStream) -> bool {
-        self.first = Some(stream);
-        true
     }
 
     /// Returns true if the first program writes this.

@@ -1,53 +1,44 @@
-//! The system of a tested run: this one, with changes. Standard error is kept, randomness is counted, and a port is bound on loopback
-//! alone. Each look at its clock lets a scene go on, which takes its turns and does its next line. So programs connect and leave while the
-//! run goes on.
-use crate::scenes::Scene;
+//! How often a run of `roam serve` asks the system for chance. No process shows the id of the server's own instance.
+//!
+//! Its system is this one, but counts the calls.
+use roam_serve::{Serve, run_serve};
 use std::alloc::{Alloc, Allocator, Global};
 use std::cell::RefCell;
 use std::fmt::Display;
-use std::fs::{Files, Metadata, OpenOptions};
+use std::fs::{DirBuilder, Files, Metadata, OpenOptions};
 use std::io;
 use std::io::{Eprint, ErrorKind};
 use std::net::{Net, SocketAddr, UdpSocket};
 use std::os::fd::{BorrowedFd, OwnedFd};
+use std::os::unix::fs::DirBuilderExt;
 use std::os::unix::net;
 use std::os::unix::net::UnixStream;
 use std::random::RandomSource;
 use std::test::*;
 use std::time::{Clock, Duration};
 
-/// A system with the scene that goes on while it is asked.
+/// A system with the number of calls for chance.
 #[derive(Drop)]
-pub struct System<'a> {
+struct Counting<'a> {
     rt: &'a HostRuntime,
-    scene: RefCell<Scene<'a>>,
+    chances: RefCell<u8>,
 }
 
-// Returns the error of a scene in use.
-fn busy() -> io::Error {
-    io::Error::from(ErrorKind::WouldBlock)
-}
-
-impl<'a> System<'a> {
-    pub fn new(rt: &'a HostRuntime, scene: Scene<'a>) -> System<'a> {
-        System {
-            rt,
-            scene: RefCell::new(scene),
+impl<'a> RandomSource for Counting<'a> {
+    fn fill_bytes(&self, buf: &mut [u8]) -> io::Result<()> {
+        match self.chances.try_borrow_mut() {
+            Ok(mut chances) => {
+                *chances = chances.saturating_add(1);
+                self.rt.fill_bytes(buf)
+            }
+            Err(_) => Err(io::Error::from(ErrorKind::WouldBlock)),
         }
     }
-
-    /// The scene, once the run is over.
-    pub fn scene(self) -> Scene<'a> {
-        self.scene.into_inner()
-    }
 }
 
-impl<'a> Clock for System<'a> {
+impl<'a> Clock for Counting<'a> {
     fn monotonic(&self) -> io::Result<Duration> {
-        match self.scene.try_borrow_mut() {
-            Ok(mut scene) => Ok(Duration::from_millis(scene.go_on(self.rt))),
-            Err(_) => Err(busy()),
-        }
+        self.rt.monotonic()
     }
 
     fn since_1970(&self) -> io::Result<Duration> {
@@ -55,21 +46,17 @@ impl<'a> Clock for System<'a> {
     }
 }
 
-impl<'a> Eprint for System<'a> {
+impl<'a> Eprint for Counting<'a> {
     fn eprint<D: Display + Drop>(&self, value: D) -> io::Result<()> {
-        match self.scene.try_borrow_mut() {
-            Ok(mut scene) => scene.say(value),
-            Err(_) => Err(busy()),
-        }
+        self.rt.eprint(value)
     }
 
     fn eprintln<D: Display + Drop>(&self, value: D) -> io::Result<()> {
-        self.eprint(value)?;
-        self.eprint('\n')
+        self.rt.eprintln(value)
     }
 }
 
-impl<'a> Alloc for System<'a> {
+impl<'a> Alloc for Counting<'a> {
     type A = Global;
 
     fn alloc(&self) -> Global {
@@ -77,19 +64,7 @@ impl<'a> Alloc for System<'a> {
     }
 }
 
-impl<'a> RandomSource for System<'a> {
-    fn fill_bytes(&self, buf: &mut [u8]) -> io::Result<()> {
-        match self.scene.try_borrow_mut() {
-            Ok(mut scene) => {
-                buf.fill(scene.take_chance());
-                Ok(())
-            }
-            Err(_) => Err(busy()),
-        }
-    }
-}
-
-impl<'a> Net for System<'a> {
+impl<'a> Net for Counting<'a> {
     type Stream = <HostRuntime as Net>::Stream;
 
     type Listener = <HostRuntime as Net>::Listener;
@@ -103,10 +78,7 @@ impl<'a> Net for System<'a> {
     }
 
     fn bind_udp(&self, addr: SocketAddr) -> io::Result<UdpSocket> {
-        match addr {
-            SocketAddr::V4(here) if here.ip().octets() == [127, 0, 0, 1] => self.rt.bind_udp(addr),
-            _ => Err(io::Error::from(ErrorKind::PermissionDenied)),
-        }
+        self.rt.bind_udp(addr)
     }
 
     fn connect_unix(&self, addr: &net::SocketAddr) -> io::Result<UnixStream> {
@@ -118,7 +90,7 @@ impl<'a> Net for System<'a> {
     }
 }
 
-impl<'a> Files for System<'a> {
+impl<'a> Files for Counting<'a> {
     type File = <HostRuntime as Files>::File;
 
     type Dir = <HostRuntime as Files>::Dir;
@@ -144,10 +116,6 @@ impl<'a> Files for System<'a> {
     }
 
     fn rename(&self, from: &str, to: &str) -> io::Result<()> {
-        match self.scene.try_borrow_mut() {
-            Ok(mut scene) => scene.note_rename(),
-            Err(_) => return Err(busy()),
-        }
         self.rt.rename(from, to)
     }
 
@@ -170,4 +138,24 @@ impl<'a> Files for System<'a> {
     fn bind_unix(&self, socket: BorrowedFd<'_>, addr: &net::SocketAddr) -> io::Result<()> {
         self.rt.bind_unix(socket, addr)
     }
+}
+
+/// The session's id and that of the closing instance are random.
+#[test]
+fn both_ids_are_random(rt: HostRuntime) -> Result<(), Fail> {
+    DirBuilder::new().mode(0o700).create(&rt, "by_chance")?;
+    let system = Counting {
+        rt: &rt,
+        chances: RefCell::new(0),
+    };
+    let serve = Serve {
+        folder: "by_chance",
+        port: None,
+        session: None,
+        turns: 3,
+        normalize: false,
+    };
+    assert_eq!(rt; run_serve(&system, &serve), Ok(()));
+    assert_eq!(rt; system.chances.into_inner(), 2);
+    Ok(())
 }
