@@ -859,7 +859,7 @@ class Wishes(Case):
         person.place.told = places
         person.commands.panes_changed()
 
-    def test_scroll_paint(self):
+    def test_unreported_focus(self):
         """Requests use the focus that this user set until its report comes, however late."""
         person = self.person()
         self.assertEqual(person.types(b"\x02\x1b[C\x02\x1b[B"), ["focus 2", "focus 3"])

@@ -55,7 +55,7 @@ class Completion(unittest.TestCase):
         self.assertEqual(completed("_roam_mux", "mux", "send", "-l", "m"), ["main"])
         self.assertEqual(completed("_roam_mux", "mux", "send", "-l", "main", ""), [])
 
-    def test_rows(self):
+    def test_rows_and_buffers(self):
         """The words for rows and buffers are offered."""
         self.assertEqual(completed("_roam_mux", "mux", "lo"), ["log"])
         self.assertEqual(completed("_roam_mux", "mux", "log", "w"), ["work"])

@@ -224,7 +224,7 @@ def matched(mode):
 class Read(unittest.TestCase):
     """Output of the scrollback process, as cells."""
 
-    def test_rows(self):
+    def test_row_lines(self):
         """Characters and SGR become cells, two for each wide one; combining characters share one, and trailing blanks don't count."""
         red = Style(foreground=1)
         for line, letters, length, goes_on in (

@@ -276,7 +276,7 @@ class Starts(Mux):
             self.assertTrue(takes.call_args[0][1])
         self.assertEqual([one[0] for one in self.done[:2]], ["note_found", "demand_client"])
 
-    def test_rows(self):
+    def test_printed_rows(self):
         """Scrollback rows are printed for a range or a form of rows, by default of the focused pane. They aren't drawn."""
         self.runs.add("main")
         with mock.patch.object(scrollback, "capture_rows", return_value=4) as takes, \

@@ -49,7 +49,7 @@ class Told(Case):
 
     SCREEN = "2 4 1 3 hidden\n\x1b[0;1ma\x1f\x1b[0;1;31m\u4e2d\x1f\x1f\x1b[0m \n \x1fe\u0301\x1f\x1b[0m\x1b[38;2;1;2;3mz\x1f\x1b[m \n"
 
-    def test_decode(self):
+    def test_cell_styles(self):
         """Each has its style, which the SGR before a cell changes from that of the cell before; the first starts from the default."""
         shown = screen_cells.cells_of(self.SCREEN.encode())
         bold, red, plain = Style(frozenset({"bold"})), Style(frozenset({"bold"}), 1), Style()
@@ -99,13 +99,13 @@ class Shown(Case):
         cells = cells_of("q\x0eqxlmjk\x0fq")
         self.assertEqual("".join(letter for letter, _ in cells.cells.values()), "q\u2500\u2502\u250c\u2514\u2518\u2510q")
 
-    def test_rows(self):
+    def test_rows_by_tmux(self):
         """Rows in tmux's form: a style continues into the next."""
         cells = cells_of_rows(["\x1b[1mab", "c"])
         self.assertEqual(cells.cells[2, 1], ("c", Style(frozenset({"bold"}))))
         self.assertEqual(cells.cells[1, 2][0], "b")
 
-    def test_scroll_paint(self):
+    def test_scrolled_rows(self):
         """Rows scroll up and down between margins, the rest of a row is erased, and CUP may omit its column."""
         cells = PaintedCells()
         cells.fed("\x1b[1Haa\x1b[2Hbb\x1b[3Hcc\x1b[4Hdd")

@@ -53,7 +53,7 @@ class Moves(Attached):
                 self.assertEqual((after[moves], session.focus), (before[moves] + step, pane), (side, rect, rects))
         return moved, stuck
 
-    def test_grid(self):
+    def test_grid_of_panes(self):
         """In a grid that was split right and then down each half the rows move, and the middle reports the reason."""
         session = Lived()
         for act in ("split right", "split down", "focus 1", "split down"):

@@ -250,7 +250,7 @@ class Sought(unittest.TestCase):
         self.assertEqual(characters(b" a\x1b[1;31mb\x1b[0m\n+\x1b[38:2::1:2:3mm\n"), " ab\n+m\n")
         self.assertEqual(characters("\u00e9\u4e00".encode() + b"\xff"), "\u00e9\u4e00\ufffd")
 
-    def test_rows(self):
+    def test_next_row(self):
         """It finds the next row after a number, or before it, by smart case."""
         among = kept(RowsRoom(99), ["Alpha", "beta"], ["\x1b[1mal\x1b[0mpha", "gamma"]).range()
         for start, is_back, text, row in ((0, False, "alpha", 2), (-1, False, "alpha", 0), (-1, False, "Alpha", 0),

@@ -67,7 +67,7 @@ class AtHost(Sockets):
             self.assertIsNone(self.channel.handed.for_pane(rect))
             os.rmdir(self.folder / "src")
 
-    def test_scroll_paint(self):
+    def test_side_of_a_pane(self):
         """So has one along a side that the pane got since, for example after a zoom's end."""
         self.hand("1 7", Begins(["htop"]))
         beside = Rect(1, 101, 40, 50)
@@ -170,7 +170,7 @@ class AtFrontEnd(Case):
         self.acts.host.ran(f"{NAME} late")
         self.assertEqual(self.told(), ["not run: no pane was created"])
 
-    def test_scroll_paint(self):
+    def test_split_pane(self):
         """It is split at the user's pane of the request, and with -d the focus is restored."""
         self.runner.typed("splitw -d htop")
         self.acts.places.return_value = Places({1: FIRST, 2: RIGHT}, 2)

@@ -32,7 +32,7 @@ ROWS = (
 class Advice(unittest.TestCase):
     """`advice`."""
 
-    def test_rows(self):
+    def test_all_rows(self):
         for environment, prefix, pane, line in ROWS:
             with mock.patch.object(surroundings, "own_pane", return_value=(pane, 1 if pane else 0)):
                 self.assertEqual(advice(prefix, environment), line, (environment, prefix, pane))

@@ -96,7 +96,7 @@ class Lasts(unittest.TestCase):
         self.look()
         self.assertEqual(self.old(), [])
 
-    def test_session(self):
+    def test_session_id(self):
         """The session's id is restored, for this user alone."""
         self.look()
         (self.folder / "session").unlink()

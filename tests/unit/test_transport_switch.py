@@ -286,7 +286,7 @@ class Near(Both):
             self.near.take(0, AEAD_HEAD.pack(b"s", 1, self.port, KEY))
         self.assertEqual(self.near.ways.path.aead.cipher.key, bytes([49]) * 32)
 
-    def test_update_paint(self):
+    def test_other_port(self):
         """A path that moves to another port is heard there."""
         self.validate()
         self.near.ways.path.hop(self.now)

@@ -259,7 +259,7 @@ class Generations(Net):
         self.assertEqual(list(self.far.received()), [])
         self.assertEqual(self.far.place, ("::9", 9, 0, 0))
 
-    def test_update_paint(self):
+    def test_next_port(self):
         """A near end without packets for 10 s uses another port, every 10 s, if there is one."""
         ends = []
 
