@@ -5,26 +5,30 @@ import os
 import pathlib
 import pty
 import re
+import shutil
 import signal
+import struct
 import subprocess
 import sys
 import termios
 import threading
 import time
 
-# The tools, and their package; and the terminal of the unit tests.
+# The tools, and their package; the terminal of the unit tests; and the actors of the tables.
 LIVE = pathlib.Path(__file__).resolve().parents[2] / "live"
-sys.path[:0] = [str(LIVE), str(LIVE.parent / "tests/unit")]
+sys.path[:0] = [str(LIVE), str(LIVE.parent / "tests/unit"), str(LIVE.parent / "tests/program")]
 
+from actors import comes
 from emulated import Emulated
 from roam_live.cli.capture import asked_screen
 from roam_live.common import tty
+from roam_live.common.errors import Fault
 from roam_live.common.process import TOOLS, program
 from roam_live.protocol.client_link import ClientLink
 from roam_live.protocol.screen_cells import ShownCells, Style, cells_of
 
-# The default seconds for an expected event.
-WAIT = 15.0
+# The default seconds for an expected event, which takes less than one on a quiet machine.
+WAIT = 60.0
 
 # The session of a scene, and this process's program.
 SESSION = "tried"
@@ -33,16 +37,48 @@ PROGRAM = os.environ.get("ROAM", "")
 # The session's name at the start of the last row: no number, since panes have those.
 NAMED = re.compile(r"\[[a-z][a-z0-9_-]*\] ")
 
+# The label of a window in the last row, with a name, which comes from the pty host.
+LABEL = re.compile(r"(?:^|[ >])\d+:\S")
+
+# The end of a painted last row. Another may follow in the same read, after the message that it replaces.
+PUT = b"\x1b8"
+
+# The most tries for the cells of a session, which a busy machine reports late.
+TRIES = 6
+
 failed = []
 
 # The scenes by name: functions of a folder of their own.
 SCENES = {}
 
+# The scenes that the gate doesn't run, each with the reason.
+OUTSIDE_GATE = {}
+
 
 def scene(does):
     """Register a function as a scene."""
+    if does.__name__ in SCENES:
+        raise ValueError(f"{does.__name__}: {does.__module__} and {SCENES[does.__name__].__module__} both have this scene")
     SCENES[does.__name__] = does
     return does
+
+
+def outside_gate(reason):
+    """Return a decorator that marks a scene as one that the gate doesn't run, with the reason."""
+
+    def marked(does):
+        OUTSIDE_GATE[does.__name__] = reason
+        return does
+
+    return marked
+
+
+def is_missing(name, *tools):
+    """Return True if one of these tools isn't installed, and print that what needs it is skipped."""
+    lacking = [one for one in tools if not shutil.which(one)]
+    if lacking:
+        print(f"skipped {name}: without {' and '.join(lacking)}", flush=True)
+    return bool(lacking)
 
 
 def check(name, holds, seen=""):
@@ -52,16 +88,6 @@ def check(name, holds, seen=""):
     print(f"ok      {name}" if holds else f"FAILED  {name}: {seen}", flush=True)
     if not holds:
         failed.append(name)
-
-
-def comes(test, seconds=WAIT):
-    """Return True if a condition becomes true in time."""
-    end = time.monotonic() + seconds
-    while not test():
-        if time.monotonic() > end:
-            return False
-        time.sleep(0.02)
-    return True
 
 
 def tool(name, *words):
@@ -136,6 +162,11 @@ def connected(name, is_read_only=True):
 
 def told_cells(name):
     """Return the cells of a session, as its client process sends them to a read-only connection."""
+    for _ in range(TRIES - 1):
+        try:
+            return cells_of(asked_screen(connected(name), "look sgr"))
+        except Fault:
+            time.sleep(1)
     return cells_of(asked_screen(connected(name), "look sgr"))
 
 
@@ -143,6 +174,12 @@ def said(*words):
     """Return the status of `mux` with these words, its standard output and its standard error."""
     run = subprocess.run(tool("mux", *words), stdin=subprocess.DEVNULL, stdout=subprocess.PIPE, stderr=subprocess.PIPE, check=False)
     return run.returncode, run.stdout.decode(), run.stderr.decode()
+
+
+def after_name(row):
+    """Return a last row without the session's name at its begin."""
+    named = NAMED.match(row)
+    return row[named.end() :] if named else row
 
 
 class Outer:
@@ -159,8 +196,9 @@ class Outer:
         self.written = bytearray(b"before\r\n")
         self.emulated, self.read_to, self.is_resized = Emulated(*size), 0, False
         self.made.append(self)
-        # The moments at which so many bytes had been written.
-        self.moments = []
+        # The moments at which so many bytes had been written, and the number of those whose output the emulation has read. The number of
+        # bytes that had been written at the last key.
+        self.moments, self.looked, self.typed_at = [], 0, 0
         ends = {"stdin": self.slave, "stdout": self.slave, "stderr": self.slave}
         known = {"TERM": "xterm-256color", **os.environ, **(environment or {})}
         if os.environ.get("TERM") == "dumb" and "TERM" not in (environment or {}):
@@ -180,16 +218,25 @@ class Outer:
 
     def type(self, text):
         """Type all these bytes."""
+        self.typed_at = len(self.written)
         view = memoryview(text)
         while view:
             view = view[os.write(self.master, view[:4096]) :]
 
-    def emulation(self):
-        """Return the terminal after all output so far."""
-        end = len(self.written)
+    def is_taken(self):
+        """Return True if the tool reads in time what was typed. The system passes keys on a moment after they are typed."""
+        time.sleep(0.1)
+        return comes(lambda: struct.unpack("i", fcntl.ioctl(self.slave, termios.FIONREAD, bytes(4)))[0] == 0)
+
+    def read_up_to(self, end):
+        """Let the emulation take the output up to an end."""
         if end > self.read_to:
             self.emulated.fed(bytes(self.written[self.read_to : end]))
             self.read_to = end
+
+    def emulation(self):
+        """Return the terminal after all output so far."""
+        self.read_up_to(len(self.written))
         return self.emulated
 
     def rows(self):
@@ -202,6 +249,7 @@ class Outer:
 
     def is_as_shown(self):
         """Return True if `roam show` shows the same from the whole output. A size that changed meanwhile prevents that."""
+        self.await_rest()
         seen = self.emulation()
         words = [program(), "show", "--rows", str(self.size[0]), "--cols", str(self.size[1])]
         run = subprocess.run(words, input=bytes(self.written[: self.read_to]), stdout=subprocess.PIPE, check=True)
@@ -209,9 +257,39 @@ class Outer:
         cursor = f"cursor {seen.row + 1} {seen.col + 1} {'shown' if seen.has_cursor else 'hidden'}"
         return self.is_resized or [f"|{line}|" for line in seen.lines()] + [cursor] == shown[: self.size[0] + 1]
 
+    def await_rest(self):
+        """Wait until no output comes for 0.1 s, for at most 5 s, since the last read may have ended within a character."""
+        length, end = -1, time.monotonic() + 5
+        while length != len(self.written) and time.monotonic() < end:
+            length = len(self.written)
+            time.sleep(0.1)
+
+    def next_end(self):
+        """Return the end of the next unread piece of output: of a chunk, or of a painted last row in it."""
+        while self.looked < len(self.moments) and self.moments[self.looked][1] <= self.read_to:
+            self.looked += 1
+        end = self.moments[self.looked][1] if self.looked < len(self.moments) else len(self.written)
+        put = self.written.find(PUT, self.read_to, end)
+        return put + len(PUT) if put >= 0 else end
+
+    def paintings(self):
+        """Yield the terminal after each piece of output since the last look, or since the last key if that came later; then as it is."""
+        self.read_up_to(self.typed_at)
+        while self.read_to < len(self.written):
+            self.read_up_to(self.next_end())
+            yield self.emulated
+        yield self.emulated
+
+    def sees(self, test, seconds=WAIT):
+        """Return True if the terminal passes a test in time, be it for a moment.
+
+        A message may be shown and gone before this call, so what came since the last look or key counts too.
+        """
+        return comes(lambda: any(map(test, self.paintings())), seconds)
+
     def shows(self, text, seconds=WAIT):
         """Return True if a text appears anywhere in time."""
-        return comes(lambda: any(text in row for row in self.rows()), seconds)
+        return self.sees(lambda seen: any(text in row for row in seen.lines()), seconds)
 
     def shown_at(self, text, seconds=WAIT):
         """Return the moment at which a text appeared, by the rows after each painted chunk; None if it doesn't in time.
@@ -244,19 +322,38 @@ class Outer:
 
     def last_row(self):
         """Return the last row after the session's name, which it begins with if there is room."""
-        return NAMED.sub("", self.rows()[-1], count=1) if NAMED.match(self.rows()[-1]) else self.rows()[-1]
+        return after_name(self.rows()[-1])
 
     def status(self, text, seconds=WAIT, end=""):
         """Return True if the last row begins with a text after the session's name, and ends with another, in time. The painting above may
         come before or after that.
         """
-        return comes(lambda: self.last_row().startswith(text) and self.last_row().endswith(end), seconds)
+
+        def is_there(seen):
+            row = after_name(seen.lines()[-1])
+            return row.startswith(text) and row.endswith(end)
+
+        return self.sees(is_there, seconds)
 
     def was_told(self, *texts, begin=0):
         """Return True if one of these lines is written after so many bytes. It is shown for a moment, and may be gone before the next
         check.
         """
         return comes(lambda: any(self.written.find(text.encode(), begin) >= 0 for text in texts))
+
+    def is_known(self):
+        """Return True once the pty host names the windows. Before that it may not know this terminal: no message of it comes, and no copy
+        mode opens.
+        """
+        return comes(lambda: LABEL.search(self.last_row()) is not None)
+
+    def begins(self):
+        """Return True once a shell's prompt is shown, and the pty host knows the terminal."""
+        return self.shows("$ ") and self.is_known()
+
+    def has_size(self, rows, cols):
+        """Return True if a shell reports a size in time. It is asked again, since the pty host sets the size while keys pass it."""
+        return comes(lambda: self.type(b"clear; stty size\r") or self.shows(f"{rows} {cols}", 5))
 
     def settled(self, row):
         """Return the rows once a shell's prompt is at a row, from 0, and the last row shows the shell."""
@@ -281,7 +378,7 @@ class Outer:
 
     def is_restored(self):
         """Return True if the terminal is restored: the modes, and the old screen."""
-        is_kept = comes(lambda: self.rows()[0].startswith("before"), 2)
+        is_kept = comes(lambda: self.rows()[0].startswith("before"), 15)
         return is_kept and termios.tcgetattr(self.slave) == self.modes and b"\x1b[?1049l" in self.written[-200:]
 
 
@@ -349,4 +446,7 @@ def three_panes(name=SESSION, environment=None):
     for keys, label in ((b"", "[1]"), (b"\x02%", " 1 [2]"), (b'\x02"', " 1  2 [3]"), (b"\x02q1", "[1] 2  3")):
         outer.type(keys)
         outer.status(label)
+    for place in ((0, 0), (0, 40), (12, 40)):
+        outer.stands(*place, "$")
+    outer.is_known()
     return outer
