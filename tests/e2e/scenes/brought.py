@@ -21,9 +21,10 @@ def agents(folder):
 
 
 def readlink(outer, wanted):
-    """Return True if the agent of the focused shell is at this path."""
-    outer.type(b'clear; readlink "$SSH_AUTH_SOCK"\r')
-    return outer.shows(f"{wanted} ") or outer.rows()
+    """Return True if the agent of the focused shell is at this path in time. The shell is asked again, since the path of a terminal that
+    has just come is on its way.
+    """
+    return comes(lambda: outer.type(b'clear; readlink "$SSH_AUTH_SOCK"\r') or outer.shows(f"{wanted} ", 5))
 
 
 @scene
@@ -33,30 +34,34 @@ def forwards_environment(folder):
     """
     ends, (one, two) = agents(folder)
     first = Outer(tool("mux", "other"), environment={**NOTHING, "SSH_AUTH_SOCK": one, "DISPLAY": ":71"})
-    check("a session is launched with an agent", first.shows("$ ") and readlink(first, one) is True, first.rows)
-    check("and with a display", said("env", "other")[1].splitlines()[:3] == ["export DISPLAY=:71", "unset WAYLAND_DISPLAY",
-                                                                             "unset SSH_CONNECTION"], said("env", "other"))
+    check("a session is launched with an agent", first.shows("$ ") and readlink(first, one), first.rows)
+    wanted = ["export DISPLAY=:71", "unset WAYLAND_DISPLAY", "unset SSH_CONNECTION"]
+    check("and with a display", comes(lambda: said("env", "other")[1].splitlines()[:3] == wanted), lambda: said("env", "other"))
     more = {**NOTHING, "SSH_AUTH_SOCK": two, "SSH_CONNECTION": HOSTILE}
     watcher = Outer(tool("mux", "watch", "other"), environment=more)
-    holds = watcher.shows("$ ") and readlink(first, one) is True and ":71" in said("env", "other")[1]
+    holds = watcher.begins() and readlink(first, one) and ":71" in said("env", "other")[1]
     check("who watches brings nothing", holds, first.rows)
     second = Outer(tool("mux", "attach", "other"), environment=more)
     check("another attaches with another agent", second.shows("$ ") and comes(lambda: ":71" not in said("env", "other")[1]), second.rows)
-    check("which serves the older shell", readlink(first, two) is True, first.rows)
+    check("which serves the older shell", readlink(first, two), first.rows)
     first.type(b"\x02%")
     first.status(" 1 [2]")
     first.type(b'printf "<%s>" "${DISPLAY-unset}" "$SSH_CONNECTION"\r')
     check("a new pane has what that brought, and no more", first.shows(f"<unset><{HOSTILE}>"), first.rows)
-    first.type(b'clear; readlink "$SSH_AUTH_SOCK"\r')
-    check("and the agent", first.shows(two), first.rows)
+    check("and the agent", readlink(first, two), first.rows)
     first.type(b"\x02q1clear; " + f'eval "$({TOOLS}/mux env other)"; printf "<%s>" "${{DISPLAY-unset}}" "$SSH_CONNECTION"\r'.encode())
     check("the older shell has it by mux env", first.shows(f"<unset><{HOSTILE}>"), first.rows)
     third = Outer(tool("mux", "attach", "other"), environment=NOTHING)
-    check("one without an agent leaves that", third.shows("$ ") and readlink(first, two) is True, first.rows)
+    check("one without an agent leaves that", third.shows("$ ") and readlink(first, two), first.rows)
     subprocess.run(tool("mux", "kill", "-f", "other"), check=True)
     check("the link goes with the session", comes(lambda: not os.path.lexists(folder / "roam/other/agent")), folder)
     for end in ends:
         end.close()
+
+
+def told_there(environment):
+    """Return what `mux env` prints with this environment."""
+    return subprocess.run(tool("mux", "env", "other"), env=environment, stdout=subprocess.PIPE, check=True).stdout.decode()
 
 
 @scene
@@ -73,10 +78,10 @@ def forwards_environment_far(folder):
         sets.write_text(f"export SSH_AUTH_SOCK={agent} DISPLAY={display}\n", encoding="utf-8")
         outer = Outer(words, environment=own)
         check(f"{display}: a session there is shown", outer.shows("$ "), outer.rows)
-        check(f"{display}: its shell has the agent that came with it", readlink(outer, agent) is True, outer.rows)
+        check(f"{display}: its shell has the agent that came with it", readlink(outer, agent), outer.rows)
         there = {**os.environ, "XDG_RUNTIME_DIR": str(far)}
-        told = subprocess.run(tool("mux", "env", "other"), env=there, stdout=subprocess.PIPE, check=True)
-        check(f"{display}: new panes have the display of there", f"export DISPLAY={display}\n" in told.stdout.decode(), told.stdout)
+        is_told = comes(lambda: f"export DISPLAY={display}\n" in told_there(there))
+        check(f"{display}: new panes have the display of there", is_told, lambda: told_there(there))
         outer.type(b"\x02d")
         outer.ends()
         near = next(path.name for path in (folder / "roam").iterdir() if path.name.startswith("ssh:"))
@@ -91,8 +96,8 @@ def forwards_environment_far(folder):
     check("a front end at a relay of one's own shows it", outer.shows("$ "), outer.rows)
     outer.type(b"echo he''re\r")
     outer.shows("here")
-    told = subprocess.run(tool("mux", "env", "other"), env=there, stdout=subprocess.PIPE, check=True).stdout.decode()
-    check("and brings nothing itself", "DISPLAY=:83\n" in told and not (near / "agent").is_symlink(), told)
+    is_told = comes(lambda: "DISPLAY=:83\n" in told_there(there))
+    check("and brings nothing itself", is_told and not (near / "agent").is_symlink(), lambda: told_there(there))
     subprocess.run(tool("mux", "kill", "-f", "other"), env=there, check=True)
     relay.wait()
     for end in ends:

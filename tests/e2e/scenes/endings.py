@@ -13,9 +13,12 @@ import termios
 import time
 
 from tried import (
-    LIVE, Outer, PROGRAM, check, children, commands, comes, folder_of, listed, noted, own_terminal, said, scene, tool)
+    LIVE, WAIT, Outer, PROGRAM, check, children, comes, commands, folder_of, is_missing, is_scrollback_process, listed, noted, outside_gate,
+    own_terminal, said, scene, tool)
+from actors import read_each
 from roam_live.common import tty
 from roam_live.common.process import TOOLS, begun
+from roam_live.session.foreground import busy_panes
 
 LISTED = 50
 
@@ -55,8 +58,9 @@ def jobs(folder):
     outer.type(b"\x1a")
     outer.shows("Stopped")
     outer.type(b"sleep 1000 &\r")
-    comes(lambda: outer.rows()[-1].rstrip().endswith(":sh*"))
     names = "cat (stopped), sleep (background)"
+    # Without a program there it closes the pane.
+    comes(lambda: busy_panes(noted("other")["host"][0]) == {2: names})
     for keys, text in ((b"\x02x", f"close {names} in pane 2? y"), (b"\x02&", f"close window 1, with {names} in pane 2 and the session")):
         outer.type(keys)
         check(f"{keys!r} asks, and names them", outer.status(text), outer.rows)
@@ -74,26 +78,35 @@ class Frozen:
     """A front end on a terminal whose emulator reads nothing."""
 
     def __init__(self, words):
-        self.master, slave = pty.openpty()
-        tty.set_size(slave, 40, 120)
-        ends = {"stdin": slave, "stdout": slave, "stderr": slave}
+        self.master, self.slave = pty.openpty()
+        tty.set_size(self.slave, 40, 120)
+        ends = {"stdin": self.slave, "stdout": self.slave, "stderr": self.slave}
         known = {"TERM": "xterm-256color", **os.environ}
         self.process = subprocess.Popen(words, **ends, env=known, start_new_session=True, preexec_fn=own_terminal)
-        os.close(slave)
+
+    @staticmethod
+    def unread(end):
+        """Return the number of bytes that can be read at an end of its terminal."""
+        return struct.unpack("i", fcntl.ioctl(end, termios.FIONREAD, bytes(4)))[0]
 
     def is_full(self):
         """Return True if its terminal accepts nothing more."""
-        return struct.unpack("i", fcntl.ioctl(self.master, termios.FIONREAD, bytes(4)))[0] >= 4095
+        return self.unread(self.master) >= 4095
 
-    def ends(self, seconds):
-        """Return True if it ends within so many seconds."""
-        return comes(lambda: self.process.poll() is not None, seconds)
+    def is_taken(self):
+        """Return True if it has read its input."""
+        return self.unread(self.slave) == 0
+
+    def ends(self):
+        """Return True if it ends in time."""
+        return comes(lambda: self.process.poll() is not None)
 
     def close(self):
         """Release it."""
         self.process.kill()
         self.process.wait()
         os.close(self.master)
+        os.close(self.slave)
 
 
 @scene
@@ -105,24 +118,26 @@ def frozen(folder):
     for way, number in ways.items():
         stuck = Frozen(tool("mux", "other"))
         comes(lambda: len(said("clients", "other")[1].splitlines()) == 2)
-        outer.type(b"seq 1 400000; clear\r")
+        has_ended = folder / f"ended by {way}"
+        outer.type(f"until [ -e '{has_ended}' ]; do seq 1 500; sleep 0.1; done; clear\r".encode())
         is_full = comes(stuck.is_full)
         os.write(stuck.master, f"echo ca''me by {way}\r".encode())
         time.sleep(0.5)
+        comes(stuck.is_taken)
         if number:
             os.kill(stuck.process.pid, number)
         else:
             outer.type(b"\x02D")
-        has_ended = stuck.ends(4)
-        check(f"it ends by {way}", is_full and has_ended, (is_full, has_ended))
+        is_over = stuck.ends()
+        has_ended.touch()
+        check(f"it ends by {way}", is_full and is_over, (is_full, is_over))
         check("and what was typed there comes", outer.shows(f"came by {way}"), outer.rows)
         stuck.close()
 
 
 def has_open(process, end):
     """Return True if a process has a file open whose name ends so."""
-    names = pathlib.Path(f"/proc/{process}/fd").iterdir()
-    return any(os.path.realpath(name).endswith(end) for name in names)
+    return any(name.endswith(end) for name in read_each(f"/proc/{process}/fd", os.readlink))
 
 
 @scene
@@ -131,15 +146,17 @@ def moved(folder):
     shutil.copytree(LIVE, folder / "tree/live", ignore=shutil.ignore_patterns("__pycache__"))
     # Python may write the bundles that a front end has open.
     outer = Outer([str(folder / "tree/live/mux"), "other"], environment={"PYTHONDONTWRITEBYTECODE": ""})
-    outer.shows("$ ")
+    outer.begins()
     outer.type(b"seq 1 50\r")
     outer.shows("50")
-    check("the front end has opened its bundle", comes(lambda: has_open(outer.process.pid, ".bundle"), 60))
+    # It compares the bundle with its sources right after it has opened it.
+    is_open = lambda: has_open(outer.process.pid, ".bundle")
+    check("the front end has opened its bundle", comes(lambda: is_open() and (time.sleep(1) or is_open())))
     (folder / "tree").rename(folder / "moved")
     for keys, text in ((b"\x02[", "copy mode"), (b"/4", "4"), (b"\rq", "[1] 1:"), (b"\x02:display-message moved\r", "moved"),
                        (b"\x02R", "roam.conf was read"), (b"\x02?", "list the keys")):
         outer.type(keys)
-        check(f"{keys!r} does what it does", comes(lambda text=text: any(text in row for row in outer.rows())), outer.rows)
+        check(f"{keys!r} does what it does", outer.shows(text), outer.rows)
     outer.type(b"x\x02d")
     check("and it is left", outer.ends() and outer.is_restored(), outer.rows)
 
@@ -152,14 +169,15 @@ def stopped_killed(folder):
     outer.type(b"\x02d")
     outer.ends()
     found = {role: one[0] for role, one in noted("other").items() if role in ("server", "client", "host")}
-    found["filter"] = next(process for process in children(found["host"]) if process not in commands(found["host"]))
+    comes(lambda: any(map(is_scrollback_process, children(found["host"]))))
+    found["filter"] = next(filter(is_scrollback_process, children(found["host"])))
     for process in found.values():
         os.kill(process, signal.SIGSTOP)
     run = subprocess.run(tool("mux", "kill", "-f", "other"), stderr=subprocess.PIPE, check=False)
     check("mux kill ends what is stopped", (run.returncode, run.stderr) == (0, b""), run)
-    left = [role for role, process in found.items() if begun(process) is not None]
-    check("and leaves no process", left == [], left)
-    check("and no folder", not folder_of("other").exists(), folder_of("other"))
+    is_gone = comes(lambda: all(begun(process) is None for process in found.values()))
+    check("and leaves no process", is_gone, [role for role, process in found.items() if begun(process) is not None])
+    check("and no folder", comes(lambda: not folder_of("other").exists()), folder_of("other"))
 
 
 @scene
@@ -199,6 +217,7 @@ def wakeups(processes):
 
 
 @scene
+@outside_gate("it measures processor time")
 def idle(folder):
     """Nine idle panes take almost no processor time."""
     outer = Outer(tool("mux", "other"))
@@ -243,7 +262,7 @@ def first_free(process):
 def refused(folder):
     """A refusal of the system costs a pane its shell, or delays the list of panes, and affects no other pane."""
     outer = Outer(tool("mux", "other"))
-    outer.shows("$ ")
+    outer.begins()
     host = noted("other")["host"][0]
     with limited(host, resource.RLIMIT_NOFILE, 3):
         outer.type(b"\x02%")
@@ -274,10 +293,12 @@ def not_started(outer, host):
         # A descriptor is free again by then, by which a pane shows the failure.
         time.sleep(1)
         if keys == b"x":
-            check("and a key there tries again", comes(lambda: any(row[40:].startswith("$ ") for row in outer.rows()[12:])), outer.rows)
+            # The key may be echoed before the prompt, or after it.
+            has_shell = comes(lambda: any(row[40:].strip() in ("$", "x$", "$ x") for row in outer.rows()[12:]))
+            check("and a key there tries again", has_shell, outer.rows)
         else:
             check("and can be closed", outer.status(" 1 [2] 1:"), outer.rows)
-    held = [os.readlink(path) for shell in children(host) for path in pathlib.Path(f"/proc/{shell}/fd").iterdir()]
+    held = [name for shell in children(host) for name in read_each(f"/proc/{shell}/fd", os.readlink)]
     check("no shell has the other end of a pane's terminal", not any(path.endswith("ptmx") for path in held), held)
 
 
@@ -292,20 +313,22 @@ def bad_shell(folder):
 
 
 @scene
-def host(folder):
+def host_killed(folder):
     """The pty host is restarted, and no new shell runs the input typed meanwhile."""
     outer = Outer(tool("mux", "other"))
     outer.shows("$ ")
     host = noted("other")["host"][0]
     os.kill(host, signal.SIGKILL)
+    # At once: after the message a new shell may be there.
     outer.type(b"echo los''t\r")
-    check("the end of the pty host is told", outer.status("the pty host was restarted"), outer.rows)
     outer.type(b"echo al''so\r")
+    check("the end of the pty host is told", outer.status("the pty host was restarted"), outer.rows)
     check("another is spawned", comes(lambda: noted("other")["host"][0] != host) and outer.shows("[a new shell; "), outer.rows)
     check("with a shell", outer.shows("$ "), outer.rows)
     outer.type(b"echo th''en\r")
     check("which runs what is typed then", outer.shows("then") and outer.status("[1]"), outer.rows)
-    check("and nothing that was typed before", not outer.shows("lost", 0.1) and not outer.shows("also", 0.1), outer.rows)
+    rows = outer.rows()
+    check("and nothing that was typed before", not any(word in row for row in rows for word in ("lost", "also")), rows)
     subprocess.run(tool("mux", "kill", "other"), check=True)
 
 
@@ -315,8 +338,10 @@ def kill(folder):
     outer = Outer(tool("mux", "other"))
     outer.shows("$ ")
     outer.type(b"sleep 100\r")
+    # Without a program there it ends the session.
+    comes(lambda: busy_panes(noted("other")["host"][0]) == {1: "sleep"})
     told = "mux: session other runs sleep in pane 1; `mux kill -f other` ends it\n"
-    check("mux kill tells what runs", comes(lambda: said("kill", "other") == (1, "", told)), said("ls"))
+    check("mux kill tells what runs", said("kill", "other") == (1, "", told), said("ls"))
     asked = Outer(tool("mux", "kill", "other"))
     check("at a terminal it asks", asked.shows("session other runs sleep in pane 1; end it? [y/N]"), asked.rows)
     asked.type(b"n\n")
@@ -325,6 +350,7 @@ def kill(folder):
 
 
 @scene
+@outside_gate("seventy processes that come and go take a minute")
 def many(folder):
     """Many `mux ls` beside front ends that come and go, and terminals that hang up at any moment, cause no unexpected error."""
     first = Outer(tool("mux", "other"))
@@ -364,13 +390,13 @@ def hung_up(path):
             os.close(slave)
             time.sleep(number * 0.02)
             os.close(master)
-            process.wait(20)
+            process.wait(WAIT)
     return path.read_bytes()
 
 
 def stopped():
     """A front end that is stopped and continued from elsewhere, behind a shell, is back with fg."""
-    if not shutil.which("bash"):
+    if is_missing("a front end that is stopped behind a shell", "bash"):
         return
     outer = Outer(["bash", "--norc", "--noprofile", "-i"])
     outer.shows("$ ")
@@ -408,6 +434,6 @@ def killed_starts(folder):
         time.sleep(number * 0.01)
         process.kill()
         process.wait()
-        if not comes(lambda: said("kill", "other") and not processes_of(served), 5):
+        if not comes(lambda: said("kill", "other") and not processes_of(served)):
             left.append((number, processes_of(served)))
     check(f"{KILLED_STARTS} starts that are killed at any moment leave nothing that kill doesn't find", not left, left)

@@ -6,8 +6,8 @@ import subprocess
 import time
 
 from tried import (
-    KEEPS_NONE, Outer, check, comes, connected, is_part_of, listed, noted, part_at, said, scene, shown_above, terminals_of, told_cells,
-    tool)
+    KEEPS_NONE, WAIT, Outer, check, comes, connected, is_part_of, listed, noted, part_at, said, scene, shown_above, terminals_of,
+    told_cells, tool)
 from emulated import Emulated
 from roam_live.common.process import program
 from roam_live.common.unix_socket import is_listened
@@ -37,6 +37,8 @@ STEPS = (
     "\x1b[?25h\x1b[1;79H\u4e2d\x1b[1;1H\x1b[4munderlined\x1b[0m",
     "\x1b[2J\x1b[H",
 )
+# The most paintings of them, since a busy machine may read one step in two parts, and paints both then.
+PAINTED = 4
 # The lines of another connection at the same time, one at each step.
 SAYS = ("look", "part 4 20", "mask 0 0 1 4", "look sgr", "whole", "unmask")
 
@@ -80,7 +82,7 @@ def hangul(folder):
     subprocess.run(tool("mux", "kill", "-f", "other"), check=True)
 
 
-def are_right(outers, seconds=15.0):
+def are_right(outers, seconds=WAIT):
     """Return True if each terminal shows a part of the session in time, cell by cell."""
     return comes(lambda: all(is_part_of(outer, told_cells("other")) for outer in outers), seconds)
 
@@ -118,7 +120,7 @@ def two_sizes(folder):
     for outer in (small, second):
         outer.type(b"\x02d")
         check("it leaves", outer.ends() and outer.is_restored(), outer.rows)
-    check("and the session has its size all the while", listed()[1:4] == ["23", "by", "80"] and are_right([first]), listed())
+    check("and the session has its size all the while", listed()[1:4] == ["23", "by", "80"] and are_right([first]), listed)
     subprocess.run(tool("mux", "kill", "-f", "other"), check=True)
 
 
@@ -158,7 +160,8 @@ def asked_small(folder):
     small.shows("$ ")
     small.type(b"echo ab\r")
     small.shows("ab")
-    small.type(b"stty -echo; read secret; stty echo; echo do''ne $(printf %s \"$secret\" | wc -c)\r")
+    small.type(b"stty -echo; echo as''ks; read secret; stty echo; echo do''ne $(printf %s \"$secret\" | wc -c)\r")
+    small.shows("asks")
     time.sleep(1)
     before = len(small.written)
     for letter in b"QXZKQXZKGW":
@@ -246,6 +249,8 @@ class Plain:
     def __init__(self, name):
         self.end = socket.socket(socket.AF_UNIX)
         self.end.connect(str(terminals_of(name)))
+        # A connection without a first line ends after ten seconds.
+        self.end.sendall(b"predict never\n")
         self.end.setblocking(False)
         self.written, self.emulated = b"", Emulated(24, 80)
 
@@ -300,8 +305,11 @@ def told_beside(folder):
     end = os.open(path.read_text(encoding="utf-8").strip(), os.O_WRONLY | os.O_NOCTTY)
     plain, pane = Plain("other"), Emulated(23, 80)
     check("a plain connection is painted", comes(lambda: plain.shows(pane) and "[1]" in plain.emulated.lines()[-1]), plain)
-    alone, _ = painted_beside(plain, pane, end, ())
-    beside, words = painted_beside(plain, pane, end, SAYS)
+    for _ in range(PAINTED):
+        alone, _ = painted_beside(plain, pane, end, ())
+        beside, words = painted_beside(plain, pane, end, SAYS)
+        if alone == beside:
+            break
     check("others were told what they asked for", words >= {"events", "taken", "size", "part", "anew", "paint", "screen"}, words)
     check(f"the {len(alone)} bytes of a painting are the same beside them", len(alone) > 500 and alone == beside, (alone, beside))
     os.close(end)
@@ -354,7 +362,8 @@ def whole_by_hand(folder):
     outer.type(b"q")
     check("and comes back", outer.status("[1]     ") and beside.status("[1]     "), outer.rows)
     os.kill(server.pid, signal.SIGSTOP)
-    check("a silence is told there", outer.status("roam: no answer for 1") and "C-b d leaves" in outer.rows()[-1], outer.rows)
+    is_told = outer.status("roam: no answer for 1") and comes(lambda: "C-b d leaves" in outer.rows()[-1])
+    check("a silence is told there", is_told, outer.rows)
     os.kill(server.pid, signal.SIGCONT)
     check("and goes", outer.status("[1]     ") and comes(lambda: outer.rows() == beside.rows()), outer.rows)
     beside.resize(12, 40)
@@ -368,4 +377,4 @@ def whole_by_hand(folder):
         check("it leaves", one.ends() and one.is_restored(), one.rows)
     server.kill()
     for process in (server, host):
-        process.wait(20)
+        process.wait(WAIT)

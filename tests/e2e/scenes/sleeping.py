@@ -4,7 +4,7 @@ import pathlib
 import socket
 import time
 
-from tried import check, comes, noted, said, scene, terminals_of
+from tried import WAIT, check, comes, noted, outside_gate, said, scene, terminals_of
 
 # Seconds without a terminal after which a client process sleeps, and after which its server has forgotten it.
 SLEEPS = 4.0
@@ -33,6 +33,7 @@ def type_line(session, line):
 
 
 @scene
+@outside_gate("a client process sleeps after seconds and is forgotten after a minute")
 def slept(folder):
     """A window without a viewer costs nothing, and shows the newest screen to a new one."""
     said("new", "-d", "asleep")
@@ -62,6 +63,6 @@ def idle_terminals(folder):
         for _ in range(MOST):
             peer = peers.enter_context(socket.socket(socket.AF_UNIX))
             peer.connect(str(terminals_of("idle")))
-        check("somebody else gets in once they had their time", comes(lambda: said("capture", "idle")[0] == 0, FIRST_LINE + 5),
+        check("somebody else gets in once they had their time", comes(lambda: said("capture", "idle")[0] == 0, FIRST_LINE + WAIT),
               lambda: said("capture", "idle"))
     said("kill", "-f", "idle")
