@@ -1,5 +1,4 @@
 """A user's view and actions in a session: panes, sizes, pastes, and messages."""
-import json
 import os
 import pathlib
 import signal
@@ -8,7 +7,7 @@ import subprocess
 import termios
 import time
 
-from tried import KEEPS_NONE, SESSION, Outer, check, comes, is_part, listed, noted, said, scene, terminals_of, three_panes, tool
+from tried import KEEPS_NONE, SESSION, WAIT, Outer, check, comes, is_part, listed, noted, said, scene, terminals_of, three_panes, tool
 from roam_live.common import tty
 from roam_live.frontend.connection import SIZES
 from roam_live.frontend.size_follower import NEW
@@ -16,6 +15,9 @@ from roam_live.protocol.client_link import ClientLink
 from roam_live.session.foreground import busy_panes
 
 PASTED = 100_000
+
+# The most tries to draw a terminal smaller without a pause.
+DRAWN = 20
 
 # The hint on a terminal that doesn't show the whole session.
 FITS = "C-b r fits"
@@ -37,7 +39,8 @@ def started():
     outer.type(b"echo o''ne; stty size; echo $TERM\r")
     check("what is typed is run", outer.shows("one"), outer.rows)
     check("the shell has the pane's size", outer.shows("23 80"), outer.rows)
-    check("TERM has no bce", outer.shows("tmux-256color", 1) or outer.shows("screen-256color", 1) or outer.shows("vt220", 1), outer.rows)
+    names = ("tmux-256color", "screen-256color", "vt220")
+    check("TERM has no bce", outer.sees(lambda seen: any(row.startswith(names) for row in seen.lines())), outer.rows)
     return outer
 
 
@@ -57,10 +60,7 @@ def panes(folder):
         check(f"{keys!r} goes to the pane there", outer.status(label), outer.rows)
     outer.type(b"\x02\x1b[1;5B\x1b[1;5B")
     comes(lambda: "\u2500" * 40 in outer.rows()[13])
-    # Input goes to the shell past the tool that sets the size.
-    time.sleep(0.5)
-    outer.type(b"clear; stty size\r")
-    check("C-arrows grow the pane, and its programs are told", outer.shows("13 40"), outer.rows)
+    check("C-arrows grow the pane, and its programs are told", outer.has_size(13, 40), outer.rows)
     outer.type(b"\x02\x1b[1;5A\x1b[1;5A\x02o")
     check("C-b o goes to the next pane", outer.status(" 1  2 [3]"), outer.rows)
 
@@ -76,7 +76,7 @@ def leaving(folder):
     check("C-b d ends the front end with status 0", outer.ends() and outer.process.returncode == 0, outer.process.returncode)
     check("the terminal is as it was", outer.is_restored(), bytes(outer.written[-200:]))
     check("it says so", outer.shows("[detached]"), outer.rows)
-    check("the session goes on", listed()[:7] == [SESSION, "23", "by", "80", "3", "panes", "0"], listed())
+    check("the session goes on", comes(lambda: listed()[:7] == [SESSION, "23", "by", "80", "3", "panes", "0"]), listed)
     again = Outer(tool("mux", SESSION))
     check("mux attaches again, and shows the same", comes(lambda: again.rows() == before), lambda: (again.rows(), before))
     before_it = again.written.count(tty.CLEARED)
@@ -101,9 +101,8 @@ def host(folder):
     check("a pane is split off while the pty host is stopped", outer.status(" 1 [4] 2  3 "), outer.rows)
     outer.type(b"\x02\x1b[D")
     check("an arrow goes by where it is", outer.status("[1] 4  2  3 "), outer.rows)
-    line = " ".join(listed())
     wanted = "4 panes ? terminals, the pty host is stopped"
-    check("ls counts the server's panes, and says so", line.endswith(wanted), line)
+    check("ls counts the server's panes, and says so", comes(lambda: " ".join(listed()).endswith(wanted)), listed)
     os.kill(host, signal.SIGCONT)
     outer.type(b"\x02q4echo aw''ake\r")
     check("continued it has a shell there", outer.shows("awake"), outer.rows)
@@ -114,7 +113,9 @@ def host(folder):
     wanted = "4 panes ? terminals, its pty host is not running"
     check("where it has ended ls says that nothing keeps them", comes(lambda: " ".join(listed()).endswith(wanted)), listed)
     again = Outer(tool("mux", SESSION))
-    check("who attaches has another", again.shows("[a new shell; ") and " ".join(listed()).endswith("4 panes 1 terminal"), listed)
+    # The new host knows of the terminal later than the shell is shown.
+    is_known = again.shows("[a new shell; ") and comes(lambda: " ".join(listed()).endswith("4 panes 1 terminal"))
+    check("who attaches has another", is_known, listed)
 
 
 @scene
@@ -125,11 +126,13 @@ def sizes(folder):
     time.sleep(NEW + 0.5)
     outer.resize(40, 120)
     check("a larger terminal is filled", outer.status("[1] 2  3") and outer.stands(3, 59, "\u2502"), outer.rows)
-    outer.type(b"\x02q1clear; stty size\r")
-    check("the programs are told", outer.shows("39 59"), outer.rows)
+    outer.type(b"\x02q1")
+    check("the programs are told", outer.has_size(39, 59), outer.rows)
     outer.resize(2, 30)
     check("a very small one shows a line", comes(lambda: outer.rows()[0].startswith("too small: 3 by 4 is needed")), outer.rows)
     outer.type(b"echo un''seen\r")
+    # Otherwise it may find the new size and the keys together.
+    outer.is_taken()
     outer.resize(40, 120)
     check("then all is as it was", outer.status("[1] 2  3") and outer.stands(3, 59, "\u2502"), outer.rows)
     check("and what was typed before that wasn't typed", not outer.shows("seen", 0.5), outer.rows)
@@ -137,8 +140,8 @@ def sizes(folder):
     is_followed = comes(lambda: listed()[1:4] == ["23", "by", "80"]) and outer.stands(5, 39, "\u2502")
     check("a lone one that showed all is followed to a smaller size", is_followed and outer.status("[1] 2  3"), outer.rows)
     drawn_smaller(outer)
-    check("of many sizes the last is had", outer.status("[1] 2  3", 5) and outer.stands(5, 39, "\u2502", 5), outer.rows)
-    check("and none before it", listed()[1:4] == ["23", "by", "80"], listed)
+    check("of many sizes the last is had", outer.status("[1] 2  3") and outer.stands(5, 39, "\u2502"), outer.rows)
+    check("and none before it", comes(lambda: listed()[1:4] == ["23", "by", "80"]), listed)
     outer.process.send_signal(signal.SIGSTOP)
     termios.tcsetattr(outer.slave, termios.TCSANOW, outer.modes)
     outer.process.send_signal(signal.SIGCONT)
@@ -148,9 +151,9 @@ def sizes(folder):
 
 def drawn_smaller(outer):
     """Shrink a terminal by hand, through many short-lived sizes; repeat it if one lasted, as on a busy machine."""
-    longest = 1.0
-    while longest > SIZES / 2:
-        longest = 0.0
+    longest, tries = 1.0, 0
+    while longest > SIZES / 2 and tries < DRAWN:
+        longest, tries = 0.0, tries + 1
         for rows in range(60, 24, -1):
             begun = time.monotonic()
             outer.resize(rows, 3 * rows)
@@ -171,7 +174,8 @@ def covered(outer):
     outer.type(b"\x02[\x1b<")
     check("C-b [ M-< goes to the oldest row", outer.shows("333"), outer.rows)
     outer.type(b"q")
-    check("q goes back", comes(lambda: not outer.shows("333", 0.01)) and outer.shows("100"), outer.rows)
+    is_back = comes(lambda: not any("333" in row for row in outer.rows()))
+    check("q goes back", is_back and outer.shows("100"), outer.rows)
 
 
 @scene
@@ -186,7 +190,7 @@ def three_terminals(folder):
     other.type(b"echo al''so\r")
     check("what the second types comes", watcher.shows("also"), watcher.rows)
     check("what the watcher types doesn't", not outer.shows("never", 0.3), outer.rows)
-    check("ls counts them", listed()[-2:] == ["3", "terminals"], listed())
+    check("ls counts them", comes(lambda: listed()[-2:] == ["3", "terminals"]), listed)
     same = comes(lambda: outer.rows() == other.rows() == watcher.rows())
     check("they show the same", same, watcher.rows)
     watcher.type(b"\x02d")
@@ -209,7 +213,7 @@ def paste(folder):
     outer.shows("ready")
     begun = time.monotonic()
     outer.type(b"\x1b[200~" + text + b"\x1b[201~")
-    comes(lambda: path.exists() and path.stat().st_size >= PASTED, 90)
+    comes(lambda: path.exists() and path.stat().st_size >= PASTED, 120)
     check(f"a paste of {PASTED} characters arrives whole", path.read_bytes() == text, path.stat().st_size)
     print(f"        in {time.monotonic() - begun:.1f} s", flush=True)
     check("and the shell goes on", outer.shows("done"), outer.rows)
@@ -222,7 +226,7 @@ def busy(folder):
     outer.type(b"\x02q2yes\r")
     check("yes fills its pane", comes(lambda: sum(row[40:].startswith("y ") for row in outer.rows()) > 5), outer.rows)
     outer.type(b"\x02q1clear; echo us''able\r")
-    check("the pane beside it is usable", outer.shows("usable", 5), outer.rows)
+    check("the pane beside it is usable", outer.shows("usable"), outer.rows)
     delays = [delay(outer, letter) for letter in "abcdefghij"]
     print(f"        a key's echo beside it: {statistics.median(delays) * 1000:.1f} ms in the median of {len(delays)}", flush=True)
     outer.type(b"\x15\x02q2\x03clear\r")
@@ -283,7 +287,7 @@ def ends(folder):
     outer.type(b"exit\r")
     check("the last one's ends the session", outer.ends() and outer.process.returncode == 0, outer.process.returncode)
     check("the terminal is as it was, and it is said", outer.is_restored() and outer.shows("[the session has ended]"), outer.rows)
-    check("no session is left", comes(lambda: listed() == []), listed())
+    check("no session is left", comes(lambda: listed() == []), listed)
 
 
 @scene
@@ -291,6 +295,8 @@ def told(folder):
     """An impossible request is reported for a second, in the last row."""
     outer = Outer(tool("mux", "other"), environment=KEEPS_NONE)
     outer.shows("$ ")
+    # The positions of the panes are reported a moment later.
+    outer.status("[1] 1:")
     means = "is not bound; C-b ? lists the keys"
     outer.type(b"\x02x")
     asked = "close window 1 and the session, whose last it is? y"
@@ -299,11 +305,13 @@ def told(folder):
     for keys, text in ((b"\x02Z", f"C-b Z {means}"), (b"\x02\x01", f"C-b C-a {means}"), (b"\x02\x1b1", f"C-b M-1 {means}")):
         outer.type(keys)
         check(f"{keys!r} is told of", outer.status(text), outer.rows)
-        check("and the status comes back", outer.status("[1]", 5), outer.rows)
+        check("and the status comes back", outer.status("[1]"), outer.rows)
     check("nothing of them is typed", [row.rstrip() for row in outer.rows()[:-1] if row.strip()] == ["$"], outer.rows)
     outer.resize(5, 80)
     comes(lambda: listed()[1:4] == ["4", "by", "80"])
     outer.shows("$ ")
+    # The front end hears of the size as `mux ls` does.
+    time.sleep(0.5)
     outer.type(b'\x02"')
     check("a split that is too small is told of", outer.status("pane 1 is too small to split: 4 by 80"), outer.rows)
     outer.resize(24, 80)
@@ -312,15 +320,23 @@ def told(folder):
     check("the status of the scroll mode tells how far back", outer.status("12 rows back: "), outer.rows)
     outer.type(b"\x02%")
     check("a command ends it first", outer.status(" 1 [2]") and outer.stands(21, 0, "100"), outer.rows)
-    outer.type(b"\x02q1sleep 1; printf '\\033]0;title\\007'; sleep 1; printf '\\a'\r\x02q2")
-    outer.status(" 1 [2]")
-    before = len(outer.written)
-    check("a bell in another pane rings, and is told", outer.status("bell in pane 1"), outer.rows)
-    check("once, and a title's end doesn't", outer.written[before:].count(b"\x07") == 1, bytes(outer.written[before:]))
+    bell(outer, folder / "rings")
     keypad(outer)
     outer.type(b"\x02[\x1b[5~\x02d")
     check("so does leaving", outer.ends() and outer.is_restored(), outer.rows)
     subprocess.run(tool("mux", "kill", "other"), check=True)
+
+
+def bell(outer, path):
+    """A bell of the first pane rings while the second has the focus: the first waits for a file until then."""
+    outer.type(f"\x02q1until [ -e {path} ]; do sleep 0.1; done; printf '\\033]0;title\\007'; sleep 1; printf '\\a'\r".encode())
+    outer.status("[1] 2 ")
+    outer.type(b"\x02q2")
+    outer.status(" 1 [2]")
+    before = len(outer.written)
+    path.touch()
+    check("a bell in another pane rings, and is told", outer.status("bell in pane 1"), outer.rows)
+    check("once, and a title's end doesn't", outer.written[before:].count(b"\x07") == 1, bytes(outer.written[before:]))
 
 
 def keypad(outer):
@@ -380,16 +396,17 @@ def smaller(folder):
     check("a smaller one shows the part with the cursor, and is told the key", small.status("[1]", end=FITS) and small.shows("$ "),
           small.rows)
     check("which is a part of what the other shows", comes(lambda: is_part(small, outer)), (small.rows(), outer.rows()))
-    check("and nothing is cut", listed()[1:4] == ["23", "by", "100"] and outer.rows() == before, outer.rows)
+    check("and nothing is cut", listed()[1:4] == ["23", "by", "100"] and comes(lambda: outer.rows() == before), outer.rows)
     small.type(b"echo se''en")
     check("what is typed there is shown at both", small.shows("se''en") and outer.shows("se''en"), outer.rows)
     small.type(b"\x15\x02d")
     check("it leaves", small.ends() and small.is_restored() and small.shows("[detached]"), small.rows)
     check("and nothing is cut", listed()[1:4] == ["23", "by", "100"] and comes(lambda: outer.rows() == before), outer.rows)
     large = Outer(tool("mux", "attach", "other"), size=(40, 120))
-    is_told = comes(lambda: large.rows()[39].startswith("24 by 100, the size of another terminal; C-b r fits this one"))
+    told = "24 by 100, the size of another terminal; C-b r fits this one"
+    is_told = large.sees(lambda seen: seen.lines()[39].startswith(told))
     check("a larger one beside it shows the session as it is, and is told the key", is_told and large.shows("right-9"), large.rows)
-    check("which disturbs nobody", outer.rows() == before, outer.rows)
+    check("which disturbs nobody", comes(lambda: outer.rows() == before), outer.rows)
     large.type(b"\x02r")
     check("C-b r has the session be as large", large.status("[1]") and comes(lambda: listed()[1:4] == ["39", "by", "120"]), large.rows)
     check("and the other shows a part of it", outer.status("[1]", end=FITS) and comes(lambda: is_part(outer, large)), outer.rows)
@@ -398,7 +415,8 @@ def smaller(folder):
     is_fitted = large.ends() and comes(lambda: listed()[1:4] == ["23", "by", "100"])
     check("until the key is typed there", is_fitted and outer.shows("right-9") and comes(lambda: FITS not in outer.rows()[-1]), outer.rows)
     outer.type(b"\x02?")
-    is_narrow = outer.shows("list the keys; read the settings file again") and not any(row[80:].strip() for row in outer.rows())
+    is_narrow = outer.shows("list the keys; read the settings file again") and comes(
+        lambda: not any(row[80:].strip() for row in outer.rows()))
     check("the keys fit 80 columns", is_narrow, outer.rows)
     subprocess.run(tool("mux", "kill", "other"), check=True)
 
@@ -411,7 +429,7 @@ def full(folder):
     links = [ClientLink(terminals_of("other"), False) for _ in range(15)]
     for link in links:
         link.connect()
-    check("fifteen more are taken", all(link.begins(5) for link in links), listed())
+    check("fifteen more are taken", all(link.begins(WAIT) for link in links), listed)
     late = Outer(tool("mux", "other"))
     full = "at most 16 terminals may attach"
     check("a seventeenth is told so", late.shows(f"{full}; next try in 1 s; C-c or q leaves"), late.rows)

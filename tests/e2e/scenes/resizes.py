@@ -1,12 +1,11 @@
 """Lines that survive a resize: after a split, a narrower terminal, vim in between, a zoom of nine panes, and while a program writes."""
 import os
-import shutil
 import signal
 import subprocess
 import time
 
 from scenes.zoom import there
-from tried import SESSION, Outer, check, children, comes, is_scrollback_process, noted, said, scene, tool
+from tried import SESSION, WAIT, Outer, check, children, comes, is_missing, is_scrollback_process, noted, outside_gate, said, scene, tool
 
 # Lines that are wider than a pane after a split, each with a number at both ends.
 LINES = [f"<{number:02d} " + "abcdefghi " * 7 + f"{number:02d}>" for number in range(1, 9)]
@@ -29,6 +28,12 @@ def are_whole(outer):
     """Return True if each line has a row of its own."""
     rows = [row.rstrip() for row in outer.rows()]
     return all(line.rstrip() in rows for line in LINES)
+
+
+def have_once(*words):
+    """Return True if each line is in the output of `mux` once. The pty host stores rows a moment later."""
+    text = said(*words)[1]
+    return [text.count(line[:8]) for line in LINES] == [1] * len(LINES)
 
 
 def write(outer, word, lines, pause, sizes):
@@ -61,7 +66,7 @@ def resize_split(folder):
     time.sleep(0.5)
     outer.type(b"exit\r")
     check("and after one in the other direction", comes(lambda: are_whole(outer)), outer.rows())
-    check("mux capture has each once", [said("capture", SESSION)[1].count(line[:8]) for line in LINES] == [1] * 8, said("capture", SESSION))
+    check("mux capture has each once", comes(lambda: have_once("capture", SESSION)), lambda: said("capture", SESSION))
 
 
 @scene
@@ -80,14 +85,14 @@ def resize_narrow(folder):
     time.sleep(1)
     outer.resize(24, 90)
     check("they come back from the scrollback", comes(lambda: are_whole(outer)), outer.rows())
-    check("none is stored twice", [said("capture", "-S", "-", SESSION)[1].count(line[:8]) for line in LINES] == [1] * 8,
-          said("capture", "-S", "-", SESSION))
+    is_once = comes(lambda: have_once("capture", "-S", "-", SESSION))
+    check("none is stored twice", is_once, lambda: said("capture", "-S", "-", SESSION))
 
 
 @scene
 def resize_vim(folder):
     """Rows are whole after vim was open while the terminal had other sizes."""
-    if not shutil.which("vim"):
+    if is_missing("vim between sizes", "vim"):
         return
     outer = begun()
     outer.type(b"vim -u NONE -i NONE\r")
@@ -111,9 +116,9 @@ def resize_writes(folder):
     outer = Outer(tool("mux", "new", SESSION), (24, 80))
     outer.settled(0)
     write(outer, "number", 3000, 0.0025, 24)
-    time.sleep(1)
-    wrong = not_once(said("capture", "-S", "-", "-J", SESSION)[1], "number", 3000)
-    check("each line is stored once", not wrong, wrong[:20])
+    wrong = []
+    is_once = comes(lambda: wrong.append(not_once(said("capture", "-S", "-", "-J", SESSION)[1], "number", 3000)) or not wrong[-1])
+    check("each line is stored once", is_once, wrong[-1][:20])
 
 
 @scene
@@ -139,23 +144,26 @@ def resize_within(folder):
 def resize_without(folder):
     """A scrollback process that is stopped or killed delays no size, and later lines are whole again."""
     outer = begun()
-    process = next(one for one in children(noted(SESSION)["host"][0]) if is_scrollback_process(one))
+    host = noted(SESSION)["host"][0]
+    comes(lambda: any(map(is_scrollback_process, children(host))))
+    process = next(filter(is_scrollback_process, children(host)))
     os.kill(process, signal.SIGSTOP)
     outer.resize(24, 50)
     time.sleep(1)
-    outer.type(b"stty size\r")
-    check("a stopped one delays no size", outer.shows("23 50", 5), outer.rows())
+    # Few tries, since the lines have to stay on the screen.
+    is_sized = comes(lambda: outer.type(b"stty size\r") or outer.shows("23 50", 8), 30)
+    check("a stopped one delays no size", is_sized, outer.rows())
     os.kill(process, signal.SIGCONT)
     outer.resize(24, 90)
     check("the lines are whole once it continues", comes(lambda: are_whole(outer)), outer.rows())
     os.kill(process, signal.SIGKILL)
     outer.resize(24, 60)
     time.sleep(1)
-    outer.type(b"clear; stty size\r")
-    check("nor does a killed one", outer.shows("23 60", 5), outer.rows())
+    check("nor does a killed one", outer.has_size(23, 60), outer.rows())
     outer.resize(24, 90)
     time.sleep(1)
     outer.type(b"\x02c")
+    comes(lambda: "2:sh*" in outer.rows()[-1])
     outer.settled(0)
     outer.type(PRINTS)
     check("a new pane has whole lines", comes(lambda: are_whole(outer)), outer.rows())
@@ -180,7 +188,7 @@ def resize_log(folder):
         check("the log has begun", comes(is_logging))
         write(outer, "logged", 900, 0.01, 50)
         outer.type(b"exit\r")
-        process.wait(30)
+        process.wait(WAIT)
     wrong = not_once((folder / "log").read_text(encoding="utf-8"), "logged", 900)
     check("each line is logged once", not wrong, wrong[:20])
 
@@ -190,7 +198,8 @@ def resize_prompt(folder):
     """A right-hand prompt wraps with its line, and is there once at the width before."""
     outer = begun()
     outer.type(b"PS1='$(printf \"\\r\\033[80Cright\\r\")$ '; clear; echo begun\r")
-    check("the prompt is shown", comes(lambda: sum("right" in row for row in outer.rows()) == 1), outer.rows())
+    # The typed line has this word too, until the screen is cleared.
+    check("the prompt is shown", comes(lambda: outer.rows()[0].startswith("begun") and "right" in outer.rows()[1]), outer.rows())
     outer.resize(24, 60)
     time.sleep(0.5)
     outer.resize(24, 90)
@@ -200,6 +209,7 @@ def resize_prompt(folder):
 
 
 @scene
+@outside_gate("a line of 100 MB takes minutes")
 def resize_endless(folder):
     """A line of 100 MB passes through sizes, and the session goes on."""
     outer = Outer(tool("mux", "new", SESSION), (24, 80))
@@ -214,6 +224,7 @@ def resize_endless(folder):
 
 
 @scene
+@outside_gate("a hundred zooms of nine panes take a minute")
 def resize_zooms(folder):
     """Nine full panes have all their characters after a hundred zooms."""
     outer = Outer(tool("mux", "new", SESSION), (40, 120))

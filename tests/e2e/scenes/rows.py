@@ -1,11 +1,12 @@
 """Rows scrolled off the screens of panes, which the pty host stores by the scrollback process; copies, and logs."""
+import itertools
 import os
 import pathlib
 import signal
 import subprocess
 import time
 
-from tried import SESSION, Outer, check, children, comes, is_scrollback_process, noted, said, scene, tool, window_of
+from tried import SESSION, Outer, check, children, comes, is_scrollback_process, noted, outside_gate, said, scene, tool, window_of
 from roam_live.cli.scrollback import RowsAsked
 from roam_live.cli.targets import making_of
 from roam_live.common.errors import Fault
@@ -40,32 +41,48 @@ def grown(process):
     return next(int(line.split()[1]) << 10 for line in lines if line.startswith("RssAnon:"))
 
 
-def count_of(name=SESSION, pane=1):
-    """Return the numbers of the first stored row and of the end."""
-    asked = RowsAsked(window_in(window_of(name)))
-    number, generation = making_of(asked.session, pane)
-    return asked.answer(lambda told: asked.link.count(number, generation, told)) or (0, 0)
+def count_of(name=SESSION, pane=1, base=None):
+    """Return the numbers of the first stored row and of the end; zeros while the pty host is too busy to answer."""
+    try:
+        asked = RowsAsked(window_in(window_of(name, base=base)))
+        number, generation = making_of(asked.session, pane)
+        return asked.answer(lambda told: asked.link.count(number, generation, told)) or (0, 0)
+    except Fault:
+        return 0, 0
 
 
 def kept(name=SESSION, pane=1):
     """Return all scrollback rows of a pane, without their prefix; none while the scrollback process is too busy for a snapshot."""
-    asked = RowsAsked(window_in(window_of(name)))
     try:
+        asked = RowsAsked(window_in(window_of(name)))
         snapshot, found = asked.snapshot(pane), []
+        while snapshot.first + len(found) < snapshot.end:
+            rows = asked.rows(snapshot, snapshot.first + len(found), snapshot.end)
+            if not rows:
+                break
+            found += rows
     except Fault:
         return []
-    while snapshot.first + len(found) < snapshot.end:
-        rows = asked.rows(snapshot, snapshot.first + len(found), snapshot.end)
-        if not rows:
-            break
-        found += rows
     return [row[1:].decode() for row in found]
+
+
+def has_above(outer):
+    """Return True if the row above a terminal's first one is stored in time. Both are numbers of a count, and a prompt ends the screen.
+
+    The pty host stores rows later than the terminal shows them.
+    """
+
+    def is_stored():
+        first = outer.rows()[0].strip()
+        return first.isdigit() and kept()[-1:] == [str(int(first) - 1)]
+
+    return outer.stands(outer.size[0] - 2, 0, "$") and comes(is_stored)
 
 
 def begun():
     """Return a terminal on a session, with a shell."""
     outer = Outer(tool("mux", SESSION))
-    check("a session keeps rows by one scrollback process", outer.shows("$ ") and comes(lambda: len(scrollback_processes()) == 1),
+    check("a session keeps rows by one scrollback process", outer.begins() and comes(lambda: len(scrollback_processes()) == 1),
           outer.rows)
     return outer
 
@@ -85,20 +102,35 @@ def run_long(outer, line, text, seconds=60):
     return is_shown
 
 
-@scene
-def kept_rows(folder):
-    """The last 10,000 rows, whole and in order; a search in them; capture with its options, and CSI 3 J."""
-    outer = begun()
-    check("seq 1 200000 runs", run(outer, "clear; seq 1 200000", "counted"), outer.rows)
-    check("10,000 rows are kept", comes(lambda: count_of()[1] - count_of()[0] == KEPT and count_of()[1] > 199_900), count_of())
+def counts_to(outer, last):
+    """Let a shell count, and return the kept rows and their numbers."""
+    check(f"seq 1 {last} runs", run_long(outer, f"clear; seq 1 {last}", "counted"), outer.rows)
+    is_kept = comes(lambda: count_of()[1] - count_of()[0] == KEPT and count_of()[1] > last - 100)
+    check("10,000 rows are kept, up to the screen", is_kept and has_above(outer), lambda: (count_of(), kept()[-9:], outer.rows()))
     rows = kept()
     numbers = [int(row) for row in rows if row.isdigit()]
     check("whole and in order", len(numbers) >= KEPT - 2 and numbers == list(range(numbers[0], numbers[0] + len(numbers))), numbers[:9])
-    check("up to the screen", numbers[-1] > 199_970, numbers[-1])
+    return rows, numbers
+
+
+@scene
+@outside_gate("it measures a search")
+def search_speed(folder):
+    """A search over 10,000 rows takes at most 50 ms."""
+    _, numbers = counts_to(begun(), 200_000)
     best = sought("199000", numbers)
     check(f"a search over them answers in {best * 1000:.1f} ms, of 50", best < SEARCHED, best)
     best = sought("not there", numbers)
     check(f"one that finds nothing in {best * 1000:.1f} ms", best < SEARCHED, best)
+
+
+@scene
+def kept_rows(folder):
+    """The last 10,000 rows, whole and in order; a search in them; capture with its options, and CSI 3 J."""
+    outer = begun()
+    rows, numbers = counts_to(outer, 20_000)
+    sought("19000", numbers)
+    sought("not there", numbers)
     status, told, why = said("capture", "-S", "-5", "-E", "-1", f"{SESSION}.1")
     check("capture prints the last of them", (status, told) == (0, "".join(f"{row}\n" for row in rows[-5:])), (told, why))
     status, told, why = said("capture", "-S", "-", SESSION)
@@ -129,7 +161,7 @@ def sought(text, numbers):
 def check_forms(outer):
     """Check rows with their styles, and joined."""
     run(outer, "clear; printf '\\033[1;31mred\\033[0m\\n%0100d\\n' 7; seq 1 30", "styled")
-    comes(lambda: "red" in "".join(kept()[-40:]))
+    has_above(outer)
     styled = said("capture", "-e", "-S", "-40", "-E", "-1", SESSION)[1]
     check("capture -e has styles", "\x1b[" in styled and "red\x1b[0m\n" in styled, styled)
     plain = said("capture", "-S", "-40", "-E", "-1", SESSION)[1]
@@ -145,24 +177,28 @@ def process_lost(folder):
     outer = begun()
     run(outer, "clear; seq 1 100", "before")
     check("rows are kept", comes(lambda: "50" in kept()), kept)
+    written = len(outer.written)
     os.kill(scrollback_processes()[0], signal.SIGKILL)
-    check("a killed filter is told of", outer.shows("scrollback rows were lost: the scrollback process ended"), outer.rows)
+    is_told = outer.was_told("scrollback rows were lost: the scrollback process ended", begin=written)
+    check("the user is told that the scrollback process was killed", is_told, outer.rows)
     check("another runs", comes(lambda: len(scrollback_processes()) == 1), scrollback_processes)
     run(outer, "seq 201 300", "behind")
     check("what came before is kept, then a row tells of the loss, then what comes",
           comes(lambda: in_order(kept(), "50", "[rows were lost here]", "250")), lambda: kept()[-120:])
     process = scrollback_processes()[0]
     os.kill(process, signal.SIGSTOP)
-    begin = time.monotonic()
-    check("a stopped one doesn't stop a shell", run(outer, "seq 1 300000", "passed", 30), outer.rows)
+    begin, written = time.monotonic(), len(outer.written)
+    check("a stopped one doesn't stop a shell", run(outer, "seq 1 300000", "passed", 120), outer.rows)
     print(f"        seq 1 300000 beside a stopped scrollback process took {time.monotonic() - begin:.1f} s", flush=True)
-    check("which is told", outer.shows("scrollback rows were lost: the scrollback process is too slow"), outer.rows)
+    is_told = outer.was_told("scrollback rows were lost: the scrollback process is too slow", begin=written)
+    check("which is told", is_told, outer.rows)
     check("keys are echoed meanwhile", run(outer, "clear", "echoed"), outer.rows)
     status, _, why = said("capture", "-S", "-", SESSION)
     check("no snapshot is had of it", status == 1 and "has no stored rows" in why, why)
     os.kill(process, signal.SIGCONT)
-    # Output before it has caught up is lost too.
-    again = lambda: run(outer, "seq 401 500", "continued") and in_order(kept(), "[rows were lost here]", "450")
+    # Output before it has caught up is lost too. Each try waits for a word of its own, so that tries don't pile up.
+    tries = itertools.count()
+    again = lambda: run(outer, "seq 401 500", f"continued-{next(tries)}") and in_order(kept(), "[rows were lost here]", "450")
     check("rows are kept again once it is continued", comes(again), lambda: kept()[-120:])
     check("by the same scrollback process", scrollback_processes() == [process], scrollback_processes())
 
@@ -178,6 +214,7 @@ def in_order(rows, *texts):
 
 
 @scene
+@outside_gate("a gigabyte takes two minutes")
 def process_fed(folder):
     """A gigabyte through a pane: the host grows within its limit, and the last rows are stored."""
     outer = begun()
@@ -208,7 +245,7 @@ def nine_kept(folder):
         for pane in range(1, 10):
             subprocess.run(tool("mux", "send", f"{name}.{pane}", f"seq {pane}001 {pane}200", "Enter"), check=True)
     for name in names:
-        found = [pane for pane in range(1, 10) if not comes(lambda: in_order(kept(name, pane), f"{pane}100", f"{pane}150"), 20)]
+        found = [pane for pane in range(1, 10) if not comes(lambda: in_order(kept(name, pane), f"{pane}100", f"{pane}150"))]
         check(f"each of nine panes of {name} has its rows", not found, found)
         check("by one scrollback process", len(scrollback_processes(name)) == 1, scrollback_processes(name))
     for name in names[2:]:
@@ -225,9 +262,11 @@ def small_rows(folder):
     pane = min(sizes, key=lambda number: sizes[number])
     check(f"a pane has {sizes[pane][0]} rows and {sizes[pane][1]} columns", sizes[pane] <= (2, 4), sizes)
     subprocess.run(tool("mux", "send", f"{SESSION}.{pane}", "clear; seq 1 9999", "Enter"), check=True)
-    check("its rows are kept", comes(lambda: in_order(kept(SESSION, pane), "9996", "9997")), lambda: kept(SESSION, pane)[-9:])
-    numbers = [row for row in kept(SESSION, pane) if row.isdigit()][-9000:]
-    check("whole and in order", numbers == [str(number) for number in range(int(numbers[0]), int(numbers[0]) + len(numbers))], numbers[:9])
+    rows = []
+    is_kept = comes(lambda: rows.append(kept(SESSION, pane)) or in_order(rows[-1], "9996", "9997"))
+    check("its rows are kept", is_kept, rows[-1][-9:])
+    numbers = [int(row) for row in rows[-1] if row.isdigit()][-9000:]
+    check("whole and in order", numbers and numbers == list(range(numbers[0], numbers[0] + len(numbers))), numbers[:9])
 
 
 @scene
@@ -252,6 +291,7 @@ def buffers(folder):
     (folder / "near").mkdir(mode=0o700)
     relay = subprocess.Popen(words, stdout=subprocess.DEVNULL)
     run(outer, "clear; seq 1 5000", "counted")
+    check("rows are kept", has_above(outer), lambda: kept()[-9:])
     check_far(Window(folder / "near"), long)
     relay.terminate()
     relay.wait()
@@ -281,9 +321,11 @@ def rows_logged(folder):
     def lines():
         return (folder / "log").read_text(encoding="utf-8").splitlines()
 
+    tries = itertools.count()
+
     def is_begun():
-        run(outer, "seq 7001 7030", "begun")
-        return lines()
+        run(outer, "seq 7001 7030", f"begun-{next(tries)}")
+        return comes(lines, 2)
 
     check("what leaves is written down", comes(is_begun), lines)
     run(outer, "clear; seq 1 5000", "counted")

@@ -12,9 +12,10 @@ import subprocess
 from tried import SESSION, Outer, check, comes, noted, said, scene, tool
 from scenes.machines import ssh_words
 
-# The number of switches, with keys before and after each in one piece; and their seed.
+# The number of switches, with keys before and after each in one piece, and their seed. The seconds for all of them.
 SWITCHES = 200
 SEED = 7
+LONGEST = 120.0
 
 # A command that records all input in a window.
 KEEPS = "stty raw -echo; echo ke''eps; cat >{}\r"
@@ -87,8 +88,8 @@ def switched(folder, words, count):
         outer.type("".join(chunks).encode())
     for window, path in paths.items():
         wanted = person.typed[window]
-        check(f"window {window} has all that was typed there, in order, and nothing else", comes(lambda: typed_in(path) == wanted, 60),
-              lambda: differs(typed_in(path), wanted))
+        is_typed = comes(lambda: typed_in(path) == wanted, LONGEST)
+        check(f"window {window} has all that was typed there, in order, and nothing else", is_typed, lambda: differs(typed_in(path), wanted))
     check("the last row has the windows", outer.status("[1] 1:"), outer.rows)
     return outer
 
@@ -143,9 +144,8 @@ def window_stopped(folder):
     os.kill(host, signal.SIGCONT)
     wanted = ["one", "two"]
     check("what he typed comes where he was", comes(lambda: [typed_in(path) for path in paths] == wanted), [*map(typed_in, paths)])
-    check("the window is there a moment later", outer.status("window 3 is open now") or outer.shows("3:"), outer.rows)
     # That line would stay until the report that no keys are taken.
-    check("its label stands in the last row then", comes(lambda: "3:" in outer.rows()[23]), outer.rows)
+    check("the window is there a moment later: its label stands in the last row", comes(lambda: "3:" in outer.rows()[23]), outer.rows)
     client = window_process(2, "client")
     os.kill(client, signal.SIGSTOP)
     outer.type(b" t\x021 o\x022wo")
@@ -168,20 +168,22 @@ def window_kills(folder):
     outer.type(b"")
     # The host reports that end too, maybe before the front end's own line.
     is_told = outer.was_told("window 2 is gone", "window 2: its server was killed, or has failed")
-    check("the one before is shown", is_told and outer.status("[1] 1:"), lambda: (outer.rows(), bytes(outer.written[-3000:])))
+    is_back = is_told and is_at(outer, 1) and outer.status("[1] 1:")
+    check("the one before is shown", is_back, lambda: (outer.rows(), bytes(outer.written[-3000:])))
     outer.type(b"here")
-    check("and typed in", comes(lambda: typed_in(paths[0]) == "here"), typed_in(paths[0]))
+    check("and typed in", comes(lambda: typed_in(paths[0]) == "here"), lambda: typed_in(paths[0]))
     host = noted(SESSION)["host"][0]
     os.kill(host, signal.SIGKILL)
     check("another host comes", comes(lambda: noted(SESSION)["host"][0] != host), lambda: noted(SESSION))
     check("a window has a new shell", outer.shows("a new shell"), outer.rows)
-    check("one more is opened", comes(lambda: outer.type(b"\x02c") or outer.status("[1] 1:sh- 2:sh*", 3)), outer.rows)
+    # The front end may still be without the new host, and then asks for a window for some seconds only.
+    check("one more is opened", comes(lambda: outer.type(b"\x02c") or outer.status("[1] 1:sh- 2:sh*", 15)), outer.rows)
     begin = len(outer.written)
     outer.type(b"exit\r")
     check("a shell's end is its window's", outer.was_told("window 2 is gone", begin=begin) and outer.status("[1] 1:sh*"), outer.rows)
     outer.type(b"exit\r")
     check("that of the last is the session's", outer.ends() and outer.process.returncode == 0, outer.rows)
-    check("which is told", b"[the session has ended]" in outer.written, bytes(outer.written[-80:]))
+    check("which is told", outer.was_told("[the session has ended]"), lambda: bytes(outer.written[-80:]))
 
 
 @scene
@@ -199,21 +201,21 @@ def window_each(folder):
     check("a name is shown at both", second.status("[1] 1:sh- 2:hé中*") and first.status("[1] 1:sh* 2:hé中"), first.rows)
     second.type(b"\x021")
     second.status("[1] 1:sh* 2:")
-    first.type(b"\x022sleep 1; printf '\\a'; echo lou''d\r\x021")
+    # The bell comes once the host knows that the window is empty.
+    first.type(b"\x022sleep 3; printf '\\a'; echo lou''d\r\x021")
     is_told = all(outer.status("[1] 1:sh* 2:hé中#!-") for outer in (first, second))
     check("a bell in a window where nobody is rings at both", is_told, (first.rows()[-1], second.rows()[-1]))
-    check("with the terminal's own", b"\x07" in first.written and b"\x07" in second.written, second.rows)
+    check("with the terminal's own", first.was_told("\x07") and second.was_told("\x07"), second.rows)
     second.type(b"\x022")
     check("until one is there", second.shows("loud") and second.status("[1] 1:sh- 2:hé中*"), second.rows)
     first.type(b"\x02D")
     check("one has the other leave", first.status("1 other terminal detached") and second.ends() and second.is_restored(), first.rows)
-    check("which is told", b"[detached by another terminal]" in second.written, bytes(second.written[-80:]))
+    check("which is told", second.was_told("[detached by another terminal]"), lambda: bytes(second.written[-80:]))
     for rows in (24, 23):
         first.type(b"\x02t")
-        is_sized = comes(lambda: f"{rows} by 80" in said("list-windows", SESSION)[1].splitlines()[0])
-        check(f"the window has the last row, or not: {rows}", is_sized, said("list-windows", SESSION))
-        first.type(b"clear; stty size\r")
-        is_shown = first.shows(f"{rows} 80") and comes(lambda: ("2:" in first.rows()[23]) == (rows == 23))
+        is_sized = comes(lambda: f"{rows} by 80" in said("list-windows", SESSION)[1].partition("\n")[0])
+        check(f"the window has the last row, or not: {rows}", is_sized, lambda: said("list-windows", SESSION))
+        is_shown = first.has_size(rows, 80) and comes(lambda: ("2:" in first.rows()[23]) == (rows == 23))
         check("so have its programs, and the terminal", is_shown, first.rows)
     first.type(b"\x02d")
     check("it leaves", first.ends() and first.is_restored(), first.rows)
@@ -232,7 +234,7 @@ def begun_with(folder):
     path.parent.mkdir(parents=True)
     path.write_text("bind H split-window -h 'echo by-a-key; cat'\nbind e new-window -n ed sh\n", encoding="utf-8")
     outer = Outer(tool("mux", SESSION), environment={"XDG_CONFIG_HOME": str(folder / "config")})
-    outer.shows("$ ")
+    outer.begins()
     outer.type(b"\x02H")
     check("a key of roam.conf runs a command in a new pane", outer.shows("by-a-key") and outer.status(" 1 [2]"), outer.rows)
     outer.type(b"\x02z")
@@ -245,13 +247,13 @@ def begun_with(folder):
     check("a folder that isn't there is told, and nothing split", told[0] == 1 and "the directory does not exist" in told[2], told)
     told = said("cmd", SESSION, "split-window", "-l", "5", "cat")
     check("so is a flag that isn't done", told == (1, "", "mux: split-window: unknown flag -l\n"), told)
-    check("and no pane came", "4 panes" in said("list-windows", SESSION)[1], said("list-windows", SESSION))
+    check("and no pane came", comes(lambda: "4 panes" in said("list-windows", SESSION)[1]), lambda: said("list-windows", SESSION))
     outer.type(b"\x02e")
     check("a key opens a window with a name", outer.shows("2:ed*"), outer.rows)
     outer.type(b"\x02:neww -d -n logs -c /usr 'pwd; exec cat'\r")
     check("-d opens one and stays", outer.shows("window 3 is open now"), outer.rows)
     is_there = comes(lambda: "/usr" in said("capture", f"{SESSION}:3")[1] and "logs" in said("list-windows", SESSION)[1])
-    check("whose command runs in its folder, under its name", is_there, said("list-windows", SESSION))
+    check("whose command runs in its folder, under its name", is_there, lambda: said("list-windows", SESSION))
     subprocess.run(tool("mux", "kill", "-f", SESSION), check=True)
 
 
@@ -259,11 +261,11 @@ def begun_with(folder):
 def host_stopped(folder):
     """If the pty host is stopped a user who types sees a message, and all input arrives once it continues."""
     outer = Outer(tool("mux", SESSION))
-    outer.shows("$ ")
+    outer.begins()
     host = noted(SESSION)["host"][0]
     os.kill(host, signal.SIGSTOP)
     outer.type(b"echo la''ter\r")
-    check("it is told within ten seconds", outer.shows("the pty host is stopped", 10), outer.rows)
+    check("that it is stopped is told in some seconds", outer.shows("the pty host is stopped"), outer.rows)
     os.kill(host, signal.SIGCONT)
     check("what was typed comes then", outer.shows("later"), outer.rows)
     subprocess.run(tool("mux", "kill", "-f", SESSION), check=True)

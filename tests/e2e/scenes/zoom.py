@@ -1,18 +1,17 @@
 """A pane that fills the terminal, with real programs, and the way back; borders moved by keys; and the aftermath of a killed front end."""
 import os
 import random
-import shutil
 import signal
 import subprocess
 import time
 from collections import Counter
 
 from scenes.machines import ssh_words
-from scenes.mouse import report
-from scenes.mouse_programs import Modes
+from scenes.mouse import Modes, report
 from scenes.programs import htop_options
-from tried import SESSION, Outer, check, comes, connected, part_at, scene, shown_above, terminals_of, three_panes, told_cells, tool
-from roam_live.common.errors import Fault
+from tried import (
+    SESSION, WAIT, Outer, check, comes, connected, is_missing, listed, outside_gate, part_at, scene, shown_above, terminals_of, three_panes,
+    told_cells, tool)
 from roam_live.common.tty import MOST
 from roam_live.frontend.resize_keys import NO_PANE
 from roam_live.input.mouse_reports import tracking_of
@@ -37,8 +36,13 @@ KEYS = {"up": b"\x02\x1b[1;5A", "down": b"\x02\x1b[1;5B", "right": b"\x02\x1b[1;
 
 def there(name=SESSION):
     """Return the pane positions."""
+    return places_at(terminals_of(name).parent / "panes")
+
+
+def places_at(path):
+    """Return the pane positions that a socket reports, which a busy machine may do late."""
     found = []
-    comes(lambda: found.append(asked_places(terminals_of(name).parent / "panes")) or found[-1])
+    comes(lambda: found.append(asked_places(path)) or found[-1])
     return found[-1]
 
 
@@ -47,15 +51,15 @@ def acts(*words):
     link = connected(SESSION, False)
     for begin in range(0, len(words), 32):
         link.say(" ; ".join(words[begin : begin + 32]))
-    link.part(10)
+    link.part(WAIT)
     link.close()
 
 
-def settled():
-    """Return the pane positions once they are stable for a moment: the last act is reported a little later."""
+def settled(seconds=0.05):
+    """Return the pane positions once they are stable for so many seconds: the last act is reported a little later."""
     before, after = None, there()
     while after != before:
-        time.sleep(0.05)
+        time.sleep(seconds)
         before, after = after, there()
     return after
 
@@ -77,22 +81,12 @@ def tree(chance):
     return settled()
 
 
-def session_cells():
-    """Return the cells of the session, which a busy machine may report late."""
-    for _ in range(5):
-        try:
-            return told_cells(SESSION)
-        except Fault:
-            time.sleep(1)
-    return told_cells(SESSION)
-
-
 def still_cells():
     """Return the cells of the session once they are stable for a moment."""
-    before = session_cells()
+    before = told_cells(SESSION)
     while True:
         time.sleep(0.15)
-        after = session_cells()
+        after = told_cells(SESSION)
         if after.cells == before.cells:
             return after
         before = after
@@ -101,7 +95,7 @@ def still_cells():
 def shows_part(outer, pane):
     """Return True if a terminal shows a pane's cells and nothing else, above its last row."""
     rect, size = there().rects[pane], (outer.size[0] - 1, outer.size[1])
-    found, cursor = part_at(session_cells(), rect.row, rect.col, size)
+    found, cursor = part_at(told_cells(SESSION), rect.row, rect.col, size)
     blank = (" ", type(found[1, 1][1])())
     wanted = {place: cell if place[0] <= rect.rows and place[1] <= rect.cols else blank for place, cell in found.items()}
     return shown_above(outer) == (wanted, cursor)
@@ -139,12 +133,14 @@ def zoomed_back(size):
 
 
 @scene
+@outside_gate("random trees take a minute")
 def zoom_trees(folder):
     """Trees of 2 to 6 panes at 24 by 80: there and back."""
     zoomed_back((24, 80))
 
 
 @scene
+@outside_gate("random trees take two minutes")
 def zoom_trees_large(folder):
     """Trees of 2 to 6 panes at 50 by 160: there and back."""
     zoomed_back((50, 160))
@@ -152,10 +148,11 @@ def zoom_trees_large(folder):
 
 def shows_first(outer):
     """Return True if a terminal shows the session from its first row and column on, above its last row."""
-    return shown_above(outer) == part_at(session_cells(), 1, 1, (outer.size[0] - 1, outer.size[1]))
+    return shown_above(outer) == part_at(told_cells(SESSION), 1, 1, (outer.size[0] - 1, outer.size[1]))
 
 
 @scene
+@outside_gate("twelve new sizes of a large terminal take a minute")
 def first_row_refitted(folder):
     """A session that C-b r shrinks to the terminal is shown from its first row on, also right after the user came to the window."""
     large, small = Outer(tool("mux", SESSION), (50, 120)), None
@@ -193,7 +190,7 @@ def first_row_unzoomed(folder):
         comes(lambda: is_zoomed(outer))
         outer.type(b"exit\r")
         comes(lambda: len(there().rects) == 2 and there().size() == (40, 120))
-        right += comes(lambda: not is_zoomed(outer) and shows_first(outer), 3)
+        right += comes(lambda: not is_zoomed(outer) and shows_first(outer))
     check("its first row is the first one each time", right == FIRST_ROWS["exits"], (right, outer.rows()))
 
 
@@ -209,8 +206,7 @@ def zoom_programs(folder):
     outer.status(" 1  2 [3]")
     told = Modes(terminals_of(SESSION).parent)
     for name, (command, quits) in programs.items():
-        if not shutil.which(name):
-            print(f"skipped {name}: it isn't here", flush=True)
+        if is_missing(name, name):
             continue
         outer.type(f"{command}; clear; echo le''ft {name}\r".encode())
         check(f"{name} asks for the mouse", comes(lambda: tracking_of(told.of(3))), lambda: told.of(3))
@@ -225,7 +221,8 @@ def zoom_programs(folder):
             outer.type(b"ix\x1bGo")
         else:
             outer.type(report(0, 23, 3) + report(0, 23, 3, True))
-            check("a click on its last row is one", outer.shows("htop 3") or outer.shows("Press any key"), outer.rows)
+            is_help = outer.sees(lambda seen: any("htop 3" in row or "Press any key" in row for row in seen.lines()))
+            check("a click on its last row is one", is_help, outer.rows)
             outer.type(b"q")
         check("its cells are shown then too", comes(lambda: shows_part(outer, 3)), outer.rows)
         outer.type(b"\x02z")
@@ -247,7 +244,7 @@ def zoom_ends(folder):
         check(f"{keys!r} ends it, with the size as before", outer.status(label) and comes(lambda focus=focus: there() == before._replace(
             focus=focus, clients=there().clients)), there)
     outer.type(b"\x02z")
-    outer.status("[1] 2  3  Z")
+    outer.status("[1] 2  3 Z")
     acts("focus 3")
     check("so does another's focus", outer.status(" 1  2 [3]") and comes(lambda: there().rects == before.rects), there)
     outer.type(b"\x02zecho zoo''med\r")
@@ -255,7 +252,7 @@ def zoom_ends(folder):
     outer.type(b"exit\r")
     check("the end of the pane ends it", outer.status("[1] 2 ") and comes(lambda: there().size() == (24, 80)), there)
     outer.type(b"\x02z")
-    outer.status("[1] 2  Z")
+    outer.status("[1] 2 Z")
     outer.resize(30, 100)
     check("another size of the terminal has it filled", comes(lambda: there().rects[1][2:] == (29, 100)), there)
     check("and shown", comes(lambda: shows_part(outer, 1)), outer.rows)
@@ -279,18 +276,17 @@ def zoom_ends(folder):
     check("leaving gives the size back", outer.ends() and comes(lambda: there().size() == (26, 90)), there)
 
 
-@scene
-def zoom_killed(folder):
-    """A front end that is killed at any moment of a zoom: the next one, or an attached one, restores the size."""
-    outer = three_panes()
-    outer.type(b"\x02d")
-    outer.ends()
-    before, chance, seen = there(), random.Random(SEED), set()
+def killed_zooms(before):
+    """Kill front ends at some moment of a zoom; the next one restores the size each time. Return the sizes right after the kills."""
+    chance, seen = random.Random(SEED), set()
     for count in range(KILLS):
         outer = Outer(tool("mux", SESSION))
         outer.status("[1] 2  3")
         outer.type(b"\x02z" * (1 + count % 2))
         time.sleep(chance.uniform(0, 0.03) if count < KILLS - 2 else 0.5)
+        if count == KILLS - 2:
+            # This one is killed with a larger session, however long that takes.
+            comes(lambda: there().size() != before.size())
         os.kill(outer.process.pid, signal.SIGKILL)
         outer.process.wait()
         time.sleep(0.1)
@@ -298,9 +294,20 @@ def zoom_killed(folder):
         again = Outer(tool("mux", SESSION))
         again.status("[1] 2  3")
         is_back = comes(lambda: there().rects == before.rects)
-        check(f"after a kill {count + 1} the next attach has the size", is_back and not again.shows(" Z", 0.2), there)
+        check(f"after a kill {count + 1} the next attach has the size", is_back and not is_zoomed(again), there)
         again.type(b"\x02d")
         again.ends()
+    return seen
+
+
+@scene
+def zoom_killed(folder):
+    """A front end that is killed at any moment of a zoom: the next one, or an attached one, restores the size."""
+    outer = three_panes()
+    outer.type(b"\x02d")
+    outer.ends()
+    before = there()
+    seen = killed_zooms(before)
     check("some were killed with a larger session", len(seen) > 1, seen)
     outer, other = Outer(tool("mux", SESSION)), Outer(tool("mux", SESSION))
     other.status("[1] 2  3")
@@ -316,6 +323,8 @@ def zoom_killed(folder):
     comes(lambda: there().size() != (24, 80))
     other.process.kill()
     other.process.wait()
+    # Otherwise the next terminal isn't alone.
+    comes(lambda: listed()[-2:] == ["0", "terminals"])
     large = Outer(tool("mux", SESSION), (40, 120))
     check("a larger terminal that comes is filled", comes(lambda: there().size() == (40, 120)), there)
     large.type(b"\x02d")
@@ -332,18 +341,19 @@ def zoom_far(folder):
     outer.type(b"\x02%")
     outer.status(" 1 [2]")
     panes = far / "roam" / "other" / "w" / "1" / "panes"
-    before = asked_places(panes)
+    before = places_at(panes)
     outer.type(b"\x02z")
-    check("it fills the terminal", outer.status(" 1 [2] Z") and asked_places(panes).rects[2][2:] == (23, 80), outer.rows)
+    is_full = outer.status(" 1 [2] Z") and comes(lambda: places_at(panes).rects[2][2:] == (23, 80))
+    check("it fills the terminal", is_full, outer.rows)
     outer.type(b"\x02z")
-    check("and is back", comes(lambda: asked_places(panes).rects == before.rects), lambda: asked_places(panes))
+    check("and is back", comes(lambda: places_at(panes).rects == before.rects), lambda: places_at(panes))
     outer.type(b"\x02z")
     outer.status(" 1 [2] Z")
     outer.process.kill()
     outer.process.wait()
     again = Outer(words)
-    check("after a kill the next has the size", again.status(" 1 [2] ") and comes(lambda: asked_places(panes).rects == before.rects),
-          lambda: asked_places(panes))
+    check("after a kill the next has the size", again.status(" 1 [2] ") and comes(lambda: places_at(panes).rects == before.rects),
+          lambda: places_at(panes))
     again.type(b"\x02d")
     again.ends()
     environment = {**os.environ, "XDG_RUNTIME_DIR": str(far)}
@@ -368,12 +378,18 @@ def border_keys(folder):
     told = f"{found['moved']} keys moved a border, {found['told']} said why not, {found['odd']} did neither"
     print(f"        seed {SEED}: {told}", flush=True)
     check("borders go by keys, or words say why not", found["moved"] and not found["odd"], told)
+    comes(lambda: is_evened(outer))
+    first = settled(1)
     outer.type(b"\x02 ")
-    time.sleep(1)
-    first = there()
+    again = settled(1)
+    check("C-b Space again changes nothing", again.rects == first.rects, (first, again))
+
+
+def is_evened(outer):
+    """Return True if C-b Space reports that nothing is left to do."""
+    begin = len(outer.written)
     outer.type(b"\x02 ")
-    time.sleep(1)
-    check("C-b Space again changes nothing", there().rects == first.rects, (first, there()))
+    return comes(lambda: outer.written.find(b"space is divided evenly", begin) >= 0, 3)
 
 
 def is_zoomed(outer):
@@ -390,8 +406,9 @@ def moved(outer, pane, side):
     comes(lambda: not is_told_in(outer.rows()[-1]), 4)
     begin = len(outer.written)
     outer.type(KEYS[side])
-    comes(lambda: is_told_in(outer.written[begin:].decode(errors="replace")) or there().rects != before.rects, 5)
+    comes(lambda: is_told_in(outer.written[begin:].decode(errors="replace")) or there().rects != before.rects)
     time.sleep(0.05)
+    comes(lambda: there().focus == pane, 15)
     after, is_told = there(), is_told_in(outer.written[begin:].decode(errors="replace"))
     step = 1 if side in ("right", "down") else -1
     goes = [then + step == now for then, now in zip(edges(before.rects[pane], side), edges(after.rects[pane], side))]
