@@ -2,7 +2,8 @@
 import os
 import signal
 
-from tried import SESSION, Outer, check, comes, scene, tool
+from tried import SESSION, WAIT, Outer, check, comes, scene, tool, window_of
+from scenes.mouse import Modes
 
 # A command that records all input in a pane, and one that first requests modifyOtherKeys.
 KEEPS = "stty raw -echo; echo ke''eps; cat >{}\r"
@@ -20,7 +21,7 @@ def panes_with(folder, outer, begins):
     return paths
 
 
-def have(paths, text, seconds=30.0):
+def have(paths, text, seconds=WAIT):
     """Return True if all of these files get a text in time."""
     return comes(lambda: all(path.read_bytes() == text for path in paths), seconds)
 
@@ -70,6 +71,9 @@ def extended(folder):
     check("a session has a pane", outer.status("[1]"), outer.rows)
     check("the terminal is asked", outer.written.find(b"\x1b[?4m\x1b[>4;2m\x1b[?1049h") >= 0, bytes(outer.written[:200]))
     paths = panes_with(folder, outer, ["", ASKS])
+    # The terminal hears of the program's wish as this connection does.
+    told = Modes(window_of(SESSION))
+    comes(lambda: told.of(2), 5)
     outer.type(b"\x1b[>4")
     check("what it answers isn't typed, however late its end comes", not comes(lambda: paths[1].read_bytes() != b"", 0.5), all_of(paths))
     outer.type(b";1mx" + CTRL_TAB + CTRL_A)
@@ -81,6 +85,6 @@ def extended(folder):
           and b"\x1b[>4;1m\x1b[?2004l" in outer.written[-200:], bytes(outer.written[-200:]))
     os.environ["TERM"] = "linux"
     other = Outer(tool("mux", SESSION))
-    check("a console of Linux is asked nothing", other.status(" 1 ") or other.status("[1]"), other.rows)
+    check("a console of Linux is asked nothing", other.status("[1] 2"), other.rows)
     other.type(b"\x02d")
     check("and given nothing back", other.ends() and b"\x1b[>4" not in other.written and b"\x1b[?4m" not in other.written, other.rows)

@@ -1,11 +1,13 @@
 """The mouse: the reports to programs in panes, and roam's own actions."""
 import os
+import socket
 import time
 
-from tried import KEEPS_NONE, SESSION, Outer, check, comes, scene, three_panes, tool
+from tried import KEEPS_NONE, SESSION, Outer, check, comes, is_missing, scene, terminals_of, three_panes, tool
 from roam_live.common import tty
 from roam_live.input.extended_keys import given_back
 from roam_live.input.mouse_reports import ASKED, OFF
+from roam_live.protocol.panes import METADATA, OTHER, PanesState
 from scenes.machines import ssh_words
 
 # A program that sets modes, and records all its input in hexadecimal digits; q ends it, and is recorded too.
@@ -26,6 +28,27 @@ os.write(1, b"".join(b"\\033[?%dl" % int(mode) for mode in modes.split(",")))
 termios.tcsetattr(0, termios.TCSANOW, before)
 open(path + ".ended", "w").close()
 """
+
+
+class Modes:
+    """The modes of the programs in a session's panes, as its server reports them."""
+
+    def __init__(self, folder):
+        self.peer = socket.socket(socket.AF_UNIX)
+        self.peer.connect(str(folder / "panes"))
+        self.peer.sendall(f"{METADATA}\n".encode())
+        self.peer.setblocking(False)
+        self.told, self.rest = PanesState(), b""
+
+    def of(self, pane):
+        """Return those of a pane now."""
+        try:
+            *lines, self.rest = (self.rest + self.peer.recv(65536)).split(b"\n")
+        except BlockingIOError:
+            lines = []
+        for line in lines:
+            self.told.take(line.decode())
+        return self.told.value("modes", pane).split()
 
 
 class Noting:
@@ -50,6 +73,17 @@ class Noting:
         comes(lambda: len(self.noted()) >= len(text))
         time.sleep(0.2)
         return self.noted() == text
+
+    def gets_each(self, reports, pieces):
+        """Return True if its input is one of these pieces after each report, and nothing else. It is awaited before the next report, since
+        a busy front end may read two motions together, and passes on the last one.
+        """
+        text = b""
+        for one, piece in zip(reports, pieces):
+            points(self.outer, one)
+            text += piece
+            comes(lambda: len(self.noted()) >= len(text))
+        return self.gets(text)
 
     def quit(self):
         """End it."""
@@ -76,13 +110,13 @@ def asks(outer, text, begin):
 
 
 # A press in the right one of two panes, motion with the button pressed, out of it, a release, motion without a button, the wheel; and by
-# mode the reports to the program there. It begins at column 41.
+# mode the reports to the program there for each. It begins at column 41.
 POINTED = ((0, 3, 45), (32, 4, 45), (32, 5, 20), (0, 5, 21, True), (35, 6, 46), (65, 7, 80))
 COMES = {
-    "1000,1006": b"\x1b[<0;5;3M\x1b[<0;1;5m\x1b[<65;40;7M",
-    "1002,1006": b"\x1b[<0;5;3M\x1b[<32;5;4M\x1b[<32;1;5M\x1b[<0;1;5m\x1b[<65;40;7M",
-    "1003,1006": b"\x1b[<0;5;3M\x1b[<32;5;4M\x1b[<32;1;5M\x1b[<0;1;5m\x1b[<35;6;6M\x1b[<65;40;7M",
-    "1000": b"\x1b[M %#\x1b[M#!%\x1b[MaH'",
+    "1000,1006": (b"\x1b[<0;5;3M", b"", b"", b"\x1b[<0;1;5m", b"", b"\x1b[<65;40;7M"),
+    "1002,1006": (b"\x1b[<0;5;3M", b"\x1b[<32;5;4M", b"\x1b[<32;1;5M", b"\x1b[<0;1;5m", b"", b"\x1b[<65;40;7M"),
+    "1003,1006": (b"\x1b[<0;5;3M", b"\x1b[<32;5;4M", b"\x1b[<32;1;5M", b"\x1b[<0;1;5m", b"\x1b[<35;6;6M", b"\x1b[<65;40;7M"),
+    "1000": (b"\x1b[M %#", b"", b"", b"\x1b[M#!%", b"", b"\x1b[MaH'"),
 }
 
 
@@ -94,15 +128,14 @@ def mouse_reports(folder):
     outer.type(b"\x02%")
     outer.status(" 1 [2]")
     check("the terminal isn't asked for the mouse", b"?1002h" not in outer.written and b"?1006h" not in outer.written, outer.written[:200])
-    for modes, text in COMES.items():
+    for modes, pieces in COMES.items():
         begin = len(outer.written)
         program = Noting(folder, outer, modes)
         asked = ASKED["motion" if "1003" in modes else "drags"]
         check(f"{modes}: the terminal is asked for it", asks(outer, asked, begin), bytes(outer.written[begin:]))
-        points(outer, *POINTED)
-        check(f"{modes}: the program is sent its reports", program.gets(text), program.noted)
+        check(f"{modes}: the program is sent its reports", program.gets_each(POINTED, pieces), program.noted)
         points(outer, (0, 3, 5), (0, 3, 5, True), (0, 3, 40), (0, 24, 45), (35, 3, 5))
-        check(f"{modes}: and nothing of another place", program.gets(text), program.noted)
+        check(f"{modes}: and nothing of another place", program.gets(b"".join(pieces)), program.noted)
         begin = len(outer.written)
         program.quit()
         check(f"{modes}: and the terminal for nothing then", asks(outer, OFF, begin), bytes(outer.written[begin:]))
@@ -122,9 +155,9 @@ def mouse_thinned(folder):
     for turn in range(200):
         outer.type(report(35, 2 + turn // 70, 1 + turn % 70))
         time.sleep(0.004)
-    seconds = time.monotonic() - begun
     ends = b"\x1b[<35;60;4M"
     check("where motion ends is told", comes(lambda: program.noted().endswith(ends)), program.noted()[-60:])
+    seconds = time.monotonic() - begun
     count = program.noted().count(b"M")
     check(f"of 200 motions in {seconds:.1f} s it is told of {count}, one each 20 ms at most", count <= seconds / 0.02 + 2, count)
     before = len(program.noted())
@@ -183,9 +216,23 @@ def mouse_of_roam(folder):
     check("the wheel shows what scrolled off", outer.shows("160 ") and outer.status("30 rows back"), outer.rows)
     points(outer, *[(65, 5, 5)] * 10)
     check("and comes back to the newest", outer.shows("200 ") and outer.status("[1] 2  3 "), outer.rows)
+    turned_in_less(outer)
+    dragged(outer)
+    outer.type(b"\x02m")
+    check("C-b m again gives the mouse back", outer.status("the mouse selects text, except in programs that use it"), outer.rows)
+    is_off = comes(lambda: bytes(outer.written).rfind(OFF) > bytes(outer.written).rfind(b"?1002h"))
+    check("and the terminal isn't asked", is_off, bytes(outer.written[-200:]))
+
+
+def turned_in_less(outer):
+    """Turn the wheel over a program on the alternate screen."""
+    if is_missing("the wheel on the alternate screen", "less"):
+        return
+    modes = Modes(terminals_of(SESSION).parent)
     outer.type(b"clear; seq 300 | less\r")
-    outer.shows(":")
-    # The alternate screen is reported a moment later.
+    # The front end hears of the alternate screen as this connection does, and before the keypad, which less sets later.
+    comes(lambda: OTHER in modes.of(1))
+    comes(lambda: outer.display_keypad() == b"\x1b=", 3)
     time.sleep(0.3)
     points(outer, *[(65, 5, 5)] * 3)
     check("on the other screen it is three arrows", comes(lambda: outer.rows()[0].startswith("10 ")), outer.rows)
@@ -195,11 +242,6 @@ def mouse_of_roam(folder):
     is_back = comes(lambda: outer.rows()[0].startswith("7 ")) and outer.status("[1] 2  3 ")
     check("also over another pane, which it focuses", is_back, outer.rows)
     outer.type(b"q")
-    dragged(outer)
-    outer.type(b"\x02m")
-    check("C-b m again gives the mouse back", outer.status("the mouse selects text, except in programs that use it"), outer.rows)
-    is_off = comes(lambda: bytes(outer.written).rfind(OFF) > bytes(outer.written).rfind(b"?1002h"))
-    check("and the terminal isn't asked", is_off, bytes(outer.written[-200:]))
 
 
 def dragged(outer):
@@ -209,8 +251,7 @@ def dragged(outer):
     points(outer, (0, 12, 70), (32, 8, 70), (0, 8, 70, True))
     check("and one up", outer.stands(7, 60, "\u2500" * 20), outer.rows)
     check("the focus is where it was", outer.status("[1] 2  3 "), outer.rows)
-    outer.type(b"clear; stty size\r")
-    check("and programs are told", outer.shows("23 59"), outer.rows)
+    check("and programs are told", outer.has_size(23, 59), outer.rows)
     points(outer, (0, 5, 60), (32, 5, 80), (0, 5, 80, True))
     check("it goes as far as there is room", outer.stands(5, 75, "\u2502"), outer.rows)
     points(outer, (0, 5, 76), (32, 5, 40), (0, 5, 40, True))
@@ -235,7 +276,8 @@ def mouse_chosen(folder):
     click(outer, 5, 5)
     outer.status("[1] 2 ")
     points(outer, (65, 7, 47))
-    check("the wheel focuses the program under it", outer.status(" 1 [2]") and program.noted().endswith(b"\x1b[<65;7;7M"), program.noted)
+    has_wheel = outer.status(" 1 [2]") and comes(lambda: program.noted().endswith(b"\x1b[<65;7;7M"))
+    check("the wheel focuses the program under it", has_wheel, program.noted)
     program.quit()
 
 
@@ -251,8 +293,7 @@ def mouse_far(folder):
     begin = len(outer.written)
     program = Noting(folder, outer, "1002,1006")
     check("the terminal is asked for what a program there asks for", asks(outer, ASKED["drags"], begin), bytes(outer.written[begin:]))
-    points(outer, *POINTED)
-    check("which is sent its reports", program.gets(COMES["1002,1006"]), program.noted)
+    check("which is sent its reports", program.gets_each(POINTED, COMES["1002,1006"]), program.noted)
     program.quit()
     for word in ("title", "shape"):
         begin = len(outer.written)

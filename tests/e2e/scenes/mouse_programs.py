@@ -1,39 +1,15 @@
 """Programs with the mouse, in the right one of two panes, show the same as in tmux on a terminal of their own after the same events."""
-import shutil
-import socket
 import time
 
-from scenes.mouse import report
+from scenes.mouse import Modes, report
 from scenes.programs import Tmux, differences, htop_options, mc_home
-from tried import SESSION, Outer, check, comes, scene, terminals_of, tool
+from tried import SESSION, Outer, check, comes, is_missing, scene, terminals_of, tool
 from roam_live.common import spawn
 from roam_live.input.mouse_reports import SGR, MouseReport, sent, tracking_of
-from roam_live.protocol.panes import METADATA, PanesState
 from roam_live.protocol.screen_cells import ShownCells
 
 # The rows and columns of the right pane, and the column before it.
 PANE, LEFT = (23, 40), 40
-
-
-class Modes:
-    """The modes of the programs in a session's panes, as its server reports them."""
-
-    def __init__(self, folder):
-        self.peer = socket.socket(socket.AF_UNIX)
-        self.peer.connect(str(folder / "panes"))
-        self.peer.sendall(f"{METADATA}\n".encode())
-        self.peer.setblocking(False)
-        self.told, self.rest = PanesState(), b""
-
-    def of(self, pane):
-        """Return those of a pane now."""
-        try:
-            *lines, self.rest = (self.rest + self.peer.recv(65536)).split(b"\n")
-        except BlockingIOError:
-            lines = []
-        for line in lines:
-            self.told.take(line.decode())
-        return self.told.value("modes", pane).split()
 
 
 def right_of(outer):
@@ -57,10 +33,8 @@ def point(outer, tmux, modes, *reports):
 
 def check_pointed(name, command, steps, quits):
     """A program in the right pane shows the same as in tmux, at first and after each step: reports at positions of the pane."""
-    for needed in (name, "tmux"):
-        if not shutil.which(needed):
-            print(f"skipped {name}: {needed} isn't here", flush=True)
-            return
+    if is_missing(name, name, "tmux"):
+        return
     outer = Outer(tool("mux", SESSION))
     outer.shows("$ ")
     outer.type(b"\x02%")

@@ -3,15 +3,15 @@ import json
 import os
 import pathlib
 import random
-import shutil
 import signal
 import subprocess
 import time
 
-from tried import KEEPS_NONE, Outer, check, comes, noted, said, scene, tool, window_of
-from scenes.machines import far_ends, ssh_words
-from scenes.mouse_programs import Modes
+from tried import KEEPS_NONE, WAIT, Outer, check, comes, is_missing, noted, said, scene, tool, window_of
+from scenes.machines import kill_far_ends, ssh_words
+from scenes.mouse import Modes
 from roam_live.protocol.panes import BRACKETED
+from roam_live.session.foreground import busy_panes
 
 # The number of pastes with keys around each, and the bytes of a timed one.
 PASTES = 100
@@ -41,9 +41,10 @@ def reads(outer, path, modes=""):
     """Read a pane's bytes raw into a file, by a program that requested these modes."""
     outer.type(f"clear; stty raw -echo; printf '{modes}re''ady'; exec cat > {path}\r".encode())
     outer.shows("ready")
+    comes(path.exists)
 
 
-def has(path, text, seconds=30.0):
+def has(path, text, seconds=WAIT):
     """Return True if a file gets exactly these bytes in time."""
     return comes(lambda: path.exists() and path.stat().st_size >= len(text), seconds) and path.read_bytes() == text
 
@@ -65,9 +66,31 @@ def waits_for_return(outer, name, folder):
         check("until Return", comes(lambda: any(row.startswith("two") for row in outer.rows())), outer.rows)
 
 
+def pasted_in_vim(outer, folder):
+    """Vim takes a paste literally."""
+    if is_missing("a paste into vim", "vim"):
+        return
+    path = folder / "text"
+    (folder / "vimrc").write_text(VIMRC, encoding="utf-8")
+    text = "".join(f"{' ' * (4 * k)}line {k} \u00e9\u4e2d {{\n" for k in range(12))
+    outer.type(f"vim -u {folder / 'vimrc'} {path}\r".encode())
+    outer.shows("~  ")
+    outer.type(b"i")
+    outer.shows("INSERT")
+    time.sleep(1)
+    outer.type(pasted(text))
+    outer.shows("line 11")
+    outer.type(b"\x1b")
+    time.sleep(0.5)
+    outer.type(b":wq\r")
+    check("vim with autoindent gets a paste as it is", has(path, (text + "\n").encode()), outer.rows)
+
+
 @scene
 def paste_lines(folder):
     """Two pasted lines wait for Return in bash, and vim takes a paste literally; a paste is neither a binding nor an answer."""
+    if is_missing("pastes at a prompt", "bash"):
+        return
     outer = Outer(tool("mux", "other"), environment=KEEPS_NONE)
     outer.shows("$ ")
     outer.type(BASH)
@@ -76,7 +99,8 @@ def paste_lines(folder):
     outer.type(b"\x15\x02%")
     outer.status(" 1 [2]")
     outer.type(b"sleep 1000\r")
-    time.sleep(1)
+    # Without a program there C-b x closes the pane.
+    comes(lambda: busy_panes(noted("other")["host"][0]) == {2: "sleep"})
     outer.type(b"\x02x")
     check("a question stands", outer.status("close sleep in pane 2?"), outer.rows)
     outer.type(pasted("y" * 50 + "\n"))
@@ -89,20 +113,7 @@ def paste_lines(folder):
     watcher.shows("pasted")
     watcher.type(pasted("never" * 20))
     check("a terminal that watches says so", watcher.status("not pasted: this terminal is read-only"), watcher.rows)
-    if shutil.which("vim"):
-        path = folder / "text"
-        (folder / "vimrc").write_text(VIMRC, encoding="utf-8")
-        text = "".join(f"{' ' * (4 * k)}line {k} \u00e9\u4e2d {{\n" for k in range(12))
-        outer.type(f"vim -u {folder / 'vimrc'} {path}\r".encode())
-        outer.shows("~  ")
-        outer.type(b"i")
-        time.sleep(1)
-        outer.type(pasted(text))
-        outer.shows("line 11")
-        outer.type(b"\x1b")
-        time.sleep(0.5)
-        outer.type(b":wq\r")
-        check("vim with autoindent gets a paste as it is", has(path, (text + "\n").encode()), outer.rows)
+    pasted_in_vim(outer, folder)
     subprocess.run(tool("mux", "kill", "-f", "other"), check=True)
 
 
@@ -163,15 +174,23 @@ def paste_order(folder):
             others.type(b"." if types is outer else b",")
             time.sleep(0.02)
         types.type(b"<end>")
-        comes(lambda: path.read_bytes().rstrip(b".,").endswith(b"<end>"), 60)
+        comes(lambda: path.read_bytes().rstrip(b".,").endswith(b"<end>"))
         got = path.read_bytes()[before:]
         odd = out_of_order(got, [*texts, b""], [*keys, b"<end>"])
         check(f"{PASTES} pastes {name}, in order and in one piece each", not odd, lambda odd=odd: (odd, types.rows()[-1]))
         is_all = comes(lambda: sum(map(path.read_bytes()[before:].count, (b".", b","))) == PASTES)
-        check("and every key beside them", is_all, got.count(b"."))
+        check("and every key beside them", is_all, lambda: path.read_bytes()[before:][-200:])
     outer.type(b"\x02d")
     outer.ends()
     subprocess.run(tool("mux", "kill", "-f", "other"), env={**os.environ, "XDG_RUNTIME_DIR": str(far)}, check=True)
+
+
+def has_keys_listed(outer):
+    """Return True if C-b ? lists the keys in time. The front end has read what was typed before then. Another key ends the list."""
+    outer.type(b"\x02?")
+    is_listed = outer.shows("list the keys")
+    outer.type(b"q")
+    return is_listed and comes(lambda: not any("list the keys" in row for row in outer.rows()))
 
 
 @scene
@@ -180,27 +199,26 @@ def paste_lost(folder):
     waiting input.
     """
     outer, path = Outer(tool("mux", "other")), folder / "got"
-    outer.shows("$ ")
+    outer.begins()
     reads(outer, path)
     host = noted("other")["host"][0]
     os.kill(host, signal.SIGSTOP)
     text = b"x" * 5000
     outer.type(b"<" + pasted(text) + b">")
-    outer.type(b"\x02?")
-    check("while the host is stopped the front end goes on", outer.shows("list the keys"), outer.rows)
-    outer.type(b"q")
+    check("while the host is stopped the front end goes on", has_keys_listed(outer), outer.rows)
     os.kill(host, signal.SIGCONT)
     check("once it is continued all comes, in order", has(path, b"<" + text + b">"), path.read_bytes)
     os.kill(host, signal.SIGSTOP)
     outer.type(pasted(text) + b"a")
-    time.sleep(0.5)
+    has_keys_listed(outer)
     outer.type(b"\x03")
     check("a C-c drops a paste that waits", outer.status("the waiting pastes were dropped"), outer.rows)
     os.kill(host, signal.SIGCONT)
     check("and comes, without the keys behind the paste", has(path, b"<" + text + b">\x03"), path.read_bytes)
     os.kill(host, signal.SIGSTOP)
     outer.type(pasted("echo ne''ver" + " " * 40 + "\n"))
-    time.sleep(0.5)
+    # A later paste is for the next host.
+    has_keys_listed(outer)
     os.kill(host, signal.SIGKILL)
     check("where the host is killed the front end says that it is lost", outer.status("the last paste was lost"), outer.rows)
     outer.shows("[a new shell; ")
@@ -216,6 +234,8 @@ def paste_lost(folder):
 @scene
 def paste_far(folder):
     """Over `mux ssh` pastes are bracketed if the program there wants that, short ones too; they continue after the far end is killed."""
+    if is_missing("pastes at a prompt", "bash"):
+        return
     folder = folder / "p"
     folder.mkdir()
     far, path = folder / "far", folder / "got"
@@ -235,13 +255,11 @@ def paste_far(folder):
     for number in range(3):
         outer.type(b"%d" % number + pasted(text))
         keys += b"%d" % number + pasted(text)
-        ends = far_ends(far)
         time.sleep(0.02 * number)
-        for process in ends:
-            os.kill(process, signal.SIGKILL)
+        kill_far_ends(far)
         outer.type(b"%d" % number)
         keys += b"%d" % number
-        check(f"{number}: cut and joined again it comes once, at its place", has(path, pasted(text) + keys, 60), path.stat().st_size)
+        check(f"{number}: cut and joined again it comes once, at its place", has(path, pasted(text) + keys), path.stat().st_size)
     check("and the relay here is the one that was", json.loads((here / "state.json").read_text(encoding="utf-8"))["relay"], here)
     outer.type(b"\x02d")
     outer.ends()
@@ -301,7 +319,8 @@ def focus_told(folder):
     time.sleep(0.5)
     for keys, wanted in ((b"\x02q2", b"\x1b[O"), (b"\x02q1", b"\x1b[O\x1b[I"), (b"\x02o\x02o", b"\x1b[O\x1b[I\x1b[O\x1b[I")):
         outer.type(keys)
-        comes(lambda: path.read_bytes().startswith(wanted), 3)
+        # Two changes may pass between two looks of the server, and are no change then.
+        comes(lambda: path.read_bytes().startswith(wanted), 10 if keys.count(b"o") else WAIT)
         time.sleep(0.3)
         got = path.read_bytes()
         is_told = got == wanted or keys.count(b"o") and got in (wanted, wanted[:6])

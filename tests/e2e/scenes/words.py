@@ -6,7 +6,7 @@ import xml.etree.ElementTree
 
 from tried import Outer, PROGRAM, check, comes, failed, listed, noted, said, scene, tool, window_of
 from roam_live.common.build_info import version
-from roam_live.common.process import TOOLS
+from roam_live.common.process import TOOLS, begun
 from roam_live.config.environment import PREFIXES
 from roam_live.frontend.bindings import Keymap, help_with
 from roam_live.frontend.effects import Perform, TypeKey
@@ -31,11 +31,11 @@ def words(folder):
     told = said("new", "-d", "other", "/bin/sh", "-c", "echo st''arted; exec cat")
     check("mux new -d launches a session", told == (0, "", ""), told)
     check("and refuses one that is there", said("new", "-d", "other")[0] == 1, said("ls"))
-    check("mux list is ls", said("list") == said("ls") and "other" in said("ls")[1], said("list"))
+    check("mux list is ls", comes(lambda: said("list") == said("ls") and "other" in said("ls")[1]), lambda: said("list"))
     told = said("send", "-a", "other", "char 65", "char e9", "split right")
     check("mux send ends once all acts were taken", told == (0, "", ""), told)
     rows = []
-    is_shown = comes(lambda: rows.append(said("capture", "other")[1].split("\n")) or "\u2502started" in rows[-1][0], 2)
+    is_shown = comes(lambda: rows.append(said("capture", "other")[1].split("\n")) or "\u2502started" in rows[-1][0])
     check("mux capture shows the rows", is_shown and rows[-1][0].startswith("started ") and rows[-1][1].startswith("e\u00e9 "), rows[-1:])
     check("a row for each, without spaces at the ends", len(rows[-1]) == 25 and rows[-1][23:] == [" 1 [2]", ""], rows[-1])
     told = said("capture", "--svg", "other")
@@ -50,7 +50,7 @@ def words(folder):
     check("mux send -a refuses what is no act", told[0] == 1 and told[2].startswith("mux: 'split up' is neither an act"), told)
     check("and types none of the others", "a" not in said("capture", "other")[1].replace("started", ""), said("ls"))
     is_typed = said("send", "other", "C-u", "close next", "Enter") == (0, "", "")
-    is_shown = is_typed and comes(lambda: "close next" in said("capture", "other")[1], 2)
+    is_shown = is_typed and comes(lambda: "close next" in said("capture", "other")[1])
     check("mux send types what is no key", is_shown, said("capture", "other"))
     all_clients()
     subprocess.run(tool("mux", "kill", "-f", "other"), check=True)
@@ -81,7 +81,9 @@ def all_clients():
         subprocess.run(words, stdout=subprocess.DEVNULL, stderr=subprocess.DEVNULL, check=False)
     check("ls tells how many clients there were, where they are many", comes(lambda: "64 of 64 clients" in " ".join(listed())), listed())
     check("the start that is there goes on", said("send", "other", "a") == (0, "", ""), said("ls"))
-    os.kill(noted("other")["client"][0], signal.SIGKILL)
+    process = noted("other")["client"][0]
+    os.kill(process, signal.SIGKILL)
+    comes(lambda: begun(process) is None)
     for word in (["capture", "other"], ["send", "other", "a"]):
         told = said(*word)
         check(f"mux {word[0]} tells that the session hears no more starts", told[0] == 1 and "has used its 64" in told[2], told)
