@@ -47,7 +47,7 @@ def writes(folder, outer, text):
     path.write_bytes(text)
     noted.unlink(missing_ok=True)
     outer.type(f"python3 {script} {path} {noted}; echo do''ne\r".encode())
-    check("and the shell is there again", outer.shows("done", 30), outer.rows)
+    check("and the shell is there again", outer.shows("done"), outer.rows)
     return noted.read_bytes()
 
 
@@ -105,7 +105,9 @@ def has_set(outer, text):
 def clipboard(folder):
     """A program sets the clipboard of the terminal whose last key went to it, if that is enabled, and no other one."""
     outer = Outer(tool("mux", SESSION), environment=ON)
-    outer.shows("$ ")
+    # The terminal has to know the pane that its keys go to.
+    outer.begins()
+    outer.status("[1]")
     if not tells_clips(terminals_of(SESSION).parent):
         print("skipped clipboard: this server tells no texts for it", flush=True)
         return
@@ -140,8 +142,8 @@ def clipboard_far(folder):
     if tells_clips(folder / "far/roam/other/w/1"):
         # Another transport may take over now, and subscribers of panes reconnect.
         time.sleep(3)
-        sets(outer, b"from afar")
-        check("a text of another machine", comes(lambda: has_set(outer, b"from afar")), bytes(outer.written[-200:]))
+        is_set = comes(lambda: sets(outer, b"from afar") or comes(lambda: has_set(outer, b"from afar"), 5))
+        check("a text of another machine", is_set, bytes(outer.written[-200:]))
     else:
         print("skipped clipboard_far: this server tells no texts for it", flush=True)
     outer.type(b"exit\r")

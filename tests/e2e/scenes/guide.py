@@ -5,7 +5,7 @@ import re
 import subprocess
 import sys
 
-from tried import LIVE, Outer, check, comes, scene
+from tried import LIVE, Outer, check, comes, outside_gate, scene
 from scenes.installed import install
 
 TOP = LIVE.parent
@@ -280,6 +280,7 @@ def end_all(home):
 
 
 @scene
+@outside_gate("all commands of the guide take two minutes")
 def guide_commands(folder):
     """Each command of the guide's pages and of the man pages' examples behaves as its page says."""
     home = Home(folder)

@@ -5,7 +5,7 @@ import signal
 import subprocess
 import time
 
-from tried import check, comes, scene
+from tried import check, comes, outside_gate, scene
 from scenes.guide import Home, end_all
 
 PREFIX = b"\x02"
@@ -215,6 +215,7 @@ def survives(tasks):
 
 
 @scene
+@outside_gate("the tasks of the guide take a minute")
 def guide_tasks(folder):
     """Twenty tasks, with the guide alone."""
     home = Home(folder)

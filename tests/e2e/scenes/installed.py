@@ -51,7 +51,7 @@ def installed(folder):
     prefix = folder / "prefix"
     install(prefix)
     outer = Outer([str(prefix / "bin/roam"), "mux", SESSION], environment=BUNDLES)
-    check("an installed roam shows a shell", outer.shows("$ ") and outer.status("[1] 1:"), outer.rows)
+    check("an installed roam shows a shell", outer.begins() and outer.status("[1] 1:"), outer.rows)
     told = run(prefix, "ls")
     check("ls says nothing of the build", told[0] == 0 and "runs roam" not in told[1], told)
     told = run(prefix, "upgrade")
@@ -68,7 +68,8 @@ def installed(folder):
     check("a terminal attaches by the new build", other.shows("$ ") and comes(lambda: "2:" in other.rows()[-1]), other.rows)
     other.type(b"\x02d")
     check("and leaves", other.ends() and other.is_restored(), other.rows)
-    shutil.rmtree(prefix)
+    # A process that starts may write bytecode there meanwhile.
+    comes(lambda: shutil.rmtree(prefix, ignore_errors=True) or not prefix.exists())
     goes_on(outer, 2)
     outer.type(b"\x02c")
     check("without its files no window is opened, and that is said", outer.shows("cannot open a window"), outer.rows)

@@ -1,9 +1,8 @@
 """Programs that fill a pane show the same as in tmux, and a front end shows the same in tmux too."""
 import os
-import shutil
 import subprocess
 
-from tried import SESSION, check, comes, scene, three_panes
+from tried import SESSION, check, comes, is_missing, scene, three_panes
 from roam_live.common import spawn
 from painted import cells_of_rows
 from roam_live.common.process import TOOLS
@@ -89,11 +88,9 @@ def differences(shown, wanted, size):
 
 def check_program(name, command, quits):
     """A program that fills pane 1 shows, cell by cell with its style, the same as in tmux on a terminal of the pane's size."""
+    if is_missing(name, name, "tmux"):
+        return
     outer = three_panes()
-    for needed in (name, "tmux"):
-        if not shutil.which(needed):
-            print(f"skipped {name}: {needed} isn't here", flush=True)
-            return
     known = " ".join(f"{word}={value}" for word, value in spawn.names().items())
     tmux = Tmux(f"export {known}; {command}", *PANE)
     outer.type(b"\x02q1clear\r")
@@ -175,7 +172,7 @@ def tmux(folder):
 @scene
 def in_tmux(folder):
     """With tmux as the outer terminal a front end shows the same, and restores the old screen."""
-    if not shutil.which("tmux"):
+    if is_missing("tmux as the outer terminal", "tmux"):
         return
     outer = three_panes()
     tmux = Tmux(f"echo kept; {TOOLS / 'mux'} {SESSION}; echo status $?", *outer.size)

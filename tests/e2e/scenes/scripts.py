@@ -1,10 +1,11 @@
 """Other test scripts of roam, each as a scene."""
 import subprocess
 
-from tried import PROGRAM, check, scene, script
+from tried import PROGRAM, check, outside_gate, scene, script
 
 
 @scene
+@outside_gate("twenty attaches, each of which is timed, take a minute")
 def shared(folder):
     """The short form of the tests of terminals that come and go."""
     run = subprocess.run(script("try_starts", "20", PROGRAM), stdout=subprocess.PIPE, stderr=subprocess.STDOUT, check=False)
@@ -13,6 +14,7 @@ def shared(folder):
 
 
 @scene
+@outside_gate("it types for a minute, with pauses of exact length")
 def predictions(folder):
     """Test predictions."""
     run = subprocess.run(script("try_predictions", PROGRAM), stdout=subprocess.PIPE, stderr=subprocess.STDOUT, check=False)
@@ -21,6 +23,7 @@ def predictions(folder):
 
 
 @scene
+@outside_gate("the commands of all pages and helps take a minute")
 def pages(folder):
     """Test the commands in pages and helps."""
     run = subprocess.run(script("try_pages", PROGRAM), stdout=subprocess.PIPE, stderr=subprocess.STDOUT, check=False)

@@ -52,8 +52,10 @@ def settings_changed(folder):
     outer.type(b"\x01:nosuch\r")
     check("a command that isn't there is told", outer.shows("nosuch is not a command of roam"), outer.rows())
     written("set -g status off\nfoo\n")
+    begin = len(outer.written)
     outer.type(b"\x01R")
-    is_hidden = comes(lambda: "[2]" not in outer.rows()[-1])
+    # The file is read then: its mode may change.
+    is_hidden = outer.was_told("foo", begin=begin) and comes(lambda: "[2]" not in outer.rows()[-1])
     check("a row is hidden, and what isn't done is told as the row is there again", is_hidden, outer.rows())
     path.chmod(0o666)
     outer.type(b"\x02R")
@@ -79,7 +81,8 @@ def keys_shown(folder):
     check("and what it unbinds", outer.shows("  x          nothing"), outer.rows())
     check("the last row tells that there is more", outer.shows("1 to 11 of"), outer.rows())
     outer.type(b"G")
-    check("it scrolls to the end", outer.shows("C-b itself") and not outer.shows("by roam.conf", 0.3), outer.rows())
+    is_gone = outer.shows("C-b itself") and comes(lambda: not any("by roam.conf" in row for row in outer.rows()))
+    check("it scrolls to the end", is_gone, outer.rows())
     outer.type(b"q")
     check("another key leaves", outer.status("[1]"), outer.rows())
 
@@ -89,7 +92,7 @@ def at_prompt(folder):
     """C-b : binds and unbinds keys at this terminal, and prints formats; buffers are listed with all characters and line ends."""
     os.environ["XDG_CONFIG_HOME"] = str(folder / "config")
     outer = Outer(tool("mux", SESSION))
-    outer.shows("$ ")
+    outer.begins()
     outer.type(b"\x02:bind v split-window -h\r\x02v")
     check("a key is bound", outer.status(" 1 [2]"), outer.rows())
     outer.type(b"\x02:unbind v\r\x02v")
