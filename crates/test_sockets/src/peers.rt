@@ -11,6 +11,7 @@
 //! `mends FOLDER at N`: at moment N, the sockets of the folder are bound anew whose files are gone.
 //!
 //! `wait ends`: input arrives before 20 seconds have passed. `wait lasts`: none arrives within 50 milliseconds. `wait passes` takes either.
+//! Waits count from moment 0.
 //! `files are removed` by the ports. `start asks ACT, ACT` or `is quiet`: a datagram of the server's own instance arrives with these acts,
 //! or none does.
 use crate::acts::has;
@@ -410,11 +411,16 @@ files gone mends/clients
 mends mends at 60000
 files there mends/p1
 files there mends/clients
+moment 0 is 0
 first writes b
 pane 1 gives b
 first leaves
 pane 1 gives nothing
+wait passes
+wait passes
+wait lasts
 first connects mends/p1
+wait ends
 first writes c
 pane 1 gives c
 pane 9 lives 1
@@ -422,11 +428,21 @@ second connects mends/p9
 second writes d
 pane 9 gives d
 second leaves
+pane 9 gives nothing
+wait passes
+wait passes
+wait lasts
 second connects mends/panes
+wait ends
 told 1 1 23, none
 second reads 1 1 1 23 80 1/focus 1/
 second leaves
+told 1 1 23, none
+wait passes
+wait passes
+wait lasts
 second connects mends/clients
+wait ends
 told 1 1 23, none
 second waits
 files remove mends/p1
