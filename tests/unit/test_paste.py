@@ -9,7 +9,7 @@ from roam_live.frontend.effects import ClosePane
 from roam_live.frontend.paste import (BEHIND_IT, COUNTS, DROPPED, DROPS, ENDS, FULL_BEHIND, HANDING, LOST_WORDS, MOST_BEHIND, NOT_TAKEN,
                                       NO_ROOM, SHORT, TOO_LONG, PasteIntake, Pastes, weight)
 from roam_live.input.keys import BRACKETS
-from roam_live.protocol.host_link import LATER, MOST_UNSENT, NO_HOST, STORES_AGAIN
+from roam_live.protocol.host_link import LATER, LAUNCHES, MOST_UNSENT, NO_HOST, STORES_AGAIN
 from roam_live.protocol.paste_text import FULL, placeholder_acts
 from test_display import ClientLink, Person, PlayedPanes, places
 from test_socket_server import Sockets
@@ -499,12 +499,42 @@ class Given(Sockets):
         listener = self.listening(folder / "host")
         link = LinkedClient(folder, StillLoop(lambda: self.now), lambda: (24, 80), False, lambda: None)
         link.answers = lambda *words: self.told.append(words)
+        self.now += LAUNCHES
+        link.come()
         self.assertTrue(link.takes_texts())
         link.store(self.names[0], b"one")
         self.taken(listener).close()
         link.loop.turn()
         link.loop.turn()
         self.assertEqual((self.told, link.takes_texts(), link.unstored), ([(self.names[0], NO_HOST, "")], False, {}))
+
+    def test_expected(self):
+        """In the first seconds a text waits while a relay ends each connection, and is stored by the host that the relay reaches then.
+
+        If it reaches none in that time, the text is reported.
+        """
+        for is_reached in (True, False):
+            folder = self.made_folder()
+            listener = self.listening(folder / "host")
+            link = LinkedClient(folder, StillLoop(lambda: self.now), lambda: (24, 80), False, lambda: None)
+            self.addCleanup(link.leave)
+            link.answers = lambda *words, told=self.told: told.append(words)
+            for _ in range(3):
+                self.taken(listener).close()
+                link.loop.turn()
+                self.assertTrue(link.takes_texts())
+                link.store(self.names[0], b"one")
+                self.now += PAUSES[0]
+                link.loop.turn()
+            self.assertEqual((self.told, link.unstored), ([], {self.names[0]: b"one"}))
+            if is_reached:
+                link.link.take("host far")
+                self.assertIn(f"paste {self.names[0]} 3\none".encode(), link.waiting)
+                continue
+            self.now += LAUNCHES
+            self.taken(listener).close()
+            link.loop.turn()
+            self.assertEqual((self.told, link.takes_texts(), link.unstored), ([(self.names[0], NO_HOST, "")], False, {}))
 
     def test_cancelled(self):
         """A cancelled text isn't sent again, nor at all if nothing of it was sent; a half-sent one continues."""

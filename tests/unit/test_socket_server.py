@@ -488,10 +488,20 @@ class Links(Sockets):
         self.assertEqual((nowhere.loop.due, nowhere.is_connecting(), nowhere.is_awaited()), ({}, False, False))
 
     def test_ended_at_once(self):
-        """A socket that ends each connection at once, such as a relay's to a host that is gone, is tried ever more rarely."""
+        """A socket that ends each connection at once, such as a relay's to a host that is gone, is tried ever more rarely.
+
+        In the first seconds it is tried at short pauses, and texts are taken: the relay may reach the host soon.
+        """
         folder = self.made_folder()
         listener = self.listening(folder / "host")
         one, waits = self.link(folder=folder), []
+        for _ in range(4):
+            self.taken(listener).close()
+            one.loop.turn()
+            self.assertEqual((one.peer, one.takes_texts(), one.loop.due["follow host"][0]), (None, True, self.now + PAUSES[0]))
+            self.now += PAUSES[0]
+            one.loop.turn()
+        self.now += LAUNCHES
         for _ in range(8):
             self.taken(listener).close()
             one.loop.turn()

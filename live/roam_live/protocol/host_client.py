@@ -143,8 +143,8 @@ class HostClient:
         self.link.tell_colour(text)
 
     def takes_texts(self) -> bool:
-        """Return True if a host accepts texts, as far as is known: one was there, or is connected and may report soon."""
-        return self.is_known or self.peer is not None and self.is_awaited()
+        """Return True if a host accepts texts, as far as is known: one was there, or is connected or expected and may report soon."""
+        return self.is_known or (self.peer is not None or self.link.is_expected) and self.is_awaited()
 
     def has_room(self, length: int) -> bool:
         """Return True if a text of so many bytes may wait here."""

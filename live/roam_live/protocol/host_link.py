@@ -63,6 +63,8 @@ class HostLink(Subscription):
         self.is_known = False
         self.host_name = ""
         self.is_there = False
+        # True after a connection that ended in the first seconds before any report: a relay may reach the host soon.
+        self.is_expected = False
         self.reader = AnswerReader()
         # Texts by name that the host has not stored yet; stored ones whose insertion is unconfirmed; and the owner of each. A number is
         # that of one of the host's buffers.
@@ -135,9 +137,11 @@ class HostLink(Subscription):
 
     def lost(self, why: str) -> None:
         """Drop a connection, or continue without one, and retry it later."""
+        is_early = not self.is_known and self.loop.clock() < self.begun + LAUNCHES
+        self.is_expected = is_early and (self.is_expected or self.peer is not None)
         super().lost(why)
-        if not self.is_known and self.loop.clock() < self.begun + LAUNCHES:
-            self.faults = 0
+        if is_early:
+            self.faults = self.soon.faults = 0
 
     def hear(self) -> None:
         """Read the lines that arrived. An invalid answer ends the connection."""
@@ -181,11 +185,11 @@ class HostLink(Subscription):
         return True
 
     def forget(self) -> None:
-        """Forget the other terminals. If no host was known before, none accepts texts."""
+        """Forget the other terminals. If no host was known before and none is expected, none accepts texts."""
         self.is_there = False
         for client in list(self.clients.values()):
             client.forget()
-        if not self.is_known:
+        if not self.is_known and not self.is_expected:
             self.lose(NO_HOST)
         if self.windows:
             self.windows[2]()
