@@ -327,7 +327,8 @@ class Loop(Fronts):
 
     def test_not_taken(self):
         """A terminal that can't be taken is unchanged."""
-        with mock.patch.object(tty, "make_raw", return_value=None), self.assertRaisesRegex(Fault, "^cannot switch the terminal to raw mode$"):
+        why = "^cannot switch the terminal to raw mode$"
+        with mock.patch.object(tty, "make_raw", return_value=None), self.assertRaisesRegex(Fault, why):
             self.front.first.begin()
         self.assertEqual((termios.tcgetattr(self.slave), self.shown()), (self.before, b""))
 
@@ -975,7 +976,8 @@ class Wishes(Case):
         """Each message has its own duration: longer for new information than for known facts."""
         one = Places({1: Rect(1, 1, 23, 80)}, 1)
         for places, text, told, seconds in (
-                (PANES, b"\x02Z", "C-b Z is not bound; C-b ? lists the keys", 1.0), (PANES, b"\x02;", "no other pane was active before", 1.0),
+                (PANES, b"\x02Z", "C-b Z is not bound; C-b ? lists the keys", 1.0),
+                (PANES, b"\x02;", "no other pane was active before", 1.0),
                 (PANES, b"\x02m", "roam has the mouse: click, wheel, drag; C-b m gives it back", 3.0),
                 (PANES, b"\x02m\x02m", "the mouse selects text, except in programs that use it", 3.0),
                 (PANES, b"\x02q", f"{PANES.labels()}: press a pane's number", 3.0),

@@ -549,8 +549,8 @@ class Words(Mux):
             plain = mux.plain_words(word, rest)
             parsed = vars(mux.parser_of(word).parse_args(rest))
             self.assertEqual(vars(plain), parsed, (word, rest))
-        for word, rest in (("attach", ["-x"]), ("attach", ["a", "b"]), ("watch", []), ("send", ["-l", "a", "b"]), ("send", []), ("ssh", ["a"]),
-                           ("kill", ["-f", "x"])):
+        for word, rest in (("attach", ["-x"]), ("attach", ["a", "b"]), ("watch", []), ("send", ["-l", "a", "b"]), ("send", []),
+                           ("ssh", ["a"]), ("kill", ["-f", "x"])):
             self.assertIsNone(mux.plain_words(word, rest), (word, rest))
 
     def test_refused(self):

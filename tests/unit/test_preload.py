@@ -21,8 +21,8 @@ LIVE = pathlib.Path(late_modules.__file__).resolve().parents[2]
 MOST = {"roam_live.cli.attaching": 45, "roam_live.frontend.follow": 65, "roam_live.frontend.app": 105}
 
 # Modules that no tool loads while a user waits.
-SLOW = {"argparse", "base64", "collections", "contextlib", "dataclasses", "enum", "functools", "json", "pathlib", "re", "shlex", "signal", "socket",
-        "subprocess", "tempfile", "threading", "traceback", "typing", "urllib"}
+SLOW = {"argparse", "base64", "collections", "contextlib", "dataclasses", "enum", "functools", "json", "pathlib", "re", "shlex", "signal",
+        "socket", "subprocess", "tempfile", "threading", "traceback", "typing", "urllib"}
 
 
 def at_once(path):

@@ -25,7 +25,8 @@ def install(prefix, commit=""):
 
 def run(prefix, *words):
     """Return the status, standard output and errors of the installed `roam mux`."""
-    ran = subprocess.run([str(prefix / "bin/roam"), "mux", *words], stdin=subprocess.DEVNULL, stdout=subprocess.PIPE, stderr=subprocess.PIPE,
+    program = str(prefix / "bin/roam")
+    ran = subprocess.run([program, "mux", *words], stdin=subprocess.DEVNULL, stdout=subprocess.PIPE, stderr=subprocess.PIPE,
                          check=False)
     return ran.returncode, ran.stdout.decode(), ran.stderr.decode()
 
@@ -85,7 +86,8 @@ def installed(folder):
 def first_start(folder):
     """An attach warns of a wrong locale, or of a surrounding multiplexer, and refuses an unusable terminal."""
     said("new", "-d", SESSION)
-    for known, line in (({"LC_ALL": "C"}, "locale C has no UTF-8"), ({"TMUX": "/tmp/tmux-0/default,1,0"}, "inside tmux: C-b C-b reaches this one")):
+    inside = {"TMUX": "/tmp/tmux-0/default,1,0"}
+    for known, line in (({"LC_ALL": "C"}, "locale C has no UTF-8"), (inside, "inside tmux: C-b C-b reaches this one")):
         outer = Outer(tool("mux", SESSION), environment=known)
         check(f"{known} is said", outer.was_told(line), outer.rows)
         outer.type(b"\x02d")
@@ -97,7 +99,8 @@ def first_start(folder):
     outer.type(b"\x02\x02d")
     check("and C-b C-b d leaves the inner one", outer.shows("[detached]"), outer.rows)
     dumb = Outer(tool("mux", SESSION), environment={"TERM": "dumb"})
-    check("a terminal that cannot place its cursor is refused", dumb.ends() and dumb.shows("TERM is dumb: this terminal cannot place its cursor"), dumb.rows)
+    is_refused = dumb.ends() and dumb.shows("TERM is dumb: this terminal cannot place its cursor")
+    check("a terminal that cannot place its cursor is refused", is_refused, dumb.rows)
     small = Outer(tool("mux", SESSION), (2, 30))
     check("one that is too small is told what it needs", small.shows("too small: 3 by 4 is needed"), small.rows)
     small.type(b"\x02d")

@@ -89,7 +89,8 @@ def switched(folder, words, count):
     for window, path in paths.items():
         wanted = person.typed[window]
         is_typed = comes(lambda: typed_in(path) == wanted, LONGEST)
-        check(f"window {window} has all that was typed there, in order, and nothing else", is_typed, lambda: differs(typed_in(path), wanted))
+        check(f"window {window} has all that was typed there, in order, and nothing else", is_typed,
+              lambda: differs(typed_in(path), wanted))
     check("the last row has the windows", outer.status("[1] 1:"), outer.rows)
     return outer
 
