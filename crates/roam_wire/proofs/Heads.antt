@@ -206,13 +206,15 @@ found bytes v kind long fits e =
 abbrev pub a_datagram : DatagramValue → Result DatagramValue Reason
 a_datagram d = Ok d
 
--- this text is read
-pub again : (d : DatagramValue) → IsDatagram d → datagram_at (datagram_text d) ≡ a_datagram d
-again d is =
-    let h = header_of d in
+at_most : (v : Version) → most_fragments v ≤ 4096
+at_most One = omega arith
+at_most Two = omega arith
+
+-- the numbers of a datagram's text are those of its header
+pub header_there : (d : DatagramValue) → IsDatagram d → header_at (datagram_text d) ≡ header_of d
+header_there d is =
     let most = at_most d.version in
-    let bytes = datagram_text d in
-    let fits : FitsHeader h = record {
+    header_again (header_of d) d.payload (record {
       magic = lit< tt;
       session = is.session;
       client = is.client;
@@ -221,8 +223,14 @@ again d is =
       index = omega (arith, is.index, is.count.1, most);
       count = omega (arith, is.count.1, most);
       len = omega (arith, is.len.1);
-    } in
-    let there : header_at bytes ≡ h = header_again h d.payload fits in
+    })
+
+-- this text is read
+pub again : (d : DatagramValue) → IsDatagram d → datagram_at (datagram_text d) ≡ a_datagram d
+again d is =
+    let h = header_of d in
+    let bytes = datagram_text d in
+    let there : header_at bytes ≡ h = header_there d is in
     let p : Passes h (length d.payload) d.version d.kind = record {
       magic = refl;
       version = refl;
@@ -240,10 +248,6 @@ again d is =
     ap (λ (x : Header). checked_header x (length d.payload)) there ∙ pass_again h (length d.payload) d.version d.kind p in
     let whole : ltb (length bytes) 42 ≡ false = le-ltb _ _ (omega (arith, length-append (header_text h) d.payload)) in
     rw whole (ap (datagram_if (header_at bytes) d.payload) clean ∙ ap (λ (x : Header). a_datagram (datagram_with x d.payload d.version d.kind)) there)
-  where
-    at_most : (v : Version) → most_fragments v ≤ 4096
-    at_most One = omega arith
-    at_most Two = omega arith
 
 -- two datagrams with one text are one
 pub one_datagram : (d e : DatagramValue) → IsDatagram d → IsDatagram e → datagram_text d ≡ datagram_text e → d ≡ e

@@ -54,17 +54,19 @@ one_up u v p q e =
     let acts = one_list u.acts v.acts (recursion_from_All IsAct u.acts p.acts) (recursion_from_All IsAct v.acts q.acts) texts in
     λ i. record { acked = acked i; first = first i; acts = acts i }
 
+-- the first number of its text
+pub old_there : (u : DownValue) → IsDown u → big_number 8 (down_text u) ≡ u.old
+old_there u is = big_number-reads_back 8 u.old (drop 8 (down_text u)) (omega (arith, is.old, is.new))
+
+-- the second number of its text
+pub new_there : (u : DownValue) → IsDown u → big_number 8 (drop 8 (down_text u)) ≡ u.new
+new_there u is = big_number-reads_back 8 u.new (drop 16 (down_text u)) (omega (arith, is.new))
+
 -- two instructions to a client with one text are one
 pub one_down : (d e : DownValue) → IsDown d → IsDown e → down_text d ≡ down_text e → d ≡ e
 one_down d e p q t =
-    let old : d.old ≡ e.old =
-    sym (big_number-reads_back 8 d.old (drop 8 (down_text d)) (omega (arith, p.old, p.new)))
-    ∙ ap (big_number 8) t
-    ∙ big_number-reads_back 8 e.old (drop 8 (down_text e)) (omega (arith, q.old, q.new)) in
-    let new : d.new ≡ e.new =
-    sym (big_number-reads_back 8 d.new (drop 16 (down_text d)) (omega (arith, p.new)))
-    ∙ ap (λ (x : List ℕ). big_number 8 (drop 8 x)) t
-    ∙ big_number-reads_back 8 e.new (drop 16 (down_text e)) (omega (arith, q.new)) in
+    let old : d.old ≡ e.old = sym (old_there d p) ∙ ap (big_number 8) t ∙ old_there e q in
+    let new : d.new ≡ e.new = sym (new_there d p) ∙ ap (λ (x : List ℕ). big_number 8 (drop 8 x)) t ∙ new_there e q in
     let floor : d.floor ≡ e.floor =
     sym (big_number-reads_back 8 d.floor (drop 24 (down_text d)) (omega (arith, p.floor, p.old, p.new)))
     ∙ ap (λ (x : List ℕ). big_number 8 (drop 16 x)) t

@@ -1,5 +1,5 @@
 -- The contents of bytes as a datagram, or their first fault (this project's profile).
-use Rattle.std.specs.Prelude.{ℕ, ◌+◌, ◌^◌, Bool, not, ◌||◌, ◌&&◌, List, length, drop, slice_index, Option, Some, None, Result, Ok, Err, IsOk, nat_lt, nat_le, ◌==◌, if◌then◌else◌, ◌≡◌}
+use Rattle.std.specs.Prelude.{ℕ, ◌+◌, Bool, not, ◌||◌, ◌&&◌, List, length, drop, slice_index, Option, Some, None, Result, Ok, Err, IsOk, nat_lt, nat_le, ◌==◌, if◌then◌else◌, ◌≡◌}
 use Rattle.byteorder.specs.Endian.{big_number}
 use Rattle.roam_acts.specs.Limits.{number_limit}
 use Rattle.roam_cells.specs.declared.faults.Fault.{Fault}

@@ -1,5 +1,5 @@
 -- Instructions: the one text of each (this project's profile). Numbers are big-endian.
-use Rattle.std.specs.Prelude.{◌≡◌, ℕ, ◌^◌, ◌<◌, ◌≤◌, Bool, true, false, List, [], ◌++◌, length, drop, nat_lt, if◌then◌else◌}
+use Rattle.std.specs.Prelude.{◌≡◌, ℕ, ◌<◌, ◌≤◌, Bool, true, false, List, [], ◌++◌, length, drop, nat_lt, if◌then◌else◌}
 use Rattle.std.specs.List.{All}
 use Rattle.byteorder.specs.Endian.{big_bytes, big_number}
 use Rattle.roam_acts.specs.Limits.{number_limit, most_acts}

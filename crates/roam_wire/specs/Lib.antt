@@ -6,3 +6,4 @@ pub mod Cutting
 pub mod Fragments
 pub mod Gatherers
 pub mod AnyOrder
+pub mod Unchanging

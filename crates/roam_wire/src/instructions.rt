@@ -11,7 +11,7 @@ use roam_cells::{Fault, Reason};
 use std::alloc::Global;
 
 // The number of bytes before a diff.
-const DOWN: usize = 32;
+pub(crate) const DOWN: usize = 32;
 
 // The number of bytes before the acts.
 const UP: usize = 18;
