@@ -53,6 +53,7 @@ fn index_of(datagram: &[u8]) -> u16
 // Returns true if a datagram has a possible length.
 fn is_carried(datagram: &[u8]) -> bool
     ensures carried { result ≡ true → IsCarried datagram.now }
+    ensures refused { result ≡ false → IsCarried datagram.now → ⊥ }
 {
     !datagram.is_empty() && datagram.len() <= LONGEST_DATAGRAM
 }
