@@ -1,9 +1,9 @@
 -- The first sequence stays the same if more bytes follow, and is part of the bytes.
-use Rattle.std.proofs.Common.{◌≡◌, ◌≤◌, ◌<◌, ℕ, zero, suc, Bool, true, false, cond, List, [], ◌∷◌, ◌++◌, length, drop, refl, sym, ap, ◌∙◌, arith, append_assoc, length-drop}
+use Rattle.std.proofs.Common.{◌≡◌, ◌≤◌, ◌<◌, ◌+◌, ℕ, zero, suc, Bool, true, false, cond, List, [], ◌∷◌, ◌++◌, length, drop, refl, sym, ap, ◌∙◌, arith, append_assoc, length-drop}
 use Rattle.std.specs.Prelude.{⊤, ◌==◌}
 use Rattle.std.proofs.lemmas.List.{drop-append-le}
 use Rattle.roam_normalize.specs.Meanings.{hyphen}
-use Rattle.roam_normalize.specs.Normalized.{Scan, Unfinished, Neither, Sequence, Front, Held, Taken, Normalized, behind, escape_front, front, is_body, is_final, lead_front, normalized, normalized_from, most_body, most_held, one, onward, scan, sequence_front, with_byte}
+use Rattle.roam_normalize.specs.Normalized.{Scan, Unfinished, Neither, Sequence, Front, Held, Taken, Normalized, behind, escape_front, front, is_body, is_final, lead_front, normalized, normalized_from, most_body, most_held, most_title, one, onward, scan, sequence_front, title_front, title_scan, TitleScan, OpenTitle, Titled, is_title, terminator, with_byte, with_letter}
 
 -- the scan of some bytes is the scan of more
 abbrev SameScan : Scan → Scan → Type 0
@@ -30,7 +30,32 @@ scan-same zero (b ∷ rest) more = end-same (is_final b) b
 scan-same (suc room) (b ∷ rest) more =
     cond-same (is_body b) (with_byte b (scan room rest)) (with_byte b (scan room (rest ++ more))) _ (with-same b (scan room rest) (scan room (rest ++ more)) (scan-same room rest more)) (end-same (is_final b) b)
 
-abbrev SameFront : Front → Front → Type 0
+-- the scan of a title is that of more bytes
+abbrev pub SameTitle : TitleScan → TitleScan → Type 0
+SameTitle OpenTitle t = ⊤
+SameTitle s t = t ≡ s
+
+letter-same : (b : ℕ) (s t : TitleScan) → SameTitle s t → SameTitle (with_letter b s) (with_letter b t)
+letter-same b OpenTitle t h = tt
+letter-same b (Titled title end) t h = ap (with_letter b) h
+
+title-cond : (t : Bool) (a b c d : TitleScan) → SameTitle a b → SameTitle c d → SameTitle (cond t a c) (cond t b d)
+title-cond true a b c d p q = p
+title-cond false a b c d p q = q
+
+terminator-same : (bytes more : List ℕ) → SameTitle (terminator bytes) (terminator (bytes ++ more))
+terminator-same [] more = tt
+terminator-same (c ∷ rest) more = refl
+
+pub title-same : (room : ℕ) (bytes more : List ℕ) → SameTitle (title_scan room bytes) (title_scan room (bytes ++ more))
+title-same zero [] more = tt
+title-same zero (b ∷ rest) more = refl
+title-same (suc room) [] more = tt
+title-same (suc room) (b ∷ rest) more =
+    title-cond (is_title b) _ _ _ _ (letter-same b (title_scan room rest) (title_scan room (rest ++ more)) (title-same room rest more))
+    (title-cond (b == 0x1B) _ _ (Titled [] 1) (Titled [] 1) (terminator-same rest more) refl)
+
+abbrev pub SameFront : Front → Front → Type 0
 SameFront Held g = ⊤
 SameFront f g = g ≡ f
 
@@ -39,17 +64,24 @@ sequence-same Unfinished t h = tt
 sequence-same Neither t h = ap sequence_front h
 sequence-same (Sequence body last) t h = ap sequence_front h
 
-front-cond : (t : Bool) (a b c : Front) → SameFront a b → SameFront c c → SameFront (cond t a c) (cond t b c)
-front-cond true a b c p q = p
-front-cond false a b c p q = q
+titled-same : (s t : TitleScan) → SameTitle s t → SameFront (title_front s) (title_front t)
+titled-same OpenTitle t h = tt
+titled-same (Titled title end) t h = ap title_front h
+
+front-cond : (t : Bool) (a b c d : Front) → SameFront a b → SameFront c d → SameFront (cond t a c) (cond t b d)
+front-cond true a b c d p q = p
+front-cond false a b c d p q = q
 
 escape-same : (bytes more : List ℕ) → SameFront (escape_front bytes) (escape_front (bytes ++ more))
 escape-same [] more = tt
-escape-same (c ∷ rest) more = front-cond (c == 0x5B) _ _ (one 0x1B) (sequence-same (scan most_body rest) (scan most_body (rest ++ more)) (scan-same most_body rest more)) refl
+escape-same (c ∷ rest) more =
+    front-cond (c == 0x5B) _ _ _ _ (sequence-same (scan most_body rest) (scan most_body (rest ++ more)) (scan-same most_body rest more))
+    (front-cond (c == 0x6B) _ _ (one 0x1B) (one 0x1B)
+    (titled-same (title_scan most_title rest) (title_scan most_title (rest ++ more)) (title-same most_title rest more)) refl)
 
 lead-same : (bytes more : List ℕ) → SameFront (lead_front bytes) (lead_front (bytes ++ more))
 lead-same [] more = tt
-lead-same (c ∷ rest) more = front-cond (c == 0xAD) _ _ (one 0xC2) refl refl
+lead-same (c ∷ rest) more = front-cond (c == 0xAD) _ _ (one 0xC2) (one 0xC2) refl refl
 
 pub front-same : (bytes more : List ℕ) → SameFront (front bytes) (front (bytes ++ more))
 front-same [] more = tt
@@ -83,7 +115,35 @@ scan-fits (suc room) (b ∷ rest) =
     scan-cond (length (b ∷ rest)) (is_body b) _ _ (with-fits (length rest) b (scan room rest) (scan-fits room rest))
     (scan-cond (length (b ∷ rest)) (is_final b) (Sequence [] b) Neither (omega arith) tt)
 
-abbrev FrontFits : ℕ → Front → Type 0
+abbrev TitleFits : ℕ → TitleScan → Type 0
+TitleFits n (Titled title end) = length title + end ≤ n
+TitleFits n OpenTitle = ⊤
+
+fits-title : (n : ℕ) (t : Bool) (a b : TitleScan) → TitleFits n a → TitleFits n b → TitleFits n (cond t a b)
+fits-title n true a b p q = p
+fits-title n false a b p q = q
+
+letter-fits : (n b : ℕ) (s : TitleScan) → TitleFits n s → TitleFits (suc n) (with_letter b s)
+letter-fits n b OpenTitle h = tt
+letter-fits n b (Titled title end) h = omega (arith, h)
+
+two-or-none : (n : ℕ) (t : Bool) → TitleFits (suc (suc n)) (Titled [] (cond t 2 0))
+two-or-none n true = omega arith
+two-or-none n false = omega arith
+
+terminator-fits : (bytes : List ℕ) → TitleFits (suc (length bytes)) (terminator bytes)
+terminator-fits [] = tt
+terminator-fits (c ∷ rest) = two-or-none (length rest) (c == 0x5C)
+
+title-fits : (room : ℕ) (bytes : List ℕ) → TitleFits (length bytes) (title_scan room bytes)
+title-fits zero [] = tt
+title-fits zero (b ∷ rest) = omega arith
+title-fits (suc room) [] = tt
+title-fits (suc room) (b ∷ rest) =
+    fits-title (length (b ∷ rest)) (is_title b) _ _ (letter-fits (length rest) b (title_scan room rest) (title-fits room rest))
+    (fits-title (length (b ∷ rest)) (b == 0x1B) _ (Titled [] 1) (terminator-fits rest) (omega arith))
+
+abbrev pub FrontFits : ℕ → Front → Type 0
 FrontFits n Held = ⊤
 FrontFits n (Taken count out) = (0 < count) × (count ≤ n)
 
@@ -96,9 +156,16 @@ sequence-fits n Unfinished h = tt
 sequence-fits n Neither h = (omega arith, omega arith)
 sequence-fits n (Sequence body last) h = (omega arith, omega (arith, h))
 
+titled-fits : (n : ℕ) (s : TitleScan) → TitleFits n s → FrontFits (suc (suc n)) (title_front s)
+titled-fits n OpenTitle h = tt
+titled-fits n (Titled title end) h = (omega arith, omega (arith, h))
+
 escape-fits : (bytes : List ℕ) → FrontFits (suc (length bytes)) (escape_front bytes)
 escape-fits [] = tt
-escape-fits (c ∷ rest) = fits-cond (suc (suc (length rest))) (c == 0x5B) _ (one 0x1B) (sequence-fits (length rest) (scan most_body rest) (scan-fits most_body rest)) (omega arith, omega arith)
+escape-fits (c ∷ rest) =
+    fits-cond (suc (suc (length rest))) (c == 0x5B) _ _ (sequence-fits (length rest) (scan most_body rest) (scan-fits most_body rest))
+    (fits-cond (suc (suc (length rest))) (c == 0x6B) _ (one 0x1B)
+    (titled-fits (length rest) (title_scan most_title rest) (title-fits most_title rest)) (omega arith, omega arith))
 
 lead-fits : (bytes : List ℕ) → FrontFits (suc (length bytes)) (lead_front bytes)
 lead-fits [] = tt
@@ -133,6 +200,30 @@ scan-short (suc room) (b ∷ rest) =
     short-cond (suc (length rest)) (suc room) (is_body b) _ _ (with-short (length rest) room b (scan room rest) (scan-short room rest))
     (short-cond (suc (length rest)) (suc room) (is_final b) (Sequence [] b) Neither tt tt)
 
+abbrev TitleShort : ℕ → ℕ → TitleScan → Type 0
+TitleShort n room OpenTitle = n ≤ room
+TitleShort n room (Titled title end) = ⊤
+
+short-title : (n room : ℕ) (t : Bool) (a b : TitleScan) → TitleShort n room a → TitleShort n room b → TitleShort n room (cond t a b)
+short-title n room true a b p q = p
+short-title n room false a b p q = q
+
+letter-short : (n room b : ℕ) (s : TitleScan) → TitleShort n room s → TitleShort (suc n) (suc room) (with_letter b s)
+letter-short n room b OpenTitle h = omega (arith, h)
+letter-short n room b (Titled title end) h = tt
+
+terminator-short : (room : ℕ) (bytes : List ℕ) → TitleShort (suc (length bytes)) (suc room) (terminator bytes)
+terminator-short room [] = omega arith
+terminator-short room (c ∷ rest) = tt
+
+title-short : (room : ℕ) (bytes : List ℕ) → TitleShort (length bytes) room (title_scan room bytes)
+title-short zero [] = omega arith
+title-short zero (b ∷ rest) = tt
+title-short (suc room) [] = omega arith
+title-short (suc room) (b ∷ rest) =
+    short-title (suc (length rest)) (suc room) (is_title b) _ _ (letter-short (length rest) room b (title_scan room rest) (title-short room rest))
+    (short-title (suc (length rest)) (suc room) (b == 0x1B) _ (Titled [] 1) (terminator-short room rest) tt)
+
 abbrev FrontShort : ℕ → Front → Type 0
 FrontShort n Held = n ≤ most_held
 FrontShort n (Taken count out) = ⊤
@@ -146,9 +237,16 @@ sequence-short n Unfinished h = omega (arith, h)
 sequence-short n Neither h = tt
 sequence-short n (Sequence body last) h = tt
 
+titled-short : (n : ℕ) (s : TitleScan) → TitleShort n most_title s → FrontShort (suc (suc n)) (title_front s)
+titled-short n OpenTitle h = omega (arith, h)
+titled-short n (Titled title end) h = tt
+
 escape-short : (bytes : List ℕ) → FrontShort (suc (length bytes)) (escape_front bytes)
 escape-short [] = omega arith
-escape-short (c ∷ rest) = front-short-cond (suc (suc (length rest))) (c == 0x5B) _ (one 0x1B) (sequence-short (length rest) (scan most_body rest) (scan-short most_body rest)) tt
+escape-short (c ∷ rest) =
+    front-short-cond (suc (suc (length rest))) (c == 0x5B) _ _ (sequence-short (length rest) (scan most_body rest) (scan-short most_body rest))
+    (front-short-cond (suc (suc (length rest))) (c == 0x6B) _ (one 0x1B)
+    (titled-short (length rest) (title_scan most_title rest) (title-short most_title rest)) tt)
 
 lead-short : (bytes : List ℕ) → FrontShort (suc (length bytes)) (lead_front bytes)
 lead-short [] = omega arith

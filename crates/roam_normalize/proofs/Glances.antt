@@ -9,7 +9,7 @@ use Rattle.roam_normalize.specs.Found.{is_plain}
 use Rattle.std.proofs.lemmas.Bool.Decides.{nat_tests}
 use Rattle.roam_normalize.specs.declared.renditions.Field.{Field}
 use Rattle.roam_normalize.specs.declared.renditions.Field.TheVariants.{Plain, Colour, LineColour, NoLineColour, Parted}
-use Rattle.roam_normalize.specs.Renditions.{count_of, field_kind, fields_length, first_field, first_kind, group_length, has_lines, has_lines_from, is_changed, is_of_lines, is_pair, may_change, most_semicolons, number_kind, two_kind, whole_kind, without_zeros}
+use Rattle.roam_normalize.specs.Renditions.{count_of, fields_length, first_field, first_kind, group_length, has_lines, has_lines_from, is_changed, is_of_lines, is_pair, may_change, most_semicolons, number_kind, two_kind, whole_kind, without_zeros}
 
 -- neither 58 nor 59 in any number
 abbrev NoPair : List ℕ → Type 0

@@ -14,12 +14,12 @@ use Rattle.roam_normalize.proofs.Spelling.{rest-lent}
 
 -- ---- still bytes
 
-parts : (x y : Bool) → not (x || y) ≡ true → (x ≡ false) × (y ≡ false)
+pub parts : (x y : Bool) → not (x || y) ≡ true → (x ≡ false) × (y ≡ false)
 parts true y h = cc
 parts false true h = cc
 parts false false h = (refl, refl)
 
-still-front : (b : ℕ) (rest : List ℕ) → is_still b ≡ true → front (b ∷ rest) ≡ one b
+pub still-front : (b : ℕ) (rest : List ℕ) → is_still b ≡ true → front (b ∷ rest) ≡ one b
 still-front b rest still =
     let p = parts (b == 0x1B) (b == 0xC2) still in
     ap (λ t. cond t (escape_front rest) (cond (b == 0xC2) (lead_front rest) (one b))) p.0

@@ -5,3 +5,5 @@ mod Scanning
 mod Going
 mod Translating
 mod Glances
+mod TitleScans
+mod Naming

@@ -4,7 +4,7 @@ use Rattle.memchr.specs.Find.{is_byte2}
 use Rattle.roam_normalize.specs.declared.fronts.Scanned.{Scanned}
 use Rattle.roam_normalize.specs.declared.fronts.Scanned.TheVariants.{Unfinished, Neither, Sequence}
 use Rattle.roam_normalize.specs.declared.fronts.Found.{Found}
-use Rattle.roam_normalize.specs.declared.fronts.Found.TheVariants.{Held, Same, Hyphen, Changed}
+use Rattle.roam_normalize.specs.declared.fronts.Found.TheVariants.{Held, Same, Hyphen, Titled, Changed}
 use Rattle.roam_normalize.specs.Meanings.{hyphen, text_of}
 use Rattle.roam_normalize.specs.Normalized.{Scan, Unfinished as UnfinishedScan, Neither as NeitherScan, Sequence as SequenceScan, Held as HeldFront, Taken, front, most_body, scan, with_byte}
 
@@ -19,6 +19,7 @@ abbrev pub IsFound : Found → List ℕ → Type 0
 IsFound Held bytes = front bytes ≡ HeldFront
 IsFound (Same count) bytes = (front bytes ≡ Taken count (take count bytes)) × (0 < count) × (count ≤ length bytes)
 IsFound Hyphen bytes = (front bytes ≡ Taken 2 hyphen) × (2 ≤ length bytes)
+IsFound (Titled count) bytes = (front bytes ≡ Taken count []) × (0 < count) × (count ≤ length bytes)
 IsFound (Changed kind count) bytes =
     (front bytes ≡ Taken (count + 3) (text_of kind (take count (drop 2 bytes)) (slice_index bytes (count + 2))))
     × (count + 3 ≤ length bytes)

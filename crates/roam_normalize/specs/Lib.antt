@@ -2,3 +2,4 @@ pub mod Renditions
 pub mod Meanings
 pub mod Normalized
 pub mod Found
+pub mod Titles

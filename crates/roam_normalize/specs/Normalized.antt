@@ -1,5 +1,5 @@
 -- The meaning of bytes, in bytes that this project's profile reads so.
-use Rattle.std.specs.Prelude.{ℕ, zero, suc, ◌≡◌, ◌+◌, ◌==◌, ◌&&◌, Bool, cond, nat_lt, nat_le, if◌then◌else◌, List, [], ◌∷◌, ◌++◌, length, drop}
+use Rattle.std.specs.Prelude.{ℕ, zero, suc, ◌≡◌, ◌+◌, ◌==◌, ◌&&◌, ◌||◌, not, Bool, true, false, cond, nat_lt, nat_le, if◌then◌else◌, List, [], ◌∷◌, ◌++◌, length, drop}
 use Rattle.roam_normalize.specs.Meanings.{hyphen, meaning}
 
 -- the most bytes of a control sequence between CSI and its final byte that are looked at; a longer one goes through as it is
@@ -36,6 +36,41 @@ scan room [] = Unfinished
 scan zero (b ∷ rest) = cond (is_final b) (Sequence [] b) Neither
 scan (suc room) (b ∷ rest) = if is_body b then with_byte b (scan room rest) else cond (is_final b) (Sequence [] b) Neither
 
+-- the most bytes of a title between ESC k and its end
+abbrev pub most_title : ℕ
+most_title = 255
+
+-- a byte of a title: neither CAN, SUB nor ESC, which end it (ECMA-48 8.3.6, 8.3.148, 5.3)
+abbrev pub is_title : ℕ → Bool
+is_title b = not (b == 0x18 || (b == 0x1A || b == 0x1B))
+
+-- the scan behind ESC k, with which screen and tmux set a title: the beginning of a title, or a whole one and how many bytes of its end
+-- belong to it
+pub data TitleScan : Type 0 where
+  OpenTitle : TitleScan
+  Titled : List ℕ → ℕ → TitleScan
+
+-- with a byte of the title in front
+abbrev pub with_letter : ℕ → TitleScan → TitleScan
+with_letter b OpenTitle = OpenTitle
+with_letter b (Titled title end) = Titled (b ∷ title) end
+
+-- behind the ESC that ends a title: `ESC \` belongs to the title, any other sequence begins anew
+abbrev pub terminator : List ℕ → TitleScan
+terminator [] = OpenTitle
+terminator (c ∷ rest) = Titled [] (cond (c == 0x5C) 2 0)
+
+-- The end of a title, which is full or not. One byte more than the longest title has ends it, and prints. CAN and SUB belong to the title.
+abbrev pub title_end : Bool → List ℕ → TitleScan
+title_end full [] = OpenTitle
+title_end full (b ∷ rest) = if full then Titled [] 0 else if b == 0x1B then terminator rest else Titled [] 1
+
+-- the scan of bytes behind ESC k, with so much room for the title
+abbrev pub title_scan : ℕ → List ℕ → TitleScan
+title_scan zero bytes = title_end true bytes
+title_scan (suc room) [] = OpenTitle
+title_scan (suc room) (b ∷ rest) = if is_title b then with_letter b (title_scan room rest) else title_end false (b ∷ rest)
+
 -- the front of some bytes: kept back, as its meaning may still change, or so many bytes with their output
 pub data Front : Type 0 where
   Held : Front
@@ -51,10 +86,16 @@ sequence_front Unfinished = Held
 sequence_front Neither = one 0x1B
 sequence_front (Sequence body last) = Taken (length body + 3) (meaning body last)
 
+-- behind ESC k: a title goes out as nothing
+abbrev pub title_front : TitleScan → Front
+title_front OpenTitle = Held
+title_front (Titled title end) = Taken (length title + end + 2) []
+
 -- behind ESC; whatever comes before it, ESC begins anew
 abbrev pub escape_front : List ℕ → Front
 escape_front [] = Held
-escape_front (c ∷ rest) = cond (c == 0x5B) (sequence_front (scan most_body rest)) (one 0x1B)
+escape_front (c ∷ rest) =
+    if c == 0x5B then sequence_front (scan most_body rest) else if c == 0x6B then title_front (title_scan most_title rest) else one 0x1B
 
 -- behind C2, with which the soft hyphen U+00AD begins, C2 AD; whatever comes before it, C2 begins a character (Unicode Table 3-7)
 abbrev pub lead_front : List ℕ → Front

@@ -1,9 +1,12 @@
 //! The filter, over pieces.
-ghost use Rattle.std.specs.Prelude.{◌≡◌, ◌≤◌, ◌↔◌, ◌++◌, [], length, IfOk, IsTrue, OnOk, OnErr};
+ghost use Rattle.std.specs.Prelude.{◌≡◌, ◌≤◌, ◌↔◌, ◌++◌, [], length, IfOk, IsTrue, OnOk, OnErr, None};
+ghost use Rattle.std.specs.Option.{option_map};
 ghost use Rattle.roam_normalize.specs.Normalized.{Goes, held_part, normalized_part};
+ghost use Rattle.roam_normalize.specs.Titles.{newest, titles_part};
 
 use crate::fronts::{Found, find, same_run};
 use crate::meanings::push_text;
+use crate::titles::newest_title;
 use std::alloc::{AllocError, Global};
 use std::marker::Model;
 
@@ -25,6 +28,7 @@ fn push_front(alloc: Global, out: &mut Vec<u8>, bytes: &[u8]) -> Result<usize, A
             out.extend_from_slice(&HYPHEN)?;
             Ok(2)
         }
+        Found::Titled(count) => Ok(count),
         Found::Changed(kind, count) => {
             push_text(alloc, out, kind, &bytes[2..count + 2], bytes[count + 2])?;
             Ok(count + 3)
@@ -115,6 +119,19 @@ impl Filter {
         let mut bytes = copy_of(self.alloc, &self.held)?;
         bytes.extend_from_slice(piece)?;
         translate(self.alloc, &bytes)
+    }
+
+    /// Returns the last title that a piece completes, after the pieces before it; `None` if it completes none. The piece isn't read by this.
+    /// `AllocError`.
+    pub fn title(&self, piece: &[u8]) -> Result<Option<Vec<u8>>, AllocError>
+        ensures title { IfOk result (λ title. option_map (λ t. t.items) title ≡ newest (titles_part (self.now ++ piece.now)) None) }
+    {
+        let mut bytes = copy_of(self.alloc, &self.held)?;
+        bytes.extend_from_slice(piece)?;
+        match newest_title(&bytes) {
+            None => Ok(None),
+            Some(title) => Ok(Some(copy_of(self.alloc, title)?)),
+        }
     }
 
     /// Returns true if no bytes are kept back.

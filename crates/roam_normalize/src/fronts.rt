@@ -3,9 +3,11 @@ ghost use Rattle.std.specs.Prelude.{◌≡◌, ◌≤◌, ◌<◌, ◌+◌, ◌-
 ghost use Rattle.roam_normalize.specs.Found.{AreStill, IsFound, IsScan, is_plain, is_still, with_bytes};
 ghost use Rattle.roam_normalize.specs.Renditions.{may_change};
 ghost use Rattle.roam_normalize.specs.Normalized.{GoesThrough, is_body, is_final, most_body, scan};
+ghost use Rattle.roam_normalize.specs.Titles.{IsLength};
 
 use crate::meanings::{Kind, kind_of};
 use crate::renditions::{MOST_SEMICOLONS, is_pair};
+use crate::titles::title_at;
 use memchr::memchr2;
 
 /// The most bytes of a control sequence between CSI and its final byte that are looked at.
@@ -15,7 +17,7 @@ pub const MOST_BODY: usize = 255;
 pub const MOST_HELD: usize = 257;
 
 /// ESC (ECMA-48, 5.3).
-const ESCAPE: u8 = 0x1B;
+pub(crate) const ESCAPE: u8 = 0x1B;
 
 /// The first byte of the characters U+0080 to U+00BF, the soft hyphen among them (The Unicode Standard, Table 3-6).
 const LEAD: u8 = 0xC2;
@@ -45,6 +47,8 @@ pub enum Found {
     Same(usize),
     /// The soft hyphen.
     Hyphen,
+    /// A title, which goes out as nothing, with so many bytes.
+    Titled(usize),
     /// A control sequence of this kind, with so many bytes between CSI and its final byte.
     Changed(Kind, usize),
 }
@@ -155,6 +159,19 @@ fn sequence_found(bytes: &[u8]) -> Found
     }
 }
 
+// Returns the front of bytes that begin with ESC and 6B.
+fn title_found(bytes: &[u8]) -> Found
+    requires some { 2 ≤ length bytes.now }
+    requires escape { slice_index bytes.now 0 ≡ 0x1B }
+    requires letter { slice_index bytes.now 1 ≡ 0x6B }
+    ensures found { IsFound result bytes.now }
+{
+    match title_at(&bytes[2..]) {
+        None => Found::Held,
+        Some(title) => Found::Titled(title.letters + title.end + 2),
+    }
+}
+
 /// Returns the front of some bytes.
 pub fn find(bytes: &[u8]) -> Found
     ensures found { IsFound result bytes.now }
@@ -162,6 +179,7 @@ pub fn find(bytes: &[u8]) -> Found
     match bytes {
         [] | [ESCAPE] | [LEAD] => Found::Held,
         [ESCAPE, b'[', ..] => sequence_found(bytes),
+        [ESCAPE, b'k', ..] => title_found(bytes),
         [LEAD, SOFT_HYPHEN, ..] => Found::Hyphen,
         _ => Found::Same(1),
     }
@@ -199,9 +217,9 @@ fn far_run(bytes: &[u8]) -> usize
     }
 }
 
-// The same, near or far.
+/// How many bytes come before the first ESC or C2.
 #[inline]
-fn still_run(bytes: &[u8]) -> usize
+pub fn still_run(bytes: &[u8]) -> usize
     ensures within { result ≤ length bytes.now }
     ensures still { AreStill (take result bytes.now) }
 {
@@ -212,6 +230,19 @@ fn still_run(bytes: &[u8]) -> usize
     near + far_run(&bytes[near..])
 }
 
+/// Returns the number of bytes that the front takes; 0 if it is kept back.
+pub fn front_length(bytes: &[u8]) -> usize
+    ensures within { result ≤ length bytes.now }
+    ensures length { IsLength result bytes.now }
+{
+    match find(bytes) {
+        Found::Held => 0,
+        Found::Same(count) | Found::Titled(count) => count,
+        Found::Hyphen => 2,
+        Found::Changed(_, count) => count + 3,
+    }
+}
+
 // Returns the number of first bytes that pass unchanged; 0 if there are none.
 fn same_front(bytes: &[u8]) -> usize
     ensures within { result ≤ length bytes.now }
@@ -219,7 +250,7 @@ fn same_front(bytes: &[u8]) -> usize
 {
     match find(bytes) {
         Found::Same(count) => count,
-        Found::Held | Found::Hyphen | Found::Changed(..) => 0,
+        Found::Held | Found::Hyphen | Found::Titled(_) | Found::Changed(..) => 0,
     }
 }
 

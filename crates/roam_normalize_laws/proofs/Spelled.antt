@@ -1,17 +1,18 @@
 -- Spelled-out renditions set, group by group, the style that all parameters set.
 use Rattle.std.proofs.Common.{◌≡◌, ◌≢◌, ◌⊎◌, ◌≤◌, ◌<◌, ◌+◌, ◌-◌, ℕ, zero, suc, Bool, true, false, cond, nat_lt, List, [], ◌∷◌, ◌++◌, length, map, take, drop, take_all, length-drop, refl, sym, ap, ◌∙◌, arith, subst, inl, inr}
 use Rattle.std.specs.Prelude.{◌==◌, ◌||◌}
+use Rattle.std.specs.List.{fold}
 use Rattle.std.proofs.lemmas.Bool.Decides.{nat_tests}
 use Rattle.roam_cells.specs.declared.styles.Style.{Style}
 use Rattle.roam_text.specs.ControlSequences.{capped_value, first_sixteen}
 use Rattle.roam_controls.specs.declared.renditions.Awaited.TheVariants.{Aspect}
-use Rattle.roam_controls.specs.Renditions.{styled_by}
+use Rattle.roam_controls.specs.Renditions.{Rendition, styled_by, with_parameter}
 use Rattle.roam_normalize.specs.declared.renditions.Field.TheVariants.{Plain, Colour, LineColour, NoLineColour, Parted}
 use Rattle.roam_normalize.specs.Renditions.{after_field, fields_length, first_field, first_kind, group_length, group_size, group_text, next_field, rendition, spelled_from, spelled_out, whole_kind}
 use Rattle.roam_normalize_laws.specs.Sense.{AreKnown, Sets, SpelledOutMeansTheSame, parameters_of, styled_so}
 use Rattle.roam_normalize_laws.proofs.Fields.{Numbers, all-fields, digits, digits-some, drop-fields, end-fields, first-digits, first-is, no-colons, numbers, numbers-left, take-fields}
 use Rattle.roam_normalize_laws.proofs.Values.{kind-is, kind_by, together-is, together_by, value}
-use Rattle.roam_normalize_laws.proofs.Styles.{after, aspect-ends, few-kept, index-group, mixture-group, other-kept, splits}
+use Rattle.roam_normalize_laws.proofs.Styles.{after, aspect-ends, few-kept, index-group, mixture-group, other-kept, splits, start}
 
 map-take : (n : ℕ) (ds : List (List ℕ)) → map capped_value (take n ds) ≡ take n (map capped_value ds)
 map-take zero ds = refl
@@ -42,10 +43,16 @@ drop-past (suc n) [] h = refl
 drop-past zero (x ∷ xs) h = absurd (omega (arith, h))
 drop-past (suc n) (x ∷ xs) h = drop-past n xs (omega (arith, h))
 
-known-left : (n : ℕ) (ps : List ℕ) → AreKnown ps → AreKnown (drop n ps)
-known-left zero ps h = h
-known-left (suc n) [] h = tt
-known-left (suc n) (p ∷ ps) h = known-left n ps h.2
+known-behind : (n : ℕ) (ps : List ℕ) (r : Rendition) → AreKnown r ps → AreKnown (fold with_parameter r (take n ps)) (drop n ps)
+known-behind zero ps r h = h
+known-behind (suc n) [] r h = tt
+known-behind (suc n) (p ∷ ps) r h = known-behind n ps (with_parameter r p) h.1
+
+-- behind parameters that end an aspect
+known-left : (n : ℕ) (ps : List ℕ) (g : Style) → AreKnown (start g) ps → (after g (take n ps)).awaited ≡ Aspect
+    → AreKnown (start (styled_by (take n ps) g)) (drop n ps)
+known-left n ps g h is =
+    subst (λ a. AreKnown (record { style = (after g (take n ps)).style; awaited = a }) (drop n ps)) is (known-behind n ps (start g) h)
 
 -- the first parameter, and those behind it
 first-parameter : (body : List ℕ) → Numbers body → parameters_of body ≡ value (first_field 0x3B body) ∷ drop 1 (parameters_of body)
@@ -88,8 +95,8 @@ second-parameter body h = record {
 
 -- ---- one group, and what follows it
 
-module _ (n : ℕ) (body : List ℕ) (g : Style) (nums : Numbers body) (known : AreKnown (parameters_of body)) (fuel : length body < suc n)
-    (again : (rest : List ℕ) (h : Style) → length rest < n → Numbers rest → length rest ≤ length body → AreKnown (parameters_of rest)
+module _ (n : ℕ) (body : List ℕ) (g : Style) (nums : Numbers body) (known : AreKnown (start g) (parameters_of body)) (fuel : length body < suc n)
+    (again : (rest : List ℕ) (h : Style) → length rest < n → Numbers rest → length rest ≤ length body → AreKnown (start h) (parameters_of rest)
     → Sets (spelled_from n rest) h (styled_by (parameters_of rest) h)) where
   abbrev ps : List ℕ
   ps = parameters_of body
@@ -121,11 +128,13 @@ module _ (n : ℕ) (body : List ℕ) (g : Style) (nums : Numbers body) (known : 
           ap (λ l. parameters_of (drop (l + 1) body)) size
           ∙ ap (map capped_value) (drop-fields k body nums inside) ∙ map-drop (suc k) (digits body) in
           let short = length-drop (group_length body + 1) body in
-          let more = again rest (styled_so g group) (omega (arith, short, under, fuel)) (numbers-left (group_length body + 1) body nums)
-          (omega (arith, short)) (subst AreKnown (sym left) (known-left (suc k) ps known)) in
           let first : styled_so g group ≡ styled_by (take (suc k) ps) g =
           ap (λ l. styled_by (first_sixteen l) g) group-parameters
           ∙ ap (λ l. styled_by l g) (few-kept (take (suc k) ps) (taken-few (suc k) ps facts.0)) in
+          let knows = subst (λ s. AreKnown (start s) (parameters_of rest)) (sym first)
+          (subst (AreKnown (start (styled_by (take (suc k) ps) g))) (sym left) (known-left (suc k) ps g known facts.1)) in
+          let more = again rest (styled_so g group) (omega (arith, short, under, fuel)) (numbers-left (group_length body + 1) body nums)
+          (omega (arith, short)) knows in
           record {
             groups = group ∷ more.groups;
             is = ap (λ l. l ++ spelled_from n rest) text ∙ ap (λ l. rendition group ++ l) more.is;
@@ -256,17 +265,20 @@ module _ (n : ℕ) (body : List ℕ) (g : Style) (nums : Numbers body) (known : 
       eq-no : (a b : ℕ) → a ≢ b → (a == b) ≡ false
       eq-no a b h = grind (arith, nat_tests)
 
-      known_first : AreKnown (p ∷ drop 1 ps)
-      known_first = subst AreKnown (first-parameter body nums) known
+      known_first : AreKnown (start g) (p ∷ drop 1 ps)
+      known_first = subst (AreKnown (start g)) (first-parameter body nums) known
+
+      selects : (p ≢ 58) × (p ≢ 59)
+      selects = known_first.0 refl
 
       by : (t : Bool) → (p == 38 || p == 48) ≡ t → Sets (spelled_from (suc n) body) g (styled_by ps g)
       by true is = colour-sets short (kind ∙ ap (λ t. cond t Colour (cond (p == 58) LineColour (cond (p == 59) NoLineColour Plain))) is) is
       by false is =
           plain-sets (kind ∙ ap (λ t. cond t Colour (cond (p == 58) LineColour (cond (p == 59) NoLineColour Plain))) is
-          ∙ ap (λ t. cond t LineColour (cond (p == 59) NoLineColour Plain)) (eq-no p 58 known_first.0)
-          ∙ ap (λ t. cond t NoLineColour Plain) (eq-no p 59 known_first.1)) is
+          ∙ ap (λ t. cond t LineColour (cond (p == 59) NoLineColour Plain)) (eq-no p 58 selects.0)
+          ∙ ap (λ t. cond t NoLineColour Plain) (eq-no p 59 selects.1)) is
 
-spelled : (n : ℕ) (body : List ℕ) (g : Style) → length body < n → Numbers body → length body ≤ 255 → AreKnown (parameters_of body)
+spelled : (n : ℕ) (body : List ℕ) (g : Style) → length body < n → Numbers body → length body ≤ 255 → AreKnown (start g) (parameters_of body)
     → Sets (spelled_from n body) g (styled_by (parameters_of body) g)
 spelled zero body g less nums short known = absurd (omega (arith, less))
 spelled (suc n) body g less nums short known =

@@ -4,7 +4,8 @@ use Rattle.std.specs.List.{flat_map, fold}
 use Rattle.roam_cells.specs.declared.styles.Style.{Style}
 use Rattle.roam_text.specs.Kinds.{kind_of}
 use Rattle.roam_text.specs.ControlSequences.{capped_value, digits_of_parameters, first_sixteen}
-use Rattle.roam_controls.specs.Renditions.{styled_by}
+use Rattle.roam_controls.specs.declared.renditions.Awaited.TheVariants.{Aspect}
+use Rattle.roam_controls.specs.Renditions.{Rendition, read_so_far, styled_by, with_parameter}
 use Rattle.roam_normalize.specs.Meanings.{are_numbers}
 use Rattle.roam_normalize.specs.Normalized.{most_body}
 use Rattle.roam_normalize.specs.Renditions.{rendition, spelled_out}
@@ -23,15 +24,15 @@ pub record Sets (text : List ℕ) (old new : Style) : Type 0 where
   pub is : text ≡ flat_map rendition groups
   pub style : fold styled_so old groups ≡ new
 
--- none of these parameters is 58 or 59, the colours of lines
-abbrev pub AreKnown : List ℕ → Type 0
-AreKnown [] = Unit {0}
-AreKnown (p ∷ rest) = (p ≢ 58) × (p ≢ 59) × AreKnown rest
+-- Read on from here, none of these parameters selects 58 or 59, the colours of lines. As a value of 38 or 48 either number may occur.
+abbrev pub AreKnown : Rendition → List ℕ → Type 0
+AreKnown r [] = Unit {0}
+AreKnown r (p ∷ rest) = (r.awaited ≡ Aspect → (p ≢ 58) × (p ≢ 59)) × AreKnown (with_parameter r p) rest
 
 -- digits and semicolons, spelled out, set the style that all of their parameters set
 abbrev pub SpelledOutMeansTheSame : Type 0
 SpelledOutMeansTheSame =
-    (body : List ℕ) (g : Style) → length body ≤ most_body → are_numbers body ≡ true → AreKnown (parameters_of body)
+    (body : List ℕ) (g : Style) → length body ≤ most_body → are_numbers body ≡ true → AreKnown (read_so_far g Aspect) (parameters_of body)
     → Sets (spelled_out body) g (styled_by (parameters_of body) g)
 
 -- digits alone (ECMA-48 5.4.2)

@@ -1,8 +1,8 @@
 //! Laws of the definitions, each the contract of a function that does nothing when it runs.
 ghost use Rattle.roam_normalize_laws.specs.Sense.{LineFormMeansItsValue, SpelledOutMeansTheSame};
 
-/// SGR with any number of parameters, none of them 58 or 59 and none with a colon, sets the same style when it is spelled out as it would
-/// set without the terminal's limit of sixteen parameters (ECMA-48, 8.3.117).
+/// SGR with any number of parameters, none with a colon, sets the same style when it is spelled out as it would set without the terminal's
+/// limit of sixteen parameters (ECMA-48, 8.3.117). No parameter may select 58 or 59. As a value of 38 or 48, either may occur.
 pub fn spelled_out_means_the_same()
     ensures same { SpelledOutMeansTheSame }
 {}
