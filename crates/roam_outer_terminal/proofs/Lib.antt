@@ -1,4 +1,5 @@
 pub mod Heard
+mod Judged
 mod Noted
 pub mod Said
 pub mod Showing

@@ -1,12 +1,12 @@
 -- An outer terminal is painted from what its client instance shows.
-use Rattle.std.specs.Prelude.{◌≡◌, ◌⊎◌, ℕ, List, [], ◌++◌, Bool, true, false, not, nat_le, ◌&&◌, ◌||◌, Option, Some, None, is_some}
+use Rattle.std.specs.Prelude.{◌≡◌, ◌⊎◌, ℕ, List, [], ◌++◌, Bool, true, false, not, nat_le, ◌&&◌, ◌||◌, Option, Some, None, is_some, if◌then◌else◌}
 use Rattle.roam_hub.specs.Clients.{ClientView}
-use Rattle.roam_overlay.specs.Overlays.{OverlayOf, Judges}
+use Rattle.roam_overlay.specs.Overlays.{OverlayOf, Judges, Loses, shown_over}
 use Rattle.roam_display_records.specs.declared.records.Record.{Record}
 use Rattle.roam_screens.specs.Screenshot.{Screenshot}
 use Rattle.roam_display_state.specs.Saying.{texts_of}
 use Rattle.roam_display_state.specs.DisplayState.{DisplayStateView, Tells, TellsLook, TellsTaken}
-use Rattle.roam_turns.specs.Painting.{LeadsSized}
+use Rattle.roam_turns.specs.Painting.{IsNoted, LeadsSized}
 use Rattle.roam_turns.specs.declared.outer.Noted.{Noted}
 use Rattle.roam_outer_terminal.specs.Overlaid.{IsOver, on_show}
 use Rattle.roam_outer_terminal.specs.Silence.{seconds_of}
@@ -44,6 +44,35 @@ pub data IsJudged (now : ℕ) (client : ClientView) (noted : Option Noted) (old 
   no_screen : noted ≡ None → new ≡ old → IsJudged now client noted old new
   no_predictions : old ≡ None → new ≡ old → IsJudged now client noted old new
 
+-- There was no memory to keep the noted screen: no prediction is judged by it, and all of them end.
+pub record LosesPredictions (now : ℕ) (client : ClientView) (outer : Option Noted) (old new : Option OverlayOf) : Type 0 where
+  pub n : Noted
+  pub o : OverlayOf
+  pub o' : OverlayOf
+  pub noted : outer ≡ Some n
+  pub was : old ≡ Some o
+  pub is : new ≡ Some o'
+  pub loses : Loses n.number n.screen client.kept.acts.acked now o o'
+
+-- they are judged, or lost
+abbrev pub MayJudge : ℕ → ClientView → Option Noted → Option OverlayOf → Option OverlayOf → Type 0
+MayJudge now client noted old new = IsJudged now client noted old new ⊎ LosesPredictions now client noted old new
+
+-- the instance's screen is noted: it was painted, or one of its number was noted before
+abbrev pub IsShownNow : ClientView → Option Noted → Option Noted → Type 0
+IsShownNow client old new =
+    (new ≡ Some (shown_of client)) ⊎ (IsNoted client.kept.receiver.newest.number old × (new ≡ old))
+
+-- the overlay of a noted screen at a moment, if predictions are shown
+abbrev pub over_of : ℕ → Option OverlayOf → Option Noted → Option Screenshot
+over_of now None noted = None
+over_of now (Some predicting) None = None
+over_of now (Some predicting) (Some noted) = shown_over predicting noted.screen now
+
+-- the wanted overlay: none once nothing was heard for ten seconds
+abbrev pub wanted_over : Silence → Option OverlayOf → Option Noted → Option Screenshot
+wanted_over silence predicting noted = if nat_le 10 (seconds_of silence) then None else over_of silence.moment predicting noted
+
 -- no prediction is shown once nothing was heard for ten seconds
 abbrev pub IsHidden : Silence → Option Screenshot → Type 0
 IsHidden silence over = nat_le 10 (seconds_of silence) ≡ true → over ≡ None
@@ -58,7 +87,7 @@ pub record Paints {S : Type 0} (silence : Silence) (client : ClientView) (old ne
   pub is_noted : (noted ≡ Some (shown_of client)) ⊎ ((noted ≡ old.outer) ⊎ (noted ≡ None))
   pub stays : (new.outer ≡ noted) ⊎ (new.outer ≡ None)
   pub leads : LeadsSized (on_show old.over old.outer) new.waiting (on_show new.over new.outer)
-  pub judged : IsJudged silence.moment client noted old.predicting new.predicting
+  pub judged : MayJudge silence.moment client noted old.predicting new.predicting
   pub over : IsOver silence.moment new.predicting new.outer new.over
   pub hidden : IsHidden silence new.over
   pub others : new
@@ -97,7 +126,7 @@ pub record TellsAll {S : Type 0} (silence : Silence) (client : ClientView) (old 
   pub was : old.display_state ≡ Some before
   pub mid : Terminal S
   pub noted : (mid.outer ≡ Some (shown_of client)) ⊎ (mid.outer ≡ old.outer)
-  pub judged : IsJudged silence.moment client mid.outer old.predicting mid.predicting
+  pub judged : MayJudge silence.moment client mid.outer old.predicting mid.predicting
   pub over : IsOver silence.moment mid.predicting mid.outer mid.over
   pub hidden : IsHidden silence mid.over
   pub others : mid ≡ record old { outer = mid.outer; predicting = mid.predicting; over = mid.over }

@@ -105,8 +105,8 @@ impl<S: Duplex + Drop> Terminal<S> {
             → IsBehind self.new.outer client.now.kept.receiver.newest.number client.now.kept.receiver.newest.state }
     {
         self.note(alloc, client);
-        self.judge(alloc, client, silence.moment());
-        let wanted = self.wanted(alloc, silence);
+        let _ = self.judge(alloc, client, silence.moment());
+        let wanted = self.wanted_if_kept(alloc, silence);
         self.stand_over(wanted);
         self.tell_all(alloc, client.acknowledged());
     }

@@ -94,8 +94,9 @@ impl<S: Duplex + Drop> Terminal<S> {
         requires within { IfOk answer.now (λ n. n ≤ length piece.now) }
         ensures on { result ≡ true → self.new.state ≡ self.old.state }
         ensures kept { self.new.state ≢ State.Gone → self.new.lines.kept ≡ self.old.lines.kept ++ bytes_given answer.now piece.now }
-        // The terminal leaves only if the stream ends.
+        // The terminal leaves exactly if the stream ends.
         ensures left { self.new.state ≡ State.Left → (self.old.state ≡ State.Left) ⊎ IsStreamEnd answer.now }
+        ensures ended { IsStreamEnd answer.now → self.new.state ≡ State.Left }
         ensures others { self.new ≡ record self.old { lines = self.new.lines; state = self.new.state } }
     {
         match answer {

@@ -3,8 +3,8 @@ ghost use Rattle.std.specs.Prelude.{◌≡◌, ◌⊎◌, ◌++◌, ◌≤◌, �
 ghost use Rattle.roam_screens.specs.Screenshot.{Screenshot};
 ghost use Rattle.roam_scroll_paint.specs.Leads.{Leads};
 ghost use Rattle.roam_outer_terminal.specs.Overlaid.{IsBack, IsForth, IsOver, IsSize, Lays, TakesBack, on_show};
-ghost use Rattle.roam_outer_terminal.specs.Painted.{IsHidden, IsJudged, MayPaint, Paints, is_ready, shown_of};
-ghost use Rattle.roam_turns.specs.Painting.{IsBehind, LeadsSized};
+ghost use Rattle.roam_outer_terminal.specs.Painted.{IsHidden, IsJudged, IsShownNow, LosesPredictions, MayPaint, Paints, is_ready, wanted_over};
+ghost use Rattle.roam_turns.specs.Painting.{IsBehind, IsNoted, LeadsSized};
 ghost use Rattle.roam_turns.specs.declared.outer.Noted.{Noted as NotedOf};
 
 use crate::duplex::Duplex;
@@ -125,6 +125,17 @@ fn put_forth(
     Some(over)
 }
 
+// Answers that a screen of this number is noted. `OutOfMemory` if it isn't.
+fn if_noted(outer: &Outer, number: u64) -> Result<(), Fault>
+    ensures noted { OnOk result (IsNoted number outer.now) }
+    ensures refused { OnErr result (IsNoted number outer.now → ⊥) }
+{
+    match outer.noted() {
+        Some((noted, _)) if noted == number => Ok(()),
+        _ => Err(Fault::OutOfMemory),
+    }
+}
+
 // Returns true if no bytes are queued and the wanted overlay is shown already.
 fn is_there(waiting: &Outbox, taken: &Taken, over: &Option<RowShot>) -> bool
     ensures none { result ≡ true → waiting.now ≡ [] }
@@ -152,45 +163,67 @@ impl<S: Duplex + Drop> Terminal<S> {
         }
     }
 
-    // Queues the text from the noted screen to the instance's. Without memory to keep the new screen, none is noted any more.
-    fn paint_noted(&mut self, alloc: Global, client: &Client)
+    // Queues the text from the noted screen to the instance's, which is noted from then on, unless one of its number is already.
+    // `OutOfMemory`; without memory to queue the text, no screen is noted any more.
+    fn paint_noted(&mut self, alloc: Global, client: &Client) -> Result<(), Fault>
         requires ready { self.old.waiting ≡ [] }
         ensures leads { LeadsSized self.old.outer self.new.waiting self.new.outer }
-        ensures noted { (self.new.outer ≡ Some (shown_of client.now)) ⊎ ((self.new.outer ≡ self.old.outer) ⊎ (self.new.outer ≡ None)) }
+        ensures noted { OnOk result (IsShownNow client.now self.old.outer self.new.outer) }
+        ensures refused { OnErr result ((self.new.outer ≡ self.old.outer) ⊎ (self.new.outer ≡ None)) }
         ensures others { self.new ≡ record self.old { outer = self.new.outer; waiting = self.new.waiting } }
     {
         let (number, screen) = client.shown();
-        let Some(text) = self.outer.paint(alloc, number, &screen) else {
-            return;
-        };
-        if self.waiting.push(&text).is_err() {
-            self.forget();
+        match self.outer.paint(alloc, number, &screen) {
+            Some(text) => {
+                if let Err(fault) = self.waiting.push(&text) {
+                    self.forget();
+                    return Err(fault);
+                }
+                Ok(())
+            }
+            None => if_noted(&self.outer, number),
         }
     }
 
-    // The predictions are judged by the screen that is noted.
-    pub(crate) fn judge(&mut self, alloc: Global, client: &Client, now: u64)
-        ensures judged { IsJudged now client.now self.old.outer self.old.predicting self.new.predicting }
+    // Judges the predictions by the screen that is noted. `OutOfMemory` if there is no memory to keep that screen; then all of them end.
+    pub(crate) fn judge(&mut self, alloc: Global, client: &Client, now: u64) -> Result<(), Fault>
+        ensures judged { OnOk result (IsJudged now client.now self.old.outer self.old.predicting self.new.predicting) }
+        ensures lost { OnErr result (LosesPredictions now client.now self.old.outer self.old.predicting self.new.predicting) }
         ensures others { self.new ≡ record self.old { predicting = self.new.predicting } }
     {
         if let Some(overlay) = &mut self.predicting
             && let Some((number, screen)) = self.outer.noted()
         {
-            overlay.judge(alloc, number, &screen, client.acknowledged(), now);
+            return overlay.judge(alloc, number, &screen, client.acknowledged(), now);
         }
+        Ok(())
     }
 
-    // Returns the wanted overlay; `None` during a silence, which has a notice of its own.
-    pub(crate) fn wanted(&self, alloc: Global, silence: Silence) -> Option<RowShot>
+    // Returns the wanted overlay; `None` exactly if no prediction is shown, no screen is noted, or during a silence, which has a notice of
+    // its own. `OutOfMemory`.
+    fn wanted(&self, alloc: Global, silence: Silence) -> Result<Option<RowShot>, Fault>
+        ensures wanted { IfOk result (λ over. over ≡ wanted_over silence self.now.predicting self.now.outer) }
+        ensures hidden { IfOk result (λ over. IsHidden silence over) }
+    {
+        if silence.is_long() {
+            return Ok(None);
+        }
+        let (Some(overlay), Some((_, screen))) = (self.predicting.as_ref(), self.outer.noted())
+        else {
+            return Ok(None);
+        };
+        overlay.over(alloc, &screen, silence.moment())
+    }
+
+    // Returns the wanted overlay, or none if there is no memory for it: the next painting shows it.
+    pub(crate) fn wanted_if_kept(&self, alloc: Global, silence: Silence) -> Option<RowShot>
         ensures over { IsOver silence.moment self.now.predicting self.now.outer result }
         ensures hidden { IsHidden silence result }
     {
-        if silence.is_long() {
-            return None;
+        match self.wanted(alloc, silence) {
+            Ok(over) => over,
+            Err(_) => None,
         }
-        let overlay = self.predicting.as_ref()?;
-        let (_, screen) = self.outer.noted()?;
-        overlay.over(alloc, &screen, silence.moment())
     }
 
     // Paints an overlay behind the queued bytes.
@@ -255,9 +288,10 @@ impl<S: Duplex + Drop> Terminal<S> {
             → IsBehind self.new.outer client.now.kept.receiver.newest.number client.now.kept.receiver.newest.state }
     {
         let taken = self.take_back(alloc);
-        self.paint_noted(alloc, client);
-        self.judge(alloc, client, silence.moment());
-        let wanted = self.wanted(alloc, silence);
+        // A screen for which there is no memory is painted in a later round.
+        let _ = self.paint_noted(alloc, client);
+        let _ = self.judge(alloc, client, silence.moment());
+        let wanted = self.wanted_if_kept(alloc, silence);
         self.lay(alloc, wanted, taken);
     }
 

@@ -1,6 +1,5 @@
 -- The predictions of an outer terminal: the fold of the keys typed and of the screens noted of it, one after the other.
 use Rattle.std.specs.Prelude.{◌≡◌, ℕ, ◌+◌, ◌-◌, ◌^◌, ◌==◌, ◌||◌, ◌&&◌, not, min, nat_lt, Bool, true, false, List, [], ◌∷◌, length, Option, Some, None, if◌then◌else◌}
-use Rattle.std.specs.List.{fold}
 use Rattle.roam_acts.specs.declared.acts.Act.{Act}
 use Rattle.roam_prediction.specs.Predictions.{PredictionsOf, are_shown}
 use Rattle.roam_prediction.specs.Laws.{Step, Typed, Passed, Seen, Ended, after}
@@ -63,15 +62,13 @@ abbrev pub is_number : ℕ → Option JudgedOf → Bool
 is_number number None = false
 is_number number (Some judged) = judged.number == number
 
--- A screen of a number is seen after that of the last judgement, and is that of the last from then on, if it isn't already. If there is no
--- memory to keep it nothing is judged by it, and all predictions end.
+-- A screen of a number is seen after that of the last judgement, and is that of the last from then on, if it isn't already.
 pub data Keeps (number : ℕ) (s : Screenshot) (moment : Moment) (predictions : PredictionsOf) (step : Step) (old new : Option JudgedOf)
     : Type 0 where
   already : is_number number old ≡ true → Sees (screen_or old s) s moment predictions step → new ≡ old
       → Keeps number s moment predictions step old new
   kept : is_number number old ≡ false → Sees (screen_or old s) s moment predictions step
       → new ≡ Some (record { number = number; screen = s }) → Keeps number s moment predictions step old new
-  unkept : is_number number old ≡ false → step ≡ Ended moment.acknowledged → new ≡ old → Keeps number s moment predictions step old new
 
 -- A screen of a number is noted at a moment, and so many acts are acknowledged: the predictions are judged by it.
 pub record Judges (number : ℕ) (s : Screenshot) (acknowledged now : ℕ) (old new : OverlayOf) : Type 0 where
@@ -83,6 +80,15 @@ pub record Judges (number : ℕ) (s : Screenshot) (acknowledged now : ℕ) (old 
       old.seen new.seen
   pub predictions : new.predictions ≡ after old.predictions step
 
+-- There was no memory to keep a screen of another number than that of the last judgement. Nothing is judged by it, and all predictions end.
+pub record Loses (number : ℕ) (s : Screenshot) (acknowledged now : ℕ) (old new : OverlayOf) : Type 0 where
+  pub adaptive : new.adaptive ≡ old.adaptive
+  pub delays : new.delays
+      ≡ after_right old.predictions.list now (count_right (cursor_line s) s.cursor_col old.predictions.list) old.delays
+  pub other : is_number number old.seen ≡ false
+  pub seen : new.seen ≡ old.seen
+  pub predictions : new.predictions ≡ after old.predictions (Ended acknowledged)
+
 -- ---- shown predictions
 
 -- true if predictions are shown
@@ -93,3 +99,7 @@ is_shown o = are_shown o.predictions && (not o.adaptive || o.delays.slow)
 abbrev pub laid_over : OverlayOf → Screenshot → ℕ → Screenshot
 laid_over o s now =
     if is_long o.delays.last o.predictions.list now then overlay (underlined o.predictions) s else overlay o.predictions s
+
+-- a screen with the predictions over it at a moment, if they are shown
+abbrev pub shown_over : OverlayOf → Screenshot → ℕ → Option Screenshot
+shown_over o s now = if is_shown o then Some (laid_over o s now) else None

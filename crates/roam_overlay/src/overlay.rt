@@ -1,11 +1,11 @@
 //! The predictions of the keys of an outer terminal, over the screen noted of it.
-ghost use Rattle.std.specs.Prelude.{◌≡◌, IfOk, IfSome, IsOkUnless, length, true, false, None};
+ghost use Rattle.std.specs.Prelude.{◌≡◌, IfOk, IsOkUnless, OnErr, OnOk, length, true, false, None};
 ghost use Rattle.std.specs.List.{fold};
 ghost use Rattle.roam_prediction.specs.Predictions.{none};
-ghost use Rattle.roam_prediction.specs.Laws.{Step, after};
+ghost use Rattle.roam_prediction.specs.Laws.{Step, Ended, after};
 ghost use Rattle.roam_overlay.specs.Delays.{no_delay};
 ghost use Rattle.roam_screens.specs.Shown.{shown_by};
-ghost use Rattle.roam_overlay.specs.Overlays.{Judges, Keeps, Sees, is_number, is_shown, laid_over, last_number, line_steps, screen_or, typed_steps};
+ghost use Rattle.roam_overlay.specs.Overlays.{Judges, Keeps, Loses, Sees, is_number, is_shown, last_number, line_steps, screen_or, shown_over, typed_steps};
 
 use crate::delays::Delays;
 use roam_acts::Act;
@@ -127,6 +127,7 @@ fn is_number(seen: &Option<Judged>, number: u64) -> bool
 // Returns a copy of a screen of either version. One of version 2 shares its rows with the copy.
 fn copy_of(alloc: Global, screen: &Shown<'_>) -> Result<RowShot, Fault>
     ensures same { IfOk result (λ copy. copy ≡ shown_by screen.now) }
+    ensures fault { IsOkUnless result Fault.OutOfMemory }
 {
     match screen {
         Shown::New(shot) => shot.copy(alloc),
@@ -134,7 +135,7 @@ fn copy_of(alloc: Global, screen: &Shown<'_>) -> Result<RowShot, Fault>
     }
 }
 
-// Judges predictions by a screen, and keeps it as that of the last judgement; if there is no memory for that all predictions end.
+// Judges predictions by a screen, and keeps it as that of the last judgement. `OutOfMemory` if it can't be kept; then all predictions end.
 fn see(
     alloc: Global,
     predictions: &mut Predictions,
@@ -142,23 +143,31 @@ fn see(
     number: u64,
     screen: &Shown<'_>,
     moment: Moment,
-)
-    ensures sees { (step : Step) × Keeps number (shown_by screen.now) moment predictions.old step seen.old seen.new
-        × (predictions.new ≡ after predictions.old step) }
+) -> Result<(), Fault>
+    ensures sees { OnOk result ((step : Step) × Keeps number (shown_by screen.now) moment predictions.old step seen.old seen.new
+        × (predictions.new ≡ after predictions.old step)) }
+    ensures ends { OnErr result ((is_number number seen.old ≡ false) × (seen.new ≡ seen.old)
+        × (predictions.new ≡ after predictions.old (Ended moment.acknowledged))) }
+    ensures fault { IsOkUnless result Fault.OutOfMemory }
 {
     if is_number(seen, number) {
         judge(predictions, seen, screen, moment);
-        return;
+        return Ok(());
     }
-    let Ok(kept) = copy_of(alloc, screen) else {
-        predictions.end(moment.acknowledged);
-        return;
-    };
-    judge(predictions, seen, screen, moment);
-    *seen = Some(Judged {
-        number,
-        screen: kept,
-    });
+    match copy_of(alloc, screen) {
+        Ok(kept) => {
+            judge(predictions, seen, screen, moment);
+            *seen = Some(Judged {
+                number,
+                screen: kept,
+            });
+            Ok(())
+        }
+        Err(fault) => {
+            predictions.end(moment.acknowledged);
+            Err(fault)
+        }
+    }
 }
 
 impl Overlay {
@@ -200,8 +209,8 @@ impl Overlay {
         );
     }
 
-    /// Judges the predictions by a screen of a number that is noted at a moment in milliseconds, with so many acts acknowledged. If there
-    /// is no memory to keep it, all predictions end, since no later screen would be known to follow it.
+    /// Judges the predictions by a screen of a number that is noted at a moment in milliseconds, with so many acts acknowledged.
+    /// `OutOfMemory` if the screen can't be kept; then all predictions end, since no later screen would be known to follow it.
     pub fn judge(
         &mut self,
         alloc: Global,
@@ -209,8 +218,10 @@ impl Overlay {
         screen: &Shown<'_>,
         acknowledged: u64,
         now: u64,
-    )
-        ensures judged { Judges number (shown_by screen.now) acknowledged now self.old self.new }
+    ) -> Result<(), Fault>
+        ensures judged { OnOk result (Judges number (shown_by screen.now) acknowledged now self.old self.new) }
+        ensures ended { OnErr result (Loses number (shown_by screen.now) acknowledged now self.old self.new) }
+        ensures fault { IsOkUnless result Fault.OutOfMemory }
     {
         let right = self.predictions.count_right(screen);
         self.delays.right(&self.predictions, right, now);
@@ -226,7 +237,7 @@ impl Overlay {
             number,
             screen,
             moment,
-        );
+        )
     }
 
     // Returns true if predictions are shown.
@@ -236,19 +247,24 @@ impl Overlay {
         self.predictions.are_shown() && (!self.adaptive || self.delays.is_slow())
     }
 
-    /// Returns a screen with the predictions over it at a moment; `None` if nothing is shown, or there is no memory.
-    pub fn over(&self, alloc: Global, screen: &Shown<'_>, now: u64) -> Option<RowShot>
-        ensures over { IfSome result (λ over. over ≡ laid_over self.now (shown_by screen.now) now) }
-        ensures shown { IfSome result (λ _. is_shown self.now ≡ true) }
+    /// Returns a screen with the predictions over it at a moment; `None` exactly if none are shown. `OutOfMemory`.
+    pub fn over(
+        &self,
+        alloc: Global,
+        screen: &Shown<'_>,
+        now: u64,
+    ) -> Result<Option<RowShot>, Fault>
+        ensures over { IfOk result (λ over. over ≡ shown_over self.now (shown_by screen.now) now) }
+        ensures fault { IsOkUnless result Fault.OutOfMemory }
     {
         if !self.is_shown() {
-            return None;
+            return Ok(None);
         }
-        let copy = copy_of(alloc, screen).ok()?;
+        let copy = copy_of(alloc, screen)?;
         if self.delays.is_long(&self.predictions, now) {
-            let underlined = self.predictions.underlined(alloc).ok()?;
-            return underlined.over(alloc, &copy).ok();
+            let underlined = self.predictions.underlined(alloc)?;
+            return Ok(Some(underlined.over(alloc, &copy)?));
         }
-        self.predictions.over(alloc, &copy).ok()
+        Ok(Some(self.predictions.over(alloc, &copy)?))
     }
 }
