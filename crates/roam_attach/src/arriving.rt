@@ -1,5 +1,6 @@
 //! The stream of an outer terminal that has to say a whole line soon.
-ghost use Rattle.std.specs.Prelude.{◌≤◌, IfOk, length};
+ghost use Rattle.std.specs.Prelude.{◌≡◌, ◌≤◌, IfOk, IfSome, IsSome, None, Ok, false, length, true};
+ghost use Rattle.roam_attach.specs.Arriving.{HasNothing, ends_line, first_line, last_moment};
 
 use mio::net::UnixStream;
 use roam_sockets::Moments;
@@ -28,15 +29,30 @@ impl<C: Clock + Drop> Arrival<C> {
     }
 }
 
-// Returns true if a line ends among the first bytes.
-fn has_line(buf: &[u8], count: usize) -> bool {
-    match buf.get(..count) {
-        None => false,
-        Some(came) => came.contains(&b'\n'),
+// Returns true if a read gave the end of a line.
+fn ends_line(came: &io::Result<usize>, buf: &[u8]) -> bool
+    requires bound { IfOk came.now (λ n. n ≤ length buf.now) }
+    ensures ends { result ≡ ends_line came.now buf.now }
+{
+    match came {
+        Ok(count) => buf.split_at(*count).0.contains(&b'\n'),
+        Err(_) => false,
     }
 }
 
-// Returns the result of a read, or the end of the stream if no line arrived in time.
+// Returns the result of a read: the end of the stream if the terminal is late and nothing can be read.
+fn unless_late(is_late: bool, came: io::Result<usize>) -> io::Result<usize>
+    ensures late { is_late ≡ true → HasNothing came → result ≡ Ok 0 }
+    ensures others { (is_late ≡ true → HasNothing came → ⊥) → result ≡ came }
+{
+    match came {
+        Ok(count) => Ok(count),
+        Err(error) if is_late && error.kind() == ErrorKind::WouldBlock => Ok(0),
+        Err(error) => Err(error),
+    }
+}
+
+// Returns the result of a read, or the end of the stream if no line arrived in time. A terminal that said a line waits for nothing more.
 fn in_time<C: Clock + Drop>(
     waiting: &mut Option<Moments<C>>,
     came: io::Result<usize>,
@@ -44,21 +60,21 @@ fn in_time<C: Clock + Drop>(
 ) -> io::Result<usize>
     requires bound { IfOk came (λ n. n ≤ length buf.now) }
     ensures bound { IfOk result (λ n. n ≤ length buf.now) }
+    ensures said { waiting.old ≡ None → (result ≡ came) × (waiting.new ≡ None) }
+    ensures line { ends_line came buf.now ≡ true → (result ≡ came) × (waiting.new ≡ None) }
+    ensures waits { IsSome waiting.old → ends_line came buf.now ≡ false → IsSome waiting.new }
+    ensures late { IfSome waiting.new (λ moments. first_line ≤ last_moment moments → HasNothing came → result ≡ Ok 0) }
+    ensures early { IfSome waiting.new (λ moments. (first_line ≤ last_moment moments → HasNothing came → ⊥) → result ≡ came) }
 {
     let Some(moments) = waiting else {
         return came;
     };
     let is_late = moments.now() >= FIRST_LINE;
-    match came {
-        Ok(count) => {
-            if has_line(buf, count) {
-                *waiting = None;
-            }
-            Ok(count)
-        }
-        Err(error) if is_late && error.kind() == ErrorKind::WouldBlock => Ok(0),
-        Err(error) => Err(error),
+    if ends_line(&came, buf) {
+        *waiting = None;
+        return came;
     }
+    unless_late(is_late, came)
 }
 
 impl<C: Clock + Drop> Read for Arrival<C> {

@@ -229,6 +229,7 @@ impl<R: Clock + Drop> Ports for Connection<R> {
         ensures from { IfSome result (λ r. IsFrom self.old.way r.0) }
         ensures stirs { IfSome result (λ _. self.new.waits.quiet ≡ false) }
         ensures waiting { StillWaits self.old.way self.new.way }
+        ensures others { self.new ≡ record self.old { waits = self.new.waits; way = self.new.way } }
     {
         let came = self.way.receive(buf)?;
         self.waits.stir();

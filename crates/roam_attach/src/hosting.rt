@@ -1,6 +1,9 @@
 //! A client instance that stays while outer terminals come and go at its socket.
-ghost use Rattle.std.specs.Prelude.{◌≡◌, ◌≢◌, ◌⊎◌, ◌≤◌, ℕ, length, min, true, false, None, is_some, IfErr, IfSome};
+ghost use Rattle.std.specs.Prelude.{◌≡◌, ◌≢◌, ◌⊎◌, ◌≤◌, ◌-◌, Bool, ℕ, length, min, take, true, false, None, Some, is_some, IfErr, IfSome};
 ghost use Rattle.roam_attach.specs.Ways.{Goes, IsFrom, MoreGoes, Sends, StillWaits, has_ended};
+ghost use Rattle.roam_attach.specs.Sleeps.{HasNews, is_before, until, waking_after, woken_after, woken_at, woken_by};
+ghost use Rattle.roam_attach.specs.declared.hosting.Doorway.{Doorway as DoorwayOf};
+ghost use Rattle.roam_attach.specs.declared.hosting.Woken.TheVariants.{Input};
 ghost use Rattle.roam_sockets.specs.declared.moments.Moments.{Moments};
 ghost use Rattle.roam_sockets.specs.Waits.{wait_until};
 
@@ -15,6 +18,7 @@ use roam_shared_client::{Door, Listening, SharedClient, run_shared};
 use roam_sockets::{listen, wait_until};
 use roam_stream_framing::Stream;
 use roam_turns::Ports;
+use roam_wire::is_unchanging;
 use std::alloc::Global;
 use std::fs::{Files, remove_file};
 use std::net::Net;
@@ -47,15 +51,53 @@ struct Doorway<R> {
     waking: u32,
 }
 
-// Returns true if a datagram has no news: it is whole, and its change is from a number to the same one.
-fn is_heartbeat(datagram: &[u8]) -> bool {
-    match (
-        datagram.get(38..40),
-        datagram.get(42..50),
-        datagram.get(50..58),
-    ) {
-        (Some(count), Some(old), Some(new)) => count == [0, 1].as_slice() && old == new,
-        _ => false,
+// Why the sleep of an instance without outer terminals ends.
+#[derive(Clone, Copy)]
+enum Woken {
+    // A terminal came.
+    Terminal,
+    // The server sent news.
+    News,
+    // The server has ended.
+    Ended,
+    // Input came before anything was due.
+    Input,
+    // The longest time is over.
+    Time,
+}
+
+// Returns true if a datagram of so many bytes came and has news.
+fn has_news(buf: &[u8], came: Option<usize>) -> bool
+    requires within { IfSome came (λ n. n ≤ length buf.now) }
+    ensures none { came ≡ None → result ≡ false }
+    ensures news { IfSome came (λ n. HasNews (take n buf.now) result) }
+{
+    match came {
+        Some(len) => !is_unchanging(buf.split_at(len).0),
+        None => false,
+    }
+}
+
+// Returns why a sleep ends before it waits again; `None` if it goes on.
+fn woken_by(
+    has_come: bool,
+    is_light: bool,
+    has_news: bool,
+    has_ended: bool,
+    is_over: bool,
+) -> Option<Woken>
+    ensures woken { result ≡ woken_by has_come is_light has_news has_ended is_over }
+{
+    if has_come {
+        Some(Woken::Terminal)
+    } else if !is_light && has_news {
+        Some(Woken::News)
+    } else if !is_light && has_ended {
+        Some(Woken::Ended)
+    } else if is_over {
+        Some(Woken::Time)
+    } else {
+        None
     }
 }
 
@@ -79,22 +121,23 @@ fn first_at<R: Clock + Drop>(
 }
 
 impl<R: Clock + Drop> Doorway<R> {
-    // Drops a datagram that came while the instance sleeps, and returns true if it has news: the server sends those again.
-    fn is_woken_by_server(&mut self) -> bool {
-        let mut buf = [0; DATAGRAM];
-        let Some((_, len)) = self.connection.receive(&mut buf) else {
-            return false;
-        };
+    // Drops a datagram that came while the instance sleeps, and returns how many bytes of `buf` it filled: the server sends it again.
+    fn hear(&mut self, buf: &mut [u8]) -> Option<usize>
+        ensures within { IfSome result (λ n. n ≤ length buf.new) }
+        ensures heard { IfSome result (λ _. self.new.heard ≡ self.old.connection.moment) }
+        ensures silent { result ≡ None → self.new.heard ≡ self.old.heard }
+        ensures moment { self.new.connection.moment ≡ self.old.connection.moment }
+        ensures others { self.new ≡ record self.old { connection = self.new.connection; heard = self.new.heard } }
+    {
+        let (_, len) = self.connection.receive(buf)?;
         self.heard = self.connection.moment();
-        match buf.get(..len) {
-            Some(datagram) => !is_heartbeat(datagram),
-            None => true,
-        }
+        Some(len)
     }
 
     // Looks whether a terminal came while the instance sleeps.
     fn is_woken_by_terminal(&mut self) -> bool
         ensures came { result ≡ is_some self.new.came }
+        ensures others { self.new ≡ record self.old { came = self.new.came } }
     {
         self.came = first_at(&mut self.came, &self.listener, &self.connection);
         self.came.is_some()
@@ -102,15 +145,67 @@ impl<R: Clock + Drop> Doorway<R> {
 
     // Notes that the instance wakes for a terminal: if the server has forgotten the instance, its screen may be old.
     fn wake(&mut self)
-        ensures others { self.new ≡ record self.old { waking = self.new.waking } }
+        ensures wakes { self.new ≡ record self.old { waking = waking_after (self.old.connection.moment - self.old.heard) } }
     {
         let silent = self.connection.moment().saturating_sub(self.heard);
         self.waking = if silent >= FORGOTTEN { WAKES } else { 0 };
     }
+
+    // Returns why a sleep that began at a moment ends before it waits again; `None` if it goes on.
+    fn woken(&self, has_news: bool, begun: u64, longest: u64, due: Option<u64>) -> Option<Woken>
+        ensures woken { result ≡ woken_at self.now has_news begun longest due }
+    {
+        let now = self.connection.moment();
+        woken_by(
+            self.came.is_some(),
+            is_before(now, due),
+            has_news,
+            self.connection.has_ended(),
+            now.saturating_sub(begun) >= longest,
+        )
+    }
+
+    // Waits until something is due, or the sleep is over. Returns `Input` if the wait ended before it was due.
+    fn doze(&mut self, begun: u64, longest: u64, due: Option<u64>) -> Option<Woken>
+        ensures input { result ≡ woken_after self.old.connection.moment self.new.connection.moment due }
+        ensures waited { IfSome self.new.connection.waits.longest (λ long.
+            long ≡ min (until due self.old.connection.moment) (longest - (self.old.connection.moment - begun))) }
+        ensures came { self.new.came ≡ self.old.came }
+        ensures heard { self.new.heard ≡ self.old.heard }
+    {
+        let before = self.connection.moment();
+        let left = longest.saturating_sub(before.saturating_sub(begun));
+        self.connection.rest(until(due, before).min(left));
+        if is_before(before, due) && is_before(self.connection.now(), due) {
+            return Some(Woken::Input);
+        }
+        None
+    }
+
+    // Does one round of a sleep that began at a moment, and returns why the sleep ends; `None` if it goes on. Until something is due for the
+    // server nothing is read of it.
+    fn sleep_once(&mut self, begun: u64, longest: u64, due: Option<u64>) -> Option<Woken>
+        ensures ends { IfSome result (λ why. (why ≡ Input) ⊎ ((has_news : Bool) × (Some why ≡ woken_at self.new has_news begun longest due))) }
+        ensures goes_on { result ≡ None → (mid : DoorwayOf R) × (has_news : Bool) × (woken_at mid has_news begun longest due ≡ None)
+            × (woken_after mid.connection.moment self.new.connection.moment due ≡ None) × (self.new.came ≡ mid.came) }
+    {
+        let mut buf = [0; DATAGRAM];
+        let now = self.connection.now();
+        let mut came = None;
+        if !self.is_woken_by_terminal() && !is_before(now, due) {
+            came = self.hear(&mut buf);
+        }
+        if let Some(why) = self.woken(has_news(&buf, came), begun, longest, due) {
+            return Some(why);
+        }
+        self.doze(begun, longest, due)
+    }
 }
 
 // Returns true if a moment is before another one, if there is one.
-fn is_before(now: u64, due: Option<u64>) -> bool {
+fn is_before(now: u64, due: Option<u64>) -> bool
+    ensures before { result ≡ is_before now due }
+{
     match due {
         None => false,
         Some(due) => now < due,
@@ -118,7 +213,9 @@ fn is_before(now: u64, due: Option<u64>) -> bool {
 }
 
 // Returns the milliseconds until a moment; an hour if there is none or it is past.
-fn until(due: Option<u64>, now: u64) -> u64 {
+fn until(due: Option<u64>, now: u64) -> u64
+    ensures until { result ≡ until due now }
+{
     match due {
         Some(due) if due > now => due - now,
         _ => wait_until(None, now),
@@ -223,22 +320,10 @@ impl<R: Clock + Copy + Drop> Door<Opaque<Arrival<R>>> for Doorway<R> {
         }
         let begun = self.connection.moment();
         for _ in 0..FOR_GOOD {
-            let now = self.connection.now();
-            if self.is_woken_by_terminal() {
-                self.wake();
-                return;
-            }
-            let is_light = is_before(now, due);
-            if !is_light && (self.is_woken_by_server() || self.connection.has_ended()) {
-                return;
-            }
-            let passed = now.saturating_sub(begun);
-            if passed >= longest {
-                return;
-            }
-            self.connection.rest(until(due, now).min(longest - passed));
-            if is_light && is_before(self.connection.now(), due) {
-                return;
+            match self.sleep_once(begun, longest, due) {
+                Some(Woken::Terminal) => return self.wake(),
+                Some(_) => return,
+                None => (),
             }
         }
     }

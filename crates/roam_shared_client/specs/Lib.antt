@@ -1,2 +1,3 @@
 pub mod Running
 pub mod Sharing
+pub mod Listening

@@ -1,5 +1,5 @@
 -- The whole run of a client instance with its outer terminals: terminals come, and rounds are taken, one joined to the next, until the end.
-use Rattle.std.specs.Prelude.{◌≡◌, ℕ, zero, suc, ◌-◌, ◌<◌, ◌≤◌, ◌^◌, ◌==◌, min, nat_lt, not, Bool, true, false, List, [], ◌∷◌, ◌++◌, length, Option, Some, None, IfSome, is_some, if◌then◌else◌}
+use Rattle.std.specs.Prelude.{◌≡◌, ℕ, zero, suc, ◌-◌, ◌<◌, ◌≤◌, ◌^◌, ◌==◌, min, nat_lt, not, Bool, true, false, List, [], ◌∷◌, ◌++◌, length, Option, Some, None, IfSome, is_some, codes, if◌then◌else◌}
 use Rattle.roam_hub.specs.Clients.{ClientView}
 use Rattle.roam_hub.specs.Waits.{has_come}
 use Rattle.roam_cells.specs.declared.addresses.Addr.{Addr}
@@ -16,6 +16,10 @@ use Rattle.roam_outer_terminal.specs.declared.silence.End.TheVariants.{Gone}
 use Rattle.roam_outer_terminal.specs.declared.silence.Silence.{Silence}
 use Rattle.roam_outer_terminal.specs.declared.terminal.State.TheVariants.{Here}
 use Rattle.roam_outer_terminal.specs.declared.terminal.Terminal.{Terminal}
+
+-- the text for a terminal above sixteen
+abbrev pub full_text : List ℕ
+full_text = codes "full\n"
 
 -- a terminal that just came: nothing was read of it, nothing is known of it, and nothing waits
 pub record IsFresh {S : Type 0} (t : Terminal S) : Type 0 where

@@ -1,8 +1,10 @@
 //! Ports that know when something was heard last.
-ghost use Rattle.std.specs.Prelude.{◌≡◌, ◌⊎◌, ◌≤◌, ◌∷◌, [], None, Some, IfSome, is_some, length, true};
-ghost use Rattle.roam_turns.specs.Calls.{Tells};
+ghost use Rattle.std.specs.Prelude.{◌≡◌, ◌≤◌, ◌∷◌, [], None, Some, IfSome, is_some, length, false, true};
+ghost use Rattle.std.specs.Io.KnownBytes.{Keeps};
+ghost use Rattle.roam_shared_client.specs.Listening.{heard_after, heard_by};
+ghost use Rattle.roam_turns.specs.Calls.{Tells, received_call};
 ghost use Rattle.roam_turns.specs.Calls.DoorCall.{Came, HasEnded, Rested, Slept};
-ghost use Rattle.roam_turns.specs.Calls.PortCall.{Asked};
+ghost use Rattle.roam_turns.specs.Calls.PortCall.{Asked, Now};
 
 use crate::running::Door;
 use roam_hub::Addr;
@@ -90,7 +92,7 @@ impl<P: Ports + Drop> Listening<P> {
 
 // Counts a silence from its moment on, if the instance slept until then, and heard something before.
 fn hear_after(silence: &mut Silence, has_slept: bool)
-    ensures heard { (silence.new ≡ silence.old) ⊎ (silence.new ≡ record silence.old { heard = Some silence.old.moment }) }
+    ensures heard { silence.new ≡ heard_after has_slept silence.old }
 {
     if has_slept && silence.end() != End::Unheard {
         silence.hear();
@@ -104,7 +106,14 @@ impl<P: Ports + Drop> Ports for Listening<P> {
 
     ghost notice = { λ p. P.notice p.ports };
 
-    fn now(&mut self) -> u64 {
+    fn now(&mut self) -> u64
+        ensures written { Keeps (P.written self.old.ports) (P.written self.new.ports) }
+        ensures notice { P.notice self.new.ports ≡ P.notice self.old.ports }
+        ensures tells { Tells (P.told self.old.ports) (P.told self.new.ports) (Now result ∷ []) }
+        // A silence counts from the last moment at which something was heard, or from the end of a sleep.
+        ensures silence { self.new.silence ≡ heard_after self.old.has_slept (record self.old.silence { moment = result }) }
+        ensures awake { self.new.has_slept ≡ false }
+    {
         let moment = self.ports.now();
         self.silence.at(moment);
         hear_after(&mut self.silence, self.has_slept);
@@ -112,7 +121,13 @@ impl<P: Ports + Drop> Ports for Listening<P> {
         moment
     }
 
-    fn receive(&mut self, buf: &mut [u8]) -> Option<(Addr, usize)> {
+    fn receive(&mut self, buf: &mut [u8]) -> Option<(Addr, usize)>
+        ensures within { IfSome result (λ r. r.1 ≤ length buf.new) }
+        ensures written { Keeps (P.written self.old.ports) (P.written self.new.ports) }
+        ensures notice { P.notice self.new.ports ≡ P.notice self.old.ports }
+        ensures tells { Tells (P.told self.old.ports) (P.told self.new.ports) (received_call (length buf.old) result buf.new ∷ []) }
+        ensures silence { self.new.silence ≡ heard_by (is_some result) self.old.silence }
+    {
         let came = self.ports.receive(buf);
         if came.is_some() {
             self.silence.hear();

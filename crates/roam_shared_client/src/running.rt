@@ -1,6 +1,7 @@
 //! The whole run of a client instance that stays while outer terminals come and go.
 ghost use Rattle.std.specs.Prelude.{◌≡◌, ◌∷◌, [], ℕ, is_some};
-ghost use Rattle.roam_shared_client.specs.Running.{Rests, Runs, RunsOut, TakesIn, TakesTurn, is_for_good, longest_rest, within};
+ghost use Rattle.std.specs.Io.KnownBytes.{WriteAppends};
+ghost use Rattle.roam_shared_client.specs.Running.{Rests, Runs, RunsOut, TakesIn, TakesTurn, full_text, is_for_good, longest_rest, within};
 ghost use Rattle.roam_turns.specs.Calls.{Tells};
 ghost use Rattle.roam_turns.specs.Calls.DoorCall.{Came, HasEnded, Rested, Slept};
 ghost use Rattle.roam_turns.specs.Calls.PortCall.{Asked};
@@ -11,6 +12,7 @@ use roam_hub::Addr;
 use roam_outer_terminal::{Duplex, End, Silence};
 use roam_turns::Ports;
 use std::alloc::Global;
+use std::io;
 
 /// So many rounds end with the machine.
 const FOR_GOOD: u64 = u64::MAX;
@@ -45,11 +47,11 @@ pub trait Door<S>: Ports {
         ensures tells { Tells (Self.told self.old) (Self.told self.new) (Asked (Slept longest) ∷ []) };
 }
 
-// Says to one above sixteen that there is no room, and lets it go.
-fn turn_away<S: Duplex + Drop>(stream: S) {
-    let mut stream = stream;
-    // A terminal that accepts no bytes gets no reason.
-    let _ = stream.write_some(FULL);
+// Says to one above sixteen that there is no room, and returns how much of that it took.
+fn turn_away<S: Duplex + Drop>(stream: &mut S) -> io::Result<usize>
+    ensures says { WriteAppends (S.contents stream.old) (S.contents stream.new) result full_text }
+{
+    stream.write_some(FULL)
 }
 
 // Adds new terminals. Those above sixteen get a reason and are dropped. So are those for which memory is refused: they may connect again.
@@ -64,11 +66,12 @@ fn take_in<S: Duplex + Drop, D: Door<S> + Drop>(
     ensures others { door.new ≡ record door.old { ports = door.new.ports } }
 {
     for _ in 0..MOST_ASKED {
-        let Some(stream) = door.next() else {
+        let Some(mut stream) = door.next() else {
             return;
         };
         if shared.len() >= MOST_TERMINALS {
-            turn_away(stream);
+            // A terminal that accepts no bytes gets no reason.
+            let _ = turn_away(&mut stream);
         } else {
             let _ = shared.add(alloc, stream);
         }
