@@ -1,6 +1,8 @@
 //! The peers of sockets, one at a time; those of the panes' sockets are each for the making of the pane that they came to.
-ghost use Rattle.std.specs.Prelude.{◌≡◌, ◌≢◌, ◌⊎◌, ◌↔◌, ◌<◌, ◌≤◌, ℕ, List, length, take, IsTrue, IsSome, IfSome, is_some, None};
+ghost use Rattle.std.specs.Prelude.{◌≡◌, ◌≢◌, ◌⊎◌, ◌↔◌, ◌<◌, ◌≤◌, ◌∷◌, ℕ, List, [], length, take, IsTrue, IsSome, IfSome, IfOk, is_some, None, Ok};
 ghost use Rattle.std.specs.Io.KnownBytes.{Consumes};
+ghost use Rattle.roam_faults.specs.Streams.{IsStreamEnd};
+ghost use Rattle.roam_stream_framing.specs.Streams.{Answer, Answered};
 ghost use Rattle.roam_pane_sockets.specs.PaneInputs.{Brings, BringsPiece, HandsOn, IsBrought, IsFreshPaneInput};
 ghost use Rattle.roam_pane_sockets.specs.Peers.{HasFailed, generation_in, peer_in};
 ghost use Rattle.roam_pane_sockets.specs.FilterStages.{CountsSome, HasFree, IsFree, TakesMore, bytes_given};
@@ -11,8 +13,9 @@ use crate::pane_inputs::PaneInput;
 use mio::net::{UnixListener, UnixStream};
 use mio::{Interest, Registry, Token};
 use roam_faults::{is_for_now, is_stream_end};
+use roam_stream_framing::Stream;
 use std::io;
-use std::io::{Read, Write};
+use std::io::Write;
 
 /// So many peers that are gone already are let go at once.
 const MOST_GONE: u32 = 64;
@@ -102,7 +105,7 @@ enum Heard {
 }
 
 // Reads a piece of a program's stream, and puts the bytes that go on to the pane's terminal into `buf`.
-fn read_piece<S: Read>(
+fn read_piece<S: Stream>(
     stream: &mut S,
     pane_input: &mut PaneInput,
     buf: &mut [u8],
@@ -115,9 +118,12 @@ fn read_piece<S: Read>(
         × IsBrought piece now pane_input.old pane_input.new n (take n buf.new) }
     ensures none { result ≡ Nothing → pane_input.new ≡ pane_input.old }
     ensures ended { result ≡ Ended → pane_input.new ≡ pane_input.old }
+    // The stream is read once, and has ended exactly if its answer says so.
+    ensures asked { (answer : Answer) × Answered (S.answers stream.old) (S.answers stream.new) (answer ∷ [])
+        × (result ≡ Ended ↔ IsStreamEnd answer) }
 {
     let most = buf.len().min(MOST_READ);
-    let answer = stream.read(buf.split_at_mut(most).0);
+    let answer = stream.read_once(buf.split_at_mut(most).0);
     if is_stream_end(&answer) {
         return Heard::Ended;
     }
@@ -179,57 +185,57 @@ impl Peer {
             if !self.is_there() {
                 return None;
             }
-            if let Some(count) = self.hear(pane_input, buf, now) {
-                return Some(count);
-            }
-            if self.is_there() {
-                return None;
+            match self.hear(pane_input, buf, now) {
+                Heard::Piece(count) => return Some(count),
+                Heard::Nothing => return None,
+                Heard::Ended => (),
             }
         }
         self.accept(listener, registry);
         None
     }
 
-    /// Reads from the program, and returns how many bytes of `buf` go on to the pane's terminal. Drops a closed stream.
-    pub(crate) fn hear(
-        &mut self,
-        pane_input: &mut PaneInput,
-        buf: &mut [u8],
-        now: u64,
-    ) -> Option<usize>
+    /// Returns the result of a read from the program: how many bytes of `buf` go on to the pane's terminal, nothing yet, or the end of its
+    /// stream. Drops a closed stream, and no other.
+    fn hear(&mut self, pane_input: &mut PaneInput, buf: &mut [u8], now: u64) -> Heard
         requires free { TakesMore pane_input.old.filter_stage }
-        ensures within { IfSome result (λ n. n ≤ length buf.new) }
-        ensures from { IfSome result (λ _. IsSome self.old.stream × (self.new ≡ self.old)) }
-        ensures one { (self.new ≡ self.old) ⊎ (self.new.stream ≡ None) }
-        ensures brings { IfSome result (λ n. BringsPiece now pane_input.old pane_input.new n (take n buf.new)) }
-        ensures none { result ≡ None → pane_input.new ≡ pane_input.old }
+        ensures within { (n : ℕ) → result ≡ Piece n → n ≤ length buf.new }
+        ensures from { (n : ℕ) → result ≡ Piece n → IsSome self.old.stream }
+        ensures stays { (result ≡ Ended → ⊥) → self.new ≡ self.old }
+        ensures ended { result ≡ Ended → self.new.stream ≡ None }
+        ensures brings { (n : ℕ) → result ≡ Piece n → BringsPiece now pane_input.old pane_input.new n (take n buf.new) }
+        ensures none { result ≡ Nothing → pane_input.new ≡ pane_input.old }
+        ensures last { result ≡ Ended → pane_input.new ≡ pane_input.old }
     {
         // The stream is read through a reference, which leaves it as it is.
-        let mut stream = self.stream.as_ref()?;
+        let Some(mut stream) = self.stream.as_ref() else {
+            return Heard::Nothing;
+        };
         match read_piece(&mut stream, pane_input, buf, now) {
-            Heard::Piece(count) => Some(count),
-            Heard::Nothing => None,
             Heard::Ended => {
                 self.stream = None;
-                None
+                Heard::Ended
             }
+            heard => heard,
         }
     }
 
-    /// Returns how many of the bytes the program took, 0 if there is none. Drops a failed stream.
-    pub(crate) fn tell(&mut self, bytes: &[u8]) -> usize
-        ensures within { result ≤ length bytes.now }
-        ensures from { 0 < result → IsSome self.old.stream × (self.new ≡ self.old) }
-        ensures one { (self.new ≡ self.old) ⊎ (self.new.stream ≡ None) }
+    /// Returns the stream's own result of a write of these bytes, 0 bytes if there is none. Drops a failed stream, and no other.
+    pub(crate) fn tell(&mut self, bytes: &[u8]) -> io::Result<usize>
+        ensures within { IfOk result (λ n. n ≤ length bytes.now) }
+        ensures from { IfOk result (λ n. 0 < n → IsSome self.old.stream) }
+        ensures stays { (HasFailed result → ⊥) → self.new ≡ self.old }
+        ensures failed { HasFailed result → self.new.stream ≡ None }
+        ensures none { self.old.stream ≡ None → result ≡ Ok 0 }
     {
         let Some(stream) = self.stream.as_mut() else {
-            return 0;
+            return Ok(0);
         };
         let answer = stream.write(bytes);
         if has_failed(&answer) {
             self.stream = None;
         }
-        answer.unwrap_or(0)
+        answer
     }
 }
 
@@ -251,7 +257,10 @@ fn hear(
     ensures none { result ≡ None → pane_input.new ≡ pane_input.old }
 {
     if making.peer.is_there() {
-        return making.peer.hear(pane_input, buf, now);
+        return match making.peer.hear(pane_input, buf, now) {
+            Heard::Piece(count) => Some(count),
+            Heard::Nothing | Heard::Ended => None,
+        };
     }
     making
         .peer
@@ -301,5 +310,6 @@ pub(crate) fn write(
         return 0;
     };
     making.peer.accept(listener, registry);
-    making.peer.tell(bytes)
+    // A stream that takes nothing now, or has failed, took none of them.
+    making.peer.tell(bytes).unwrap_or(0)
 }

@@ -1,6 +1,7 @@
 mod Answering
 mod Asked
 mod Clipped
+mod Hearing
 mod Inquired
 mod News
 mod Seated

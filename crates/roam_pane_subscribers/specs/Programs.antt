@@ -1,6 +1,6 @@
 -- The stream of a program that follows the panes.
 use Rattle.std.specs.Prelude.{ℕ, List, [], ◌∷◌, Option, Some, None}
-use Rattle.std.specs.Io.KnownBytes.{Appends}
+use Rattle.std.specs.Io.KnownBytes.{Appends, Consumes}
 use Rattle.roam_stream_framing.specs.Streams.{Answer, Answered}
 
 -- A stream was asked once, and is dropped exactly if its answer asks for that.
@@ -15,3 +15,9 @@ abbrev pub Wrote : {S : Type 0} → (S → Option (List ℕ)) → Option S → O
 Wrote contents old None bytes = Unit {0}
 Wrote contents None (Some new) bytes = ⊥
 Wrote contents (Some old) (Some new) bytes = Appends (contents old) (contents new) bytes
+
+-- these bytes were read of a stream that is still there, and no others
+abbrev pub Heard : {S : Type 0} → (S → Option (List ℕ)) → Option S → Option S → List ℕ → Type 0
+Heard remaining old None bytes = Unit {0}
+Heard remaining None (Some new) bytes = ⊥
+Heard remaining (Some old) (Some new) bytes = Consumes (remaining old) (remaining new) bytes

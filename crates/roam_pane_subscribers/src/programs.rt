@@ -2,7 +2,8 @@
 ghost use Rattle.std.specs.Prelude.{◌≡◌, ◌<◌, ◌≤◌, List, [], ◌∷◌, length, is_some, take, None, IfSome, IsSome};
 ghost use Rattle.roam_faults.specs.Streams.{IsStreamEnd};
 ghost use Rattle.roam_pane_sockets.specs.Peers.{HasFailed};
-ghost use Rattle.roam_pane_subscribers.specs.Programs.{HasAsked, Wrote};
+ghost use Rattle.roam_pane_sockets.specs.FilterStages.{bytes_given};
+ghost use Rattle.roam_pane_subscribers.specs.Programs.{HasAsked, Heard, Wrote};
 
 use mio::Registry;
 use mio::net::{UnixListener, UnixStream};
@@ -46,6 +47,7 @@ impl<S: Stream + Drop> Program<S> {
         ensures asked { IfSome self.old.stream (λ old. HasAsked IsStreamEnd S.answers old self.new.stream) }
         ensures none { self.old.stream ≡ None → self.new.stream ≡ None }
         ensures there { IfSome result (λ _. IsSome self.new.stream) }
+        ensures heard { Heard S.remaining self.old.stream self.new.stream (bytes_given result buf.new) }
     {
         let answer = self.stream.as_mut()?.read_once(buf);
         if is_stream_end(&answer) {

@@ -5,7 +5,7 @@ ghost use Rattle.roam_terminal_input.specs.Lines.{IsFirst};
 ghost use Rattle.roam_pane_subscribers.specs.Asking.{DoesLine, HasNoLine, HaveAsked, HaveNoLine, IsAsked, Settles, TakesLine};
 ghost use Rattle.roam_pane_subscribers.specs.Clipping.{TellsEachClips, any_wants};
 ghost use Rattle.roam_pane_subscribers.specs.Subscribing.{AreTold, GoesOn, HandsMetadataEvent, HaveCome, IsFresh, IsReply, IsTold, MayHear, RenewsMetadata, Replies, Tells, TellsMetadata, is_there, most_taken, news, panes_path, room, turned, any_asked};
-ghost use Rattle.roam_pane_subscribers.specs.Programs.{Wrote};
+ghost use Rattle.roam_pane_subscribers.specs.Programs.{Heard, Wrote};
 ghost use Rattle.roam_pane_subscribers.specs.Querying.{TellsQueries};
 ghost use Rattle.roam_pane_subscribers.specs.Seats.{any_new, kept_place, seated};
 ghost use Rattle.roam_pane_subscribers.specs.declared.closing.Closer.{Closer as CloserOf};
@@ -157,9 +157,11 @@ impl<S: Stream + Drop> Subscriber<S> {
         }
     }
 
-    // Reads until a line is whole or no more bytes are available. Disconnects a program whose line is too long.
+    // Reads until a line is whole or no more bytes are available. Disconnects a program whose line is too long. Every byte that was read
+    // stays until its line is done, also those behind the first line.
     fn read_line(&mut self)
-        ensures came { (bytes : List ℕ) × (self.new.lines.kept ≡ self.old.lines.kept ++ bytes) }
+        ensures came { (bytes : List ℕ) × (self.new.lines.kept ≡ self.old.lines.kept ++ bytes)
+            × Heard S.remaining self.old.program.stream self.new.program.stream bytes }
         ensures told { self.new.told ≡ self.old.told }
         ensures metadata { self.new.metadata_event ≡ self.old.metadata_event }
         ensures waiting { self.new.waiting ≡ self.old.waiting }
@@ -207,7 +209,8 @@ impl<S: Stream + Drop> Subscriber<S> {
     fn take_line(&mut self, alloc: Global, now: &PaneList, closer: &mut Closer, moment: u64) -> bool
         requires free { closer.old.closing ≡ None }
         ensures takes { result ≡ true → (mid : SubscriberOf S) × (bytes : List ℕ) × (mid.lines.kept ≡ self.old.lines.kept ++ bytes)
-            × (mid.waiting ≡ self.old.waiting) × TakesLine now.now moment closer.old closer.new mid self.new }
+            × Heard S.remaining self.old.program.stream mid.program.stream bytes × (mid.waiting ≡ self.old.waiting)
+            × TakesLine now.now moment closer.old closer.new mid self.new }
         ensures none { result ≡ false → closer.new ≡ closer.old }
         ensures done { result ≡ false → HasNoLine self.new }
         ensures asked { IsAsked now.now moment closer.old closer.new }

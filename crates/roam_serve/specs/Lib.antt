@@ -4,3 +4,4 @@ pub mod Ports
 pub mod Rests
 pub mod Runs
 pub mod Tellings
+pub mod Mending

@@ -1,6 +1,6 @@
 //! The ports of a server over sockets. They don't record their calls.
 ghost use Rattle.std.specs.Prelude.{Bool, ◌≡◌, ◌≢◌, ◌⊎◌, ◌<◌, ◌≤◌, ◌+◌, ◌-◌, ◌&&◌, ◌||◌, ◌==◌, if◌then◌else◌, [], ℕ, List, Option, slice_get, true, false, not, length, map, string_bytes, is_some, nat_lt, None, Some, IfOk, IfSome, IfErr};
-ghost use Rattle.std.specs.List.{All, AllZip};
+ghost use Rattle.std.specs.List.{All};
 ghost use Rattle.std.specs.Option.{option_map};
 ghost use Rattle.roam_sockets.specs.Addresses.{number_of};
 ghost use Rattle.roam_sockets.specs.Clients.{Accepts, IsOf, IsQueuedFor};
@@ -16,10 +16,11 @@ ghost use Rattle.roam_pane_subscribers.specs.Subscribing.{AreAllTold, HaveCome, 
 ghost use Rattle.roam_serve.specs.Rests.{Flushes, GoesBy, SendsBy, is_paced};
 ghost use Rattle.roam_pane_subscribers.specs.declared.closing.Closer.{Closer as CloserOf};
 ghost use Rattle.roam_pane_sockets.specs.Moments.{sooner, standing};
+ghost use Rattle.roam_serve.specs.Mending.{AreMended};
 ghost use Rattle.roam_serve.specs.Ports.{IsPortOf, clients_path, is_looked};
 ghost use Rattle.roam_pane_sockets.specs.Panes.{paths_of};
 ghost use Rattle.roam_pane_sockets.specs.PaneInputs.{HandsOn, IsFreshPaneInput};
-ghost use Rattle.roam_pane_sockets.specs.Peers.{Asks, Changes, HasFreeIn, Hears, IsMended, IsStill, Generations, any_goes_on, frames_until};
+ghost use Rattle.roam_pane_sockets.specs.Peers.{Asks, Changes, HasFreeIn, Hears, IsStill, Generations, any_goes_on, frames_until};
 ghost use Rattle.roam_pane_sockets.specs.FilterStages.{CountsSome, bytes_given};
 
 use crate::echoes::Echoes;
@@ -353,6 +354,9 @@ impl<R: Clock + Drop> ServerPorts<R> {
         ensures flushed { Flushes ⟦<UnixStream as Stream>⟧.answers self.old.clients self.new.clients }
         // Datagrams queued for UDP are sent, as far as the pace of each address allows at this clock.
         ensures lanes { (all : Bool) × GoesBy self.old.clock self.old.udp self.new.udp all }
+        // It looks for new connections after each wait, and once in 20 milliseconds.
+        ensures looked { is_looked (is_some self.new.waits.longest) self.old.clock self.old.looked ≡ true
+            → (self.new.looked ≡ self.old.clock) × (self.new.may_come ≡ true) }
         ensures telling { self.new.telling ≡ self.old.telling }
         ensures clipping { self.new.clipping ≡ self.old.clipping }
         ensures panes { self.new.panes ≡ self.old.panes }
@@ -402,6 +406,8 @@ impl<R: Clock + Drop> ServerPorts<R> {
     fn take_subscribers(&mut self)
         ensures came { HaveCome self.old.subscribers.all.items self.new.subscribers.all.items }
         ensures few { length self.old.subscribers.all.items ≤ most_taken → length self.new.subscribers.all.items ≤ most_taken }
+        ensures looked { self.new.may_come ≡ false }
+        ensures rests { self.old.may_come ≡ false → self.new ≡ self.old }
         ensures others { self.new ≡ record self.old { subscribers = self.new.subscribers; may_come = self.new.may_come } }
     {
         if self.may_come {
@@ -500,10 +506,7 @@ impl<R: Clock + Drop> ServerPorts<R> {
     /// file `session` has this id, since another session may use the folder by then. Connected panes, subscribers and client instances
     /// stay.
     pub fn mend_sockets<N: Files + Net + AllocGlobal>(&mut self, rt: &N, folder: &str, session: u64)
-        ensures panes { AllZip IsMended self.old.panes.all.items self.new.panes.all.items
-            ⊎ (self.new.panes ≡ self.old.panes) }
-        ensures moment { self.new.moment ≡ self.old.moment }
-        ensures turn { self.new.is_udp_next ≡ self.old.is_udp_next }
+        ensures mends { AreMended self.old self.new }
     {
         if !is_time(Some(self.mended), self.clock, MENDS) {
             return;

@@ -3,13 +3,13 @@ ghost use Rattle.std.specs.Prelude.{◌≡◌, ◌⊎◌, ℕ, min, Some, Ok, If
 ghost use Rattle.roam_session.specs.Generations.{generation_of};
 ghost use Rattle.roam_session.specs.Places.{rect_at};
 ghost use Rattle.roam_model.specs.Servers.{Server as ServerOf};
-ghost use Rattle.std.specs.List.{AllZip};
 ghost use Rattle.roam_hub.specs.Servers.{ServerView, Stands};
 ghost use Rattle.roam_serve.specs.Echoes.{AimsAt};
 ghost use Rattle.roam_serve.specs.Listed.{ArePanesOf, pane_of};
-ghost use Rattle.roam_pane_sockets.specs.Peers.{IsMended, frames_until};
+ghost use Rattle.roam_pane_sockets.specs.Peers.{frames_until};
+ghost use Rattle.roam_serve.specs.Mending.{AreMended};
 ghost use Rattle.roam_serve.specs.Rests.{HasRested, HasToldAll};
-ghost use Rattle.roam_serve.specs.Runs.{RunsTurns, Serves, ServesTurns};
+ghost use Rattle.roam_serve.specs.Runs.{RunsTurns, ServesTurns};
 ghost use Rattle.roam_pane_sockets.specs.Moments.{sooner};
 
 use crate::server_ports::{OwnStart, ServerPorts};
@@ -126,8 +126,7 @@ pub trait RunPorts: Ports {
 }
 
 impl<C: Clock + Drop> RunPorts for ServerPorts<C> {
-    ghost mends = { λ old new. (AllZip IsMended old.panes.all.items new.panes.all.items ⊎ (new.panes ≡ old.panes))
-        × (new.moment ≡ old.moment) };
+    ghost mends = { λ old new. AreMended old new };
 
     ghost follows = { λ turns server old new. HasToldAll ⟦<UnixStream as Stream>⟧.contents server new.moment new.panes.all.items
         old.telling new.telling old.clipping new.clipping old.subscribers.all.items new.subscribers.all.items
@@ -259,7 +258,6 @@ pub fn run_serve<R: Files + Net + Clock + RandomSource + Eprint + AllocGlobal>(
     rt: &R,
     serve: &Serve<'_>,
 ) -> Result<(), RunFault>
-    ensures serves { IfOk result (λ _. Serves serve.now.session serve.now.turns) }
     ensures faults { IfErr result (λ fault. (fault ≡ RunFault.Bind) ⊎ (fault ≡ RunFault.Core Fault.OutOfMemory) ⊎ (fault ≡ RunFault.Read)) }
 {
     if own_folder(rt, serve.folder, serve.port.is_none()).is_err() {
