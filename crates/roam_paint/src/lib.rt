@@ -8,4 +8,7 @@ mod sequences;
 
 pub use differences::{cell_of, is_other};
 pub use painting::{is_same_style, open, paint};
-pub use sequences::{push_code, push_number, push_points, push_restyle};
+pub use sequences::{
+    push_code, push_erase_all, push_hide_cursor, push_number, push_place_cursor, push_points,
+    push_restyle, push_show_cursor,
+};

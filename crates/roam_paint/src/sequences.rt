@@ -18,7 +18,7 @@ pub fn push_number(text: &mut Vec<u8>, n: u16) -> Result<(), AllocError>
     text.extend_from_slice(buffer.format(n).as_bytes())
 }
 
-/// CUP (ECMA-48 8.3.21) to a row and a column, both from 1.
+/// Appends CUP (ECMA-48 8.3.21) to a row and a column, both from 1. After an error the text may have a part of it.
 #[tactic(auto, using(crate::proofs::Spellings::place_cursor_text))]
 pub fn push_place_cursor(text: &mut Vec<u8>, row: u16, col: u16) -> Result<(), AllocError>
     ensures text { OnOk result (text.new.items ≡ text.old.items ++ spelling_of (place_cursor row col)) }
@@ -118,14 +118,14 @@ pub fn push_points(text: &mut Vec<u8>, cell: &Cell) -> Result<(), AllocError>
     Ok(())
 }
 
-/// The cursor is hidden (DECTCEM, VT220 Programmer Reference).
+/// Appends the text that hides the cursor (DECTCEM, VT220 Programmer Reference). After an error the text may have a part of it.
 pub fn push_hide_cursor(text: &mut Vec<u8>) -> Result<(), AllocError>
     ensures text { OnOk result (text.new.items ≡ text.old.items ++ (0x1B ∷ 0x5B ∷ 0x3F ∷ 0x32 ∷ 0x35 ∷ 0x6C ∷ [])) }
 {
     text.extend_from_slice(b"\x1B[?25l")
 }
 
-/// Appends ED 2 (ECMA-48 8.3.39), unless sizes are equal.
+/// Appends ED 2 (ECMA-48 8.3.39), which erases all, unless sizes are equal (`same`). After an error the text may have a part of it.
 pub fn push_erase_all(text: &mut Vec<u8>, same: bool) -> Result<(), AllocError>
     ensures text { OnOk result (text.new.items ≡ text.old.items ++ (if same then [] else 0x1B ∷ 0x5B ∷ 0x32 ∷ 0x4A ∷ [])) }
 {
@@ -135,7 +135,8 @@ pub fn push_erase_all(text: &mut Vec<u8>, same: bool) -> Result<(), AllocError>
     Ok(())
 }
 
-/// Appends the text that shows the cursor (DECTCEM, VT220 Programmer Reference), if it is visible.
+/// Appends the text that shows the cursor (DECTCEM, VT220 Programmer Reference), if it is visible. After an error the text may have a part
+/// of it.
 pub fn push_show_cursor(text: &mut Vec<u8>, visible: bool) -> Result<(), AllocError>
     ensures text { OnOk result (text.new.items ≡ text.old.items
         ++ (if visible then 0x1B ∷ 0x5B ∷ 0x3F ∷ 0x32 ∷ 0x35 ∷ 0x68 ∷ [] else [])) }

@@ -1,5 +1,5 @@
 //! The text that paints a screen over whatever a terminal shows.
-ghost use Rattle.std.specs.Prelude.{◌≡◌, ◌++◌, ◌∷◌, [], IfOk, IsTrue, OnOk, if◌then◌else◌};
+ghost use Rattle.std.specs.Prelude.{◌≡◌, ◌↔◌, ◌++◌, ◌∷◌, [], IfOk, IsTrue, OnOk, if◌then◌else◌};
 ghost use Rattle.std.specs.List.{flat_map};
 ghost use Rattle.roam_grid.specs.Writing.{columns};
 ghost use Rattle.roam_paint.specs.Painting.{text_between};
@@ -43,7 +43,7 @@ fn columns(cell: &Cell) -> u16
 
 /// Returns true if a wrap can be pending behind the cell at the cursor: lines wrap, and that cell ends in the last column.
 pub fn may_pend(shot: &Shot, ending: Ending) -> bool
-    ensures pends { IsTrue result → MayPend (record { shot = shot.now; pending = ending.pending; style = ending.style; wraps = ending.wraps }) }
+    ensures pends { IsTrue result ↔ MayPend (record { shot = shot.now; pending = ending.pending; style = ending.style; wraps = ending.wraps }) }
 {
     shot.facts();
     let (_, col) = shot.cursor();

@@ -3,3 +3,4 @@ pub mod Cutting
 pub mod Positions
 pub mod Cursors
 pub mod Shots
+pub mod Fitting

@@ -1,5 +1,5 @@
 -- The rows of text at a width that a screen shows, and the place of its cursor.
-use Rattle.std.specs.Prelude.{◌≡◌, ℕ, zero, suc, ◌+◌, ◌-◌, ◌*◌, ◌&&◌, not, ◌==◌, nat_le, nat_lt, min, Bool, List, [], ◌∷◌, ◌++◌, length, take, drop, replicate, if◌then◌else◌}
+use Rattle.std.specs.Prelude.{◌≡◌, ◌⊎◌, ◌≤◌, ◌^◌, ℕ, zero, suc, ◌+◌, ◌-◌, ◌*◌, ◌&&◌, not, ◌==◌, nat_le, nat_lt, min, Bool, List, [], ◌∷◌, ◌++◌, length, take, drop, replicate, if◌then◌else◌}
 use Rattle.std.specs.List.{flat_map}
 use Rattle.roam_cells.specs.Glyph.{Glyph, blank, is_right_half}
 use Rattle.roam_cells.specs.Place.{cell_at}
@@ -32,6 +32,20 @@ position_at rows p =
       line = (position_from start_position p.row rows).line;
       cell = (position_from start_position p.row rows).cell + p.col;
     }
+
+-- a position that 64 bits do not hold
+abbrev pub IsOver : TextPosition → Type 0
+IsOver s = (2 ^ 64 ≤ s.line) ⊎ (2 ^ 64 ≤ s.cell)
+
+-- the way from a position over so many rows leads to such a one
+abbrev pub LeavesRange : TextPosition → ℕ → List TextRow → Type 0
+LeavesRange s zero rows = ⊥
+LeavesRange s (suc r) [] = ⊥
+LeavesRange s (suc r) (row ∷ rows) = IsOver (position_after s row) ⊎ LeavesRange (position_after s row) r rows
+
+-- the way to a row and a column does, or the column is too far
+abbrev pub LeavesRangeAt : List TextRow → ScreenPosition → Type 0
+LeavesRangeAt rows p = LeavesRange start_position p.row rows ⊎ (2 ^ 64 ≤ (position_from start_position p.row rows).cell + p.col)
 
 abbrev pub below : ScreenPosition → ScreenPosition
 below p = record { row = p.row + 1; col = p.col }

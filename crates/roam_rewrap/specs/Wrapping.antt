@@ -1,5 +1,5 @@
 -- Lines at a width: a line goes on in the next row as by autowrap, so that a wide cell is never cut (DECAWM, VT220 Programmer Reference).
-use Rattle.std.specs.Prelude.{◌≡◌, ℕ, zero, suc, ◌-◌, nat_lt, true, false, List, [], ◌∷◌, ◌++◌, length, take, drop, if◌then◌else◌}
+use Rattle.std.specs.Prelude.{◌≡◌, ◌≤◌, ◌⊎◌, ⊤, ℕ, zero, suc, ◌+◌, ◌-◌, nat_lt, true, false, List, [], ◌∷◌, ◌++◌, length, take, drop, if◌then◌else◌}
 use Rattle.roam_cells.specs.Glyph.{Glyph, is_wide}
 use Rattle.roam_cells.specs.Place.{glyph_at}
 use Rattle.roam_rewrap.specs.Lines.{TextRow, lines_of}
@@ -34,3 +34,21 @@ rewrapped cols rows = rows_of_lines cols (lines_of rows)
 -- the lines stay as they are: no cell is lost or doubled, and none changes its line
 abbrev pub LinesStay : Type 0
 LinesStay = (cols : ℕ) (rows : List TextRow) → lines_of (rewrapped cols rows) ≡ lines_of rows
+
+-- whether the first of some rows begins with a wide cell
+abbrev pub BeginsWide : List TextRow → Type 0
+BeginsWide [] = ⊥
+BeginsWide (row ∷ rows) = is_wide (glyph_at row.cells 0) ≡ true
+
+-- a row whose line goes on is full: it has a cell for each column, or for all but one if the next row begins with a wide cell
+abbrev pub IsFull : ℕ → TextRow → List TextRow → Type 0
+IsFull cols row rows = (length row.cells ≡ cols) ⊎ ((length row.cells + 1 ≡ cols) × BeginsWide rows)
+
+-- no row is wider than so many columns, and each row whose line goes on is full
+abbrev pub AreFitting : ℕ → List TextRow → Type 0
+AreFitting cols [] = ⊤
+AreFitting cols (row ∷ rows) = (length row.cells ≤ cols) × (row.goes_on ≡ true → IsFull cols row rows) × AreFitting cols rows
+
+-- at 2 columns or more
+abbrev pub RowsFit : Type 0
+RowsFit = (cols : ℕ) (rows : List TextRow) → 2 ≤ cols → AreFitting cols (rewrapped cols rows)

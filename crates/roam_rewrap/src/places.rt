@@ -1,6 +1,6 @@
 //! Places in text: rows and columns, and lines and cells of them.
-ghost use Rattle.std.specs.Prelude.{◌≡◌, ◌+◌, ◌==◌, IfSome, if◌then◌else◌};
-ghost use Rattle.roam_rewrap.specs.Windows.{is_behind, is_here, place_of, position_after, position_at, position_behind, position_from, start_position};
+ghost use Rattle.std.specs.Prelude.{◌≡◌, ◌+◌, ◌==◌, false, IfNone, IfSome, if◌then◌else◌};
+ghost use Rattle.roam_rewrap.specs.Windows.{IsOver, LeavesRange, LeavesRangeAt, is_behind, is_here, place_of, position_after, position_at, position_behind, position_from, start_position};
 
 use crate::rows::Row;
 
@@ -21,6 +21,7 @@ pub struct TextPosition {
 // The position of the first column of the row behind one.
 fn position_after(position: TextPosition, row: &Row) -> Option<TextPosition>
     ensures after { IfSome result (λ after. after ≡ position_after position row.now) }
+    ensures none { IfNone result (IsOver (position_after position row.now)) }
 {
     if row.goes_on() {
         return Some(TextPosition {
@@ -37,6 +38,7 @@ fn position_after(position: TextPosition, row: &Row) -> Option<TextPosition>
 // The same while rows are left, else the position as it is.
 fn position_within(left: usize, position: TextPosition, row: &Row) -> Option<TextPosition>
     ensures within { IfSome result (λ within. within ≡ (if left == 0 then position else position_after position row.now)) }
+    ensures none { IfNone result (((left == 0) ≡ false) × IsOver (position_after position row.now)) }
 {
     if left == 0 {
         return Some(position);
@@ -47,6 +49,7 @@ fn position_within(left: usize, position: TextPosition, row: &Row) -> Option<Tex
 // The position of the first column of a row.
 fn start_of(rows: &[Row], row: usize) -> Option<TextPosition>
     ensures position { IfSome result (λ position. position ≡ position_from start_position row rows.now) }
+    ensures none { IfNone result (LeavesRange start_position row rows.now) }
 {
     let mut position = TextPosition { line: 0, cell: 0 };
     let mut left = row;
@@ -61,6 +64,7 @@ fn start_of(rows: &[Row], row: usize) -> Option<TextPosition>
 #[tactic(auto, unfolding(crate::specs::Windows::position_at))]
 fn position_at(rows: &[Row], at: ScreenPosition) -> Option<TextPosition>
     ensures position { IfSome result (λ position. position ≡ position_at rows.now at) }
+    ensures none { IfNone result (LeavesRangeAt rows.now at) }
 {
     let start = start_of(rows, at.row)?;
     Some(TextPosition {
@@ -126,9 +130,10 @@ fn place_of(rows: &[Row], position: TextPosition) -> ScreenPosition
     }
 }
 
-/// Returns the place of a text's position in its rows at another width; `None` if it is out of range.
+/// Returns the place of a text's position in its rows at another width; `None` if 64 bits do not hold its line or its cells.
 pub fn placed(all: &[Row], text: &[Row], at: ScreenPosition) -> Option<ScreenPosition>
     ensures place { IfSome result (λ place. place ≡ place_of (position_at text.now at) all.now) }
+    ensures none { IfNone result (LeavesRangeAt text.now at) }
 {
     let position = position_at(text, at)?;
     Some(place_of(all, position))

@@ -1,8 +1,9 @@
 //! The part of rows of text that a screen shows, and the place of its cursor.
-ghost use Rattle.std.specs.Prelude.{◌≡◌, ◌+◌, ◌<◌, ◌≤◌, ◌++◌, IfOk, IfSome, OnOk, length, nat_le, replicate};
+ghost use Rattle.std.specs.Prelude.{◌≡◌, ◌⊎◌, ◌+◌, ◌-◌, ◌*◌, ◌^◌, ◌<◌, ◌≤◌, ◌++◌, IfNone, IfOk, IfSome, OnOk, length, nat_le, replicate};
 ghost use Rattle.roam_cells.specs.Glyph.{blank};
 ghost use Rattle.roam_cells.specs.Limits.{IsSize};
-ghost use Rattle.roam_rewrap.specs.Windows.{column_at, leaving_rows, padded, reflow_at, reflowed, shown_cells, shown_rows};
+ghost use Rattle.roam_screens.specs.Screenshot.{IsScreenshot};
+ghost use Rattle.roam_rewrap.specs.Windows.{LeavesRangeAt, column_at, leaving_rows, padded, reflow_at, reflowed, shown_cells, shown_rows};
 
 use crate::places::{ScreenPosition, placed};
 use crate::rows::Row;
@@ -68,6 +69,7 @@ fn column_at(cols: usize, cells: &[Cell], at: ScreenPosition) -> Option<usize>
     requires cols { 2 ≤ cols }
     ensures column { IfSome result (λ col. col ≡ column_at cols cells.now at.row at.col) }
     ensures within { IfSome result (λ col. col < cols) }
+    ensures none { IfNone result (length cells.now ≤ at.row * cols + (cols - 1) ⊎ 2 ^ 64 ≤ at.row * cols + (cols - 1)) }
 {
     if at.col < cols {
         return Some(at.col);
@@ -96,6 +98,14 @@ fn shot_of(
       cursor_col = column_at cols cells.items at.row at.col + 1;
       visible = visible;
     }) }
+    ensures none { IfNone result (IsScreenshot (record {
+      rows = rows;
+      cols = cols;
+      cells = cells.items;
+      cursor_row = at.row + 1;
+      cursor_col = column_at cols cells.items at.row at.col + 1;
+      visible = visible;
+    }) → ⊥) }
 {
     let height = usize::from(rows);
     let width = usize::from(cols);
@@ -139,7 +149,8 @@ impl Reflow {
         self.pending
     }
 
-    /// Returns text at a size, with a cursor at a row and a column of it; `None` if it makes no screen, for example with a guarded cell.
+    /// Returns text at a size, with a cursor at a row and a column of it. `None` if it makes no screen, for example with a guarded cell, or if
+    /// 64 bits do not hold the cursor's line or its cells.
     pub fn of(
         alloc: Global,
         text: &[Row],
@@ -150,6 +161,8 @@ impl Reflow {
     ) -> Result<Option<Reflow>, AllocError>
         requires size { IsSize rows cols }
         ensures reflowed { IfOk result (λ made. IfSome made (λ reflow. reflow ≡ reflowed text.now cursor rows cols visible)) }
+        ensures none { IfOk result (λ made. IfNone made (LeavesRangeAt text.now cursor
+            ⊎ (IsScreenshot (reflowed text.now cursor rows cols visible).shot → ⊥))) }
     {
         let all = rewrap(alloc, text, usize::from(cols))?;
         let Some(place) = placed(&all, text, cursor) else {
@@ -169,6 +182,7 @@ impl Reflow {
     ) -> Result<Option<Reflow>, AllocError>
         requires size { IsSize rows cols }
         ensures reflowed { IfOk result (λ made. IfSome made (λ reflow. reflow ≡ reflow_at all.items place rows cols visible)) }
+        ensures none { IfOk result (λ made. IfNone made (IsScreenshot (reflow_at all.items place rows cols visible).shot → ⊥)) }
     {
         let off = leaving(&all, rows, place.row);
         let cells = cells_from(alloc, &all, off, rows, cols)?;

@@ -1,5 +1,5 @@
 -- Texts put together.
-use Rattle.std.proofs.Common.{◌≡◌, ◌<◌, ℕ, true, List, [], ◌∷◌, ◌++◌, ◌+◌, replicate, ◌-◌, length, get_or, drop, take, take_all, None, refl, sym, ap, ◌∙◌, arith, append_assoc}
+use Rattle.std.proofs.Common.{◌≡◌, ◌<◌, ℕ, Bool, true, false, List, [], ◌∷◌, ◌++◌, ◌+◌, replicate, ◌-◌, length, get_or, drop, take, take_all, None, refl, sym, ap, ◌∙◌, arith, append_assoc}
 use Rattle.std.specs.Prelude.{decimal, if◌then◌else◌}
 use Rattle.std.specs.List.{flat_map}
 use Rattle.std.specs.Fmt.{digits}
@@ -7,14 +7,15 @@ use Rattle.std.proofs.lemmas.List.{append-nil, replicate_more}
 use Rattle.std.proofs.lemmas.Bool.{ne_eqb}
 use Rattle.std.proofs.lemmas.Grind.{flat_map-append}
 use Rattle.roam_cells.specs.declared.styles.Style.{Style}
-use Rattle.roam_cells.specs.declared.styles.Colour.TheVariants.{Rgb}
+use Rattle.roam_cells.specs.declared.styles.Colour.{Colour}
+use Rattle.roam_cells.specs.declared.styles.Colour.TheVariants.{Default, Index, Rgb}
 use Rattle.roam_text.specs.declared.functions.Function.{Function}
-use Rattle.roam_term.specs.ControlFunctions.{csi, set_style, set_mixture, restyle, hide_cursor, show_cursor, erase_all}
+use Rattle.roam_term.specs.ControlFunctions.{csi, set_style, set_mixture, restyle, erase_all}
 use Rattle.roam_paint.specs.Sequences.{spelling_of, parameter_text}
 use Rattle.roam_paint.specs.Texts.{code_text}
-use Rattle.roam_paint.proofs.Spellings as spellings
 use Rattle.roam_scroll_paint.specs.declared.bands.Band.{Band}
 use Rattle.roam_scroll_paint.specs.Bands.{to_row, set_margins, reset_margins, steps, edge_row, moves_band}
+use Rattle.roam_scroll_paint.specs.Painting.{hiding, revealing}
 use Rattle.roam_scroll_paint.specs.Sequences.{text_of}
 
 pub to_row_is : (row : ℕ) → 0 < row → text_of (to_row row) ≡ 0x1B ∷ 0x5B ∷ (decimal row ++ 0x48 ∷ [])
@@ -34,20 +35,21 @@ set_margins_text b row col =
     ∙ append_assoc b (0x1B ∷ 0x5B ∷ ((decimal row ++ 0x3B ∷ []) ++ decimal col)) (0x72 ∷ [])
     ∙ ap (λ l. b ++ (0x1B ∷ 0x5B ∷ (l ++ 0x72 ∷ []))) (append_assoc (decimal row) (0x3B ∷ []) (decimal col))
 
-pub mixture_text : (t : List ℕ) (n r g b : ℕ)
-    → ((((((t ++ 0x1B ∷ 0x5B ∷ []) ++ decimal n) ++ code_text true 2) ++ code_text true r) ++ code_text true g) ++ code_text true b) ++ 0x6D ∷ []
-    ≡ t ++ flat_map text_of (set_mixture n (Rgb r g b))
-mixture_text t n r g b = spellings.mixture_text t n r g b
+mixtures-alike : (n : ℕ) (x : Colour) → flat_map spelling_of (set_mixture n x) ≡ flat_map text_of (set_mixture n x)
+mixtures-alike n Default = refl
+mixtures-alike n (Index c) = refl
+mixtures-alike n (Rgb r g b) = refl
 
-pub restyle_text : (t : List ℕ) (s : Style)
-    → ((t ++ text_of (set_style s)) ++ flat_map text_of (set_mixture 38 s.foreground)) ++ flat_map text_of (set_mixture 48 s.background)
-    ≡ t ++ flat_map text_of (restyle s)
-restyle_text t s =
-    let a = text_of (set_style s) in
-    let b = flat_map text_of (set_mixture 38 s.foreground) in
-    let c = flat_map text_of (set_mixture 48 s.background) in
-    append_assoc (t ++ a) b c ∙ append_assoc t a (b ++ c)
-    ∙ ap (λ l. t ++ (a ++ l)) (sym (flat_map-append text_of (set_mixture 38 s.foreground) (set_mixture 48 s.background)))
+-- no parameter of SGR is left out
+pub restyle_text : (s : Style) → flat_map spelling_of (restyle s) ≡ flat_map text_of (restyle s)
+restyle_text s =
+    let a = spelling_of (set_style s) in
+    let front = set_mixture 38 s.foreground in
+    let back = set_mixture 48 s.background in
+    ap (λ l. a ++ l) (flat_map-append spelling_of front back)
+    ∙ ap (λ l. a ++ (l ++ flat_map spelling_of back)) (mixtures-alike 38 s.foreground)
+    ∙ ap (λ l. a ++ (flat_map text_of front ++ l)) (mixtures-alike 48 s.background)
+    ∙ ap (λ l. a ++ l) (sym (flat_map-append text_of front back))
 
 -- ---- parameters
 
@@ -68,13 +70,23 @@ rendition_text t (p ∷ ps) some =
 
 -- ---- functions without a number
 
-pub hide_text : (t : List ℕ) → t ++ 0x1B ∷ 0x5B ∷ 0x3F ∷ 0x32 ∷ 0x35 ∷ 0x6C ∷ [] ≡ t ++ text_of hide_cursor
+hide-bytes : flat_map text_of (hiding true) ≡ 0x1B ∷ 0x5B ∷ 0x3F ∷ 0x32 ∷ 0x35 ∷ 0x6C ∷ []
 unfolding digits
-hide_text t = refl
+hide-bytes = refl
 
-pub show_text : (t : List ℕ) → t ++ 0x1B ∷ 0x5B ∷ 0x3F ∷ 0x32 ∷ 0x35 ∷ 0x68 ∷ [] ≡ t ++ text_of show_cursor
+show-bytes : (visible : Bool) → flat_map text_of (revealing true visible) ≡ (if visible then 0x1B ∷ 0x5B ∷ 0x3F ∷ 0x32 ∷ 0x35 ∷ 0x68 ∷ [] else [])
 unfolding digits
-show_text t = refl
+show-bytes true = refl
+show-bytes false = refl
+
+pub hidden_text : (body : List ℕ) (visible : Bool)
+    → ((0x1B ∷ 0x5B ∷ 0x3F ∷ 0x32 ∷ 0x35 ∷ 0x6C ∷ []) ++ body) ++ (if visible then 0x1B ∷ 0x5B ∷ 0x3F ∷ 0x32 ∷ 0x35 ∷ 0x68 ∷ [] else [])
+    ≡ flat_map text_of (hiding true) ++ (body ++ flat_map text_of (revealing true visible))
+hidden_text body visible =
+    let h = 0x1B ∷ 0x5B ∷ 0x3F ∷ 0x32 ∷ 0x35 ∷ 0x6C ∷ [] in
+    append_assoc h body (if visible then 0x1B ∷ 0x5B ∷ 0x3F ∷ 0x32 ∷ 0x35 ∷ 0x68 ∷ [] else [])
+    ∙ ap (λ l. h ++ (body ++ l)) (sym (show-bytes visible))
+    ∙ ap (λ l. l ++ (body ++ flat_map text_of (revealing true visible))) (sym hide-bytes)
 
 pub erase_all_text : (t : List ℕ) → t ++ 0x1B ∷ 0x5B ∷ 0x32 ∷ 0x4A ∷ [] ≡ t ++ flat_map text_of (erase_all ∷ [])
 unfolding digits

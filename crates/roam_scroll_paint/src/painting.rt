@@ -15,9 +15,9 @@ use crate::differences::is_same_size;
 use crate::drawing::draw_rows;
 use crate::laws::{paint_leads, painting_leads};
 use crate::renditions::push_styled_from;
-use crate::sequences::{push_hide_cursor, push_placing_at, push_preparing, push_show_cursor};
+use crate::sequences::{push_placing_at, push_preparing};
 use roam_cells::{Cell, Fault, Style};
-use roam_paint::paint;
+use roam_paint::{paint, push_hide_cursor, push_show_cursor};
 use roam_screens::Seen;
 use std::alloc::{AllocError, Global};
 
@@ -75,6 +75,7 @@ fn body_of<O: Seen, N: Seen>(
 }
 
 // Returns a text with the cursor hidden before, and shown behind if it is visible.
+#[tactic(auto, using(crate::proofs::Spelled::hidden_text))]
 fn hidden(alloc: Global, body: &[u8], visible: bool) -> Result<Vec<u8>, AllocError>
     ensures text { IfOk result (λ text. text.items
         ≡ flat_map text_of (hiding true) ++ (body.now ++ flat_map text_of (revealing true visible))) }
@@ -82,9 +83,7 @@ fn hidden(alloc: Global, body: &[u8], visible: bool) -> Result<Vec<u8>, AllocErr
     let mut text = Vec::new(alloc);
     push_hide_cursor(&mut text)?;
     text.extend_from_slice(body)?;
-    if visible {
-        push_show_cursor(&mut text)?;
-    }
+    push_show_cursor(&mut text, visible)?;
     Ok(text)
 }
 

@@ -5,9 +5,9 @@ ghost use Rattle.roam_cells.specs.Same.{same_colour, same_style};
 ghost use Rattle.roam_scroll_paint.specs.Sequences.{text_of};
 ghost use Rattle.roam_scroll_paint.specs.Styles.{flag_added, colour_words, colour_added, change_codes, ends_flag, is_default, ends_alone, adds, changing, styled_from};
 
-use crate::sequences::{push_rendition, push_restyle};
+use crate::sequences::push_rendition;
 use roam_cells::{Colour, Style};
-use roam_paint::is_same_style;
+use roam_paint::{is_same_style, push_restyle};
 use std::alloc::{AllocError, Global};
 
 fn is_same_colour(one: Colour, other: Colour) -> bool
@@ -148,6 +148,7 @@ fn adds(from: Style, to: Style, codes: &[u16]) -> bool
         && codes.len() <= 16
 }
 
+#[tactic(auto, using(crate::proofs::Spelled::restyle_text))]
 fn push_changing(text: &mut Vec<u8>, from: Style, to: Style) -> Result<(), AllocError>
     ensures text { OnOk result (text.new.items ≡ text.old.items ++ flat_map text_of (changing from to)) }
 {

@@ -1,28 +1,15 @@
 //! The text of a painter's functions.
 ghost use Rattle.std.specs.Prelude.{◌≡◌, ◌∷◌, [], ◌++◌, ◌<◌, ◌+◌, OnOk, length, replicate, true, None, IfSome};
 ghost use Rattle.std.specs.List.{flat_map};
-ghost use Rattle.roam_term.specs.ControlFunctions.{csi, place_cursor, set_style, set_mixture, restyle, erase_all, hide_cursor, show_cursor};
-ghost use Rattle.roam_paint.specs.Texts.{code_text, colour_text};
+ghost use Rattle.roam_term.specs.ControlFunctions.{csi};
+ghost use Rattle.roam_paint.specs.Texts.{code_text};
 ghost use Rattle.roam_scroll_paint.specs.Sequences.{text_of};
 ghost use Rattle.roam_scroll_paint.specs.Bands.{to_row, set_margins, reset_margins, line_feed, reverse_index, steps, edge_row, moves_band, preparing};
 ghost use Rattle.roam_scroll_paint.specs.Rows.{placing_at, erase_line};
 
 use crate::bands::Band;
-use roam_cells::{Colour, Style};
-use roam_paint::{push_code, push_number};
+use roam_paint::{push_code, push_erase_all, push_number, push_place_cursor};
 use std::alloc::AllocError;
-
-// CUP (ECMA-48 8.3.21) to a row and a column, both from 1.
-#[tactic(auto, using(roam_paint::proofs::Spellings::place_cursor_text))]
-fn push_place_cursor(text: &mut Vec<u8>, row: u16, col: u16) -> Result<(), AllocError>
-    ensures text { OnOk result (text.new.items ≡ text.old.items ++ text_of (place_cursor row col)) }
-{
-    text.extend_from_slice(b"\x1B[")?;
-    push_number(text, row)?;
-    text.extend_from_slice(b";")?;
-    push_number(text, col)?;
-    text.extend_from_slice(b"H")
-}
 
 // CUP to the first column of a row, from 1.
 #[tactic(auto, using(crate::proofs::Spelled::to_row_text))]
@@ -117,65 +104,6 @@ fn push_band(text: &mut Vec<u8>, band: Band) -> Result<(), AllocError>
     Ok(())
 }
 
-fn push_colour(text: &mut Vec<u8>, code: u16, colour: Colour) -> Result<(), AllocError>
-    ensures text { OnOk result (text.new.items ≡ text.old.items ++ colour_text code colour) }
-{
-    if let Colour::Index(n) = colour {
-        push_code(text, true, code)?;
-        push_code(text, true, 5)?;
-        push_code(text, true, u16::from(n))?;
-    }
-    Ok(())
-}
-
-// SGR (ECMA-48 8.3.117) that sets a style but for its mixtures, whatever style is set.
-fn push_set_style(text: &mut Vec<u8>, style: Style) -> Result<(), AllocError>
-    ensures text { OnOk result (text.new.items ≡ text.old.items ++ text_of (set_style style)) }
-{
-    text.extend_from_slice(b"\x1B[")?;
-    push_number(text, 0)?;
-    push_code(text, style.bold, 1)?;
-    push_code(text, style.faint, 2)?;
-    push_code(text, style.italic, 3)?;
-    push_code(text, style.underline, 4)?;
-    push_code(text, style.blink, 5)?;
-    push_code(text, style.reverse, 7)?;
-    push_code(text, style.conceal, 8)?;
-    push_code(text, style.strike, 9)?;
-    push_colour(text, 38, style.foreground)?;
-    push_colour(text, 48, style.background)?;
-    text.extend_from_slice(b"m")?;
-    Ok(())
-}
-
-// Appends SGR that sets a colour, after 38 or 48, if it is a mixture.
-#[tactic(auto, using(crate::proofs::Spelled::mixture_text))]
-fn push_mixture(text: &mut Vec<u8>, code: u16, colour: Colour) -> Result<(), AllocError>
-    ensures text { OnOk result (text.new.items ≡ text.old.items ++ flat_map text_of (set_mixture code colour)) }
-{
-    if let Colour::Rgb(red, green, blue) = colour {
-        text.extend_from_slice(b"\x1B[")?;
-        push_number(text, code)?;
-        push_code(text, true, 2)?;
-        push_code(text, true, u16::from(red))?;
-        push_code(text, true, u16::from(green))?;
-        push_code(text, true, u16::from(blue))?;
-        text.extend_from_slice(b"m")?;
-    }
-    Ok(())
-}
-
-/// SGR that sets a style, whatever style is set: its mixtures by sequences of their own.
-#[tactic(auto, using(crate::proofs::Spelled::restyle_text))]
-pub fn push_restyle(text: &mut Vec<u8>, style: Style) -> Result<(), AllocError>
-    ensures text { OnOk result (text.new.items ≡ text.old.items ++ flat_map text_of (restyle style)) }
-{
-    push_set_style(text, style)?;
-    push_mixture(text, 38, style.foreground)?;
-    push_mixture(text, 48, style.background)?;
-    Ok(())
-}
-
 // Further parameters.
 fn push_codes(text: &mut Vec<u8>, codes: &[u16]) -> Result<(), AllocError>
     ensures text { OnOk result (text.new.items ≡ text.old.items ++ flat_map (code_text true) codes.now) }
@@ -206,37 +134,14 @@ pub fn push_erase_line(text: &mut Vec<u8>) -> Result<(), AllocError>
     text.extend_from_slice(b"\x1B[K")
 }
 
-/// The cursor is hidden (DECTCEM, VT220 Programmer Reference).
-#[tactic(auto, using(crate::proofs::Spelled::hide_text))]
-pub fn push_hide_cursor(text: &mut Vec<u8>) -> Result<(), AllocError>
-    ensures text { OnOk result (text.new.items ≡ text.old.items ++ text_of hide_cursor) }
-{
-    text.extend_from_slice(b"\x1B[?25l")
-}
-
-/// The cursor is shown (DECTCEM, VT220 Programmer Reference).
-#[tactic(auto, using(crate::proofs::Spelled::show_text))]
-pub fn push_show_cursor(text: &mut Vec<u8>) -> Result<(), AllocError>
-    ensures text { OnOk result (text.new.items ≡ text.old.items ++ text_of show_cursor) }
-{
-    text.extend_from_slice(b"\x1B[?25h")
-}
-
-// ED 2 (ECMA-48 8.3.39).
-#[tactic(auto, using(crate::proofs::Spelled::erase_all_text))]
-fn push_erase_all(text: &mut Vec<u8>) -> Result<(), AllocError>
-    ensures text { OnOk result (text.new.items ≡ text.old.items ++ flat_map text_of (erase_all ∷ [])) }
-{
-    text.extend_from_slice(b"\x1B[2J")
-}
-
 /// Appends the text before all rows: a band moves, or if sizes differ all is erased.
+#[tactic(auto, using(crate::proofs::Spelled::erase_all_text))]
 pub fn push_preparing(text: &mut Vec<u8>, same: bool, band: Option<Band>) -> Result<(), AllocError>
     requires band { IfSome band (λ b. b.top + 1 < b.bottom) }
     ensures text { OnOk result (text.new.items ≡ text.old.items ++ flat_map text_of (preparing same band)) }
 {
     if !same {
-        return push_erase_all(text);
+        return push_erase_all(text, same);
     }
     match band {
         Some(band) => push_band(text, band),
