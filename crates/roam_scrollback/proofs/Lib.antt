@@ -10,3 +10,5 @@ pub mod Standing
 pub mod Leading
 pub mod Following
 pub mod Bringing
+pub mod Pending
+pub mod Beginning

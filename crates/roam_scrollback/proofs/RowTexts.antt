@@ -5,14 +5,17 @@ use Rattle.std.specs.Char.{encode_utf8}
 use Rattle.std.proofs.lemmas.List.{take_more, length-take-le, append-nil, take-append-le}
 use Rattle.std.proofs.lemmas.List.Concat.{flat_map-append}
 use Rattle.std.proofs.lemmas.Bool.{ne_eqb}
-use Rattle.roam_cells.specs.Glyph.{Glyph, is_right_half, blank, default_style}
+use Rattle.roam_cells.specs.Glyph.{Glyph, is_right_half, blank}
 use Rattle.roam_cells.specs.Same.{same}
 use Rattle.roam_cells.specs.declared.styles.Style.{Style}
 use Rattle.roam_cells.proofs.SameCells.{glyph_same}
 use Rattle.roam_paint.specs.Painting.{styling}
 use Rattle.roam_paint.specs.Sequences.{spelling_of}
 use Rattle.roam_text.specs.declared.functions.Function.TheVariants.{Print}
-use Rattle.roam_scrollback.specs.RowText.{used, cell_words, row_words, row_text, line_text}
+use Rattle.roam_scrollback.specs.RowText.{used, cell_words, line_text, row_text, text_cells, text_of, without_blank}
+use Rattle.roam_scrollback.specs.Wraps.{is_on}
+use Rattle.roam_scrollback.specs.declared.wraps.Wrap.{Wrap}
+use Rattle.roam_scrollback.specs.declared.wraps.Wrap.TheVariants.{Ends, Full, Early}
 
 -- a blank cell at the end isn't in use
 used-blank : (xs : List Glyph) → used (xs ++ blank ∷ []) ≡ used xs
@@ -62,14 +65,16 @@ pub used-few : (xs : List Glyph) → used xs ≤ length xs
 used-few [] = omega arith
 used-few (x ∷ xs) = counted (eqb (used xs) 0 && same x blank) (used xs) (length xs) (used-few xs)
 
--- blanks at the end of a row that doesn't go on have no text
-text-blanks : (xs : List Glyph) (n : ℕ) → row_text false (xs ++ replicate n blank) ≡ row_text false xs
-unfolding row_text
-text-blanks xs n =
-    ap (λ k. flat_map spelling_of (row_words default_style (take k (xs ++ replicate n blank)))) (used-blanks xs n)
-    ∙ ap (λ l. flat_map spelling_of (row_words default_style l)) (take-append-le (used xs) xs (replicate n blank) (used-few xs))
+-- blanks at the end of a row that ends are no text
+pub text-blanks : (wrap : Wrap) (xs : List Glyph) (n : ℕ) → (is_on wrap ≡ true → n ≡ 0) → text_cells wrap (xs ++ replicate n blank) ≡ text_cells wrap xs
+text-blanks Ends xs n none =
+    ap (λ k. take k (xs ++ replicate n blank)) (used-blanks xs n) ∙ take-append-le (used xs) xs (replicate n blank) (used-few xs)
+text-blanks Full xs n none = ap (λ k. xs ++ replicate k blank) (none refl) ∙ append-nil xs
+text-blanks Early xs n none = ap (λ k. without_blank (xs ++ replicate k blank)) (none refl) ∙ ap without_blank (append-nil xs)
 
-pub line-blanks : (on : Bool) (xs : List Glyph) (n : ℕ) → (on ≡ true → n ≡ 0) → line_text on (xs ++ replicate n blank) ≡ line_text on xs
-line-blanks true xs n none =
-    ap (λ k. line_text true (xs ++ replicate k blank)) (none refl) ∙ ap (line_text true) (append-nil xs)
-line-blanks false xs n none = ap (λ l. 0x20 ∷ (l ++ 0x0A ∷ [])) (text-blanks xs n)
+row-blanks : (wrap : Wrap) (xs : List Glyph) (n : ℕ) → (is_on wrap ≡ true → n ≡ 0) → row_text wrap (xs ++ replicate n blank) ≡ row_text wrap xs
+unfolding row_text
+row-blanks wrap xs n none = ap text_of (text-blanks wrap xs n none)
+
+pub line-blanks : (wrap : Wrap) (xs : List Glyph) (n : ℕ) → (is_on wrap ≡ true → n ≡ 0) → line_text wrap (xs ++ replicate n blank) ≡ line_text wrap xs
+line-blanks wrap xs n none = ap (λ l. cond (is_on wrap) 0x2B 0x20 ∷ (l ++ 0x0A ∷ [])) (row-blanks wrap xs n none)

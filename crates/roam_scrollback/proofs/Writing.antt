@@ -1,42 +1,41 @@
 -- Lines of rows that are written one after another.
-use Rattle.std.proofs.Common.{◌≡◌, true, ◌⊎◌, inl, inr, ℕ, ◌+◌, ◌≤◌, List, min, [], ◌∷◌, ◌++◌, length, take, take_all, replicate, length-append, refl, sym, ap, subst, ◌∙◌, arith, append_assoc}
+use Rattle.std.proofs.Common.{◌≡◌, true, ◌⊎◌, inl, inr, ℕ, ◌+◌, ◌≤◌, ◌<◌, List, min, [], ◌∷◌, ◌++◌, length, take, take_all, replicate, length-append, refl, sym, ap, ◌∙◌, arith, append_assoc}
 use Rattle.std.specs.List.{flat_map}
 use Rattle.std.proofs.lemmas.Bool.{cases_lt}
 use Rattle.std.proofs.lemmas.List.{append-nil, take-append-le}
 use Rattle.std.proofs.lemmas.List.Concat.{flat_map-append}
 use Rattle.std.proofs.Math.Seq.{take-append-add}
 use Rattle.roam_cells.specs.Glyph.{Glyph, blank}
-use Rattle.roam_rewrap.specs.Lines.{TextRow}
-use Rattle.roam_scrollback.specs.Lines.{Keeps, LeftRow, LinesView, line_of, most_lost, Writes}
+use Rattle.roam_scrollback.specs.Lines.{LeftRow, LinesView, line_of, most_kept, most_lost, newest, text_row, Writes}
 use Rattle.roam_scrollback.specs.RowText.{line_text}
 use Rattle.roam_scrollback.specs.Wraps.{is_on}
 use Rattle.roam_scrollback.specs.declared.wraps.Wrap.{Wrap}
-use Rattle.roam_scrollback.proofs.Keeping.{keeps-all, keeps-none, keeps-then}
+use Rattle.roam_scrollback.proofs.Keeping.{keeps-all, keeps-then, newest-twice}
 use Rattle.roam_scrollback.proofs.RowTexts.{line-blanks}
 
 -- a row that was lent without blanks at its end was written
-pub wrote : (old mid new : LinesView) (wrap : Wrap) (xs : List Glyph) (n : ℕ) → (is_on wrap ≡ true → n ≡ 0) → old.lost ≡ 0
-    → mid ≡ record old { text = old.text ++ line_text (is_on wrap) xs; count = old.count + 1 }
-    → new ≡ record mid { kept = new.kept }
-    → Keeps mid.kept (record { wrap = wrap; cells = xs ++ replicate n blank } ∷ []) new.kept
+pub wrote : (old new : LinesView) (wrap : Wrap) (xs : List Glyph) (n : ℕ) → (is_on wrap ≡ true → n ≡ 0) → old.lost ≡ 0
+    → new ≡ record old { text = old.text ++ line_text wrap xs; count = old.count + 1; kept = new.kept }
+    → new.kept ≡ newest most_kept (old.kept ++ text_row (record { wrap = wrap; cells = xs ++ replicate n blank }) ∷ [])
     → Writes old new (record { wrap = wrap; cells = xs ++ replicate n blank } ∷ [])
-wrote old mid new wrap xs n full none is same keeps = record {
+wrote old new wrap xs n full none is keeps = record {
   written = 1;
   few = omega arith;
   text =
-      ap (λ (v : LinesView). v.text) same ∙ ap (λ (v : LinesView). v.text) is
-      ∙ ap (λ l. old.text ++ l) (sym (append-nil (line_text (is_on wrap) xs)))
-      ∙ ap (λ l. old.text ++ (l ++ [])) (sym (line-blanks (is_on wrap) xs n full));
-  count = ap (λ (v : LinesView). v.count) same ∙ ap (λ (v : LinesView). v.count) is;
-  lost = ap (λ (v : LinesView). v.lost) same ∙ ap (λ (v : LinesView). v.lost) is ∙ omega (arith, none);
+      ap (λ (v : LinesView). v.text) is
+      ∙ ap (λ l. old.text ++ l) (sym (append-nil (line_text wrap xs)))
+      ∙ ap (λ l. old.text ++ (l ++ [])) (sym (line-blanks wrap xs n full));
+  count = ap (λ (v : LinesView). v.count) is;
+  lost = ap (λ (v : LinesView). v.lost) is ∙ omega (arith, none);
   none = λ p. absurd (omega (arith, p, none));
-  kept =
-      subst (λ (kept : List TextRow). Keeps kept (record { wrap = wrap; cells = xs ++ replicate n blank } ∷ []) new.kept)
-      (ap (λ (v : LinesView). v.kept) is) keeps;
+  kept = λ _. ap (newest most_kept) keeps
+      ∙ newest-twice most_kept (old.kept ++ text_row (record { wrap = wrap; cells = xs ++ replicate n blank }) ∷ []);
+  none_kept = λ h. absurd (omega (arith, h));
+  same_kept = λ e. cc;
 }
 
 -- a row was lost
-pub lost-one : (old mid new : LinesView) (row : LeftRow) → mid ≡ old
+pub lost-one : (old mid new : LinesView) (row : LeftRow) → mid ≡ record old { kept = mid.kept }
     → new ≡ record mid { lost = min most_lost (mid.lost + 1); kept = [] } → Writes old new (row ∷ [])
 lost-one old mid new row same is = record {
   written = 0;
@@ -45,9 +44,9 @@ lost-one old mid new row same is = record {
   count = ap (λ (v : LinesView). v.count) is ∙ ap (λ (v : LinesView). v.count) same ∙ omega arith;
   lost = ap (λ (v : LinesView). v.lost) is ∙ ap (λ (v : LinesView). min most_lost (v.lost + 1)) same;
   none = λ _. refl;
-  kept =
-      subst (λ (kept : List TextRow). Keeps old.kept (row ∷ []) kept) (sym (ap (λ (v : LinesView). v.kept) is))
-      (keeps-none old.kept (row ∷ []));
+  kept = λ h. let lost = ap (λ (v : LinesView). v.lost) is in absurd (omega (arith, lost, h));
+  none_kept = λ _. ap (λ (v : LinesView). v.kept) is;
+  same_kept = λ e. cc;
 }
 
 -- nothing came
@@ -59,7 +58,9 @@ writes-none v fits = record {
   count = omega arith;
   lost = omega (arith, fits);
   none = λ p. refl;
-  kept = keeps-all v.kept;
+  kept = λ _. keeps-all v.kept;
+  none_kept = λ h. absurd (omega (arith, h));
+  same_kept = λ _. refl;
 }
 
 -- all of the first part, or nothing of the second
@@ -83,6 +84,26 @@ module _ (a b c : LinesView) (xs ys : List LeftRow) (p : Writes a b xs) (q : Wri
   long : length (xs ++ ys) ≡ length xs + length ys
   long = length-append xs ys
 
+  nothing : (xs ys : List LeftRow) → xs ++ ys ≡ [] → (xs ≡ []) × (ys ≡ [])
+  nothing [] ys e = (refl, e)
+  nothing (x ∷ xs) ys e = cc
+
+  empty : (ys : List LeftRow) → length ys ≡ 0 → ys ≡ []
+  empty [] e = refl
+  empty (y ∷ ys) e = absurd (omega (arith, e))
+
+  -- a row of either part was lost
+  unkept : p.written + q.written < length xs + length ys → c.kept ≡ []
+  unkept less = elim (cases_lt q.written (length ys)) [
+    | inl h ↦ q.none_kept h
+    | inr h ↦ q.same_kept (empty ys (all-lost h)) ∙ p.none_kept (omega (arith, less, h, q.few))
+  ]
+    where
+      all-lost : length ys ≤ q.written → length ys ≡ 0
+      all-lost h =
+          let first : p.written < length xs = omega (arith, less, h, q.few) in
+          let none = q.none (omega (arith, p.lost, first)) in omega (arith, h, none)
+
   pub writes-then : Writes a c (xs ++ ys)
   writes-then = record {
     written = p.written + q.written;
@@ -95,5 +116,7 @@ module _ (a b c : LinesView) (xs ys : List LeftRow) (p : Writes a b xs) (q : Wri
     count = omega (arith, p.count, q.count);
     lost = omega (arith, p.lost, q.lost, long, p.few, q.few);
     none = λ h. omega (arith, p.none h, q.none (omega (arith, h, p.lost)));
-    kept = keeps-then a.kept b.kept c.kept xs ys p.kept q.kept;
+    kept = λ h. keeps-then a.kept b.kept c.kept xs ys (p.kept (omega (arith, h, q.lost))) (q.kept h);
+    none_kept = λ h. unkept (omega (arith, h, long));
+    same_kept = λ e. q.same_kept (nothing xs ys e).1 ∙ p.same_kept (nothing xs ys e).0;
   }

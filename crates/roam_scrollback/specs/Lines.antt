@@ -20,7 +20,7 @@ rows_with (row ∷ rows) wraps = record { wrap = wrap_at wraps 0; cells = row } 
 
 -- the line of a row that left
 abbrev pub line_of : LeftRow → List ℕ
-line_of row = line_text (is_on row.wrap) row.cells
+line_of row = line_text row.wrap row.cells
 
 -- a row that left, as far as it is text
 abbrev pub text_row : LeftRow → TextRow
@@ -30,10 +30,17 @@ text_row row = record { goes_on = is_on row.wrap; cells = text_cells row.wrap ro
 abbrev pub left_of : TextRow → LeftRow
 left_of row = record { wrap = if row.goes_on then Full else Ends; cells = row.cells }
 
--- rows came; of all that were kept and came, the last are kept
-pub record Keeps (old : List TextRow) (rows : List LeftRow) (new : List TextRow) : Type 0 where
-  pub gone : List TextRow
-  pub is : gone ++ new ≡ old ++ map text_row rows
+-- so many rows are kept at most
+abbrev pub most_kept : ℕ
+most_kept = 200
+
+-- the last so many rows of some
+abbrev pub newest : ℕ → List TextRow → List TextRow
+newest n rows = drop (length rows - n) rows
+
+-- rows came: the newest 200 are those of all that were kept and came
+abbrev pub Keeps : List TextRow → List LeftRow → List TextRow → Type 0
+Keeps old rows new = newest most_kept new ≡ newest most_kept (old ++ map text_row rows)
 
 -- the view of written lines: their bytes, their number, the number of rows for which memory was refused, and the last rows that left, as
 -- text
@@ -63,7 +70,8 @@ many = 65536
 abbrev pub is_full : LinesView → Bool
 is_full v = nat_le many (length v.text) || nat_lt 0 v.lost
 
--- rows came: the first of them are written, as many as there was memory for, and none behind one that is lost
+-- Rows came. The first of them are written, as many as there was memory for, and none behind one that is lost. If none is lost, the newest
+-- are kept; if one of these rows is lost, none is.
 pub record Writes (old new : LinesView) (rows : List LeftRow) : Type 0 where
   pub written : ℕ
   pub few : written ≤ length rows
@@ -71,4 +79,6 @@ pub record Writes (old new : LinesView) (rows : List LeftRow) : Type 0 where
   pub count : new.count ≡ old.count + written
   pub lost : new.lost ≡ min most_lost (old.lost + (length rows - written))
   pub none : 0 < old.lost → written ≡ 0
-  pub kept : Keeps old.kept rows new.kept
+  pub kept : new.lost ≡ 0 → Keeps old.kept rows new.kept
+  pub none_kept : written < length rows → new.kept ≡ []
+  pub same_kept : rows ≡ [] → new.kept ≡ old.kept

@@ -1,8 +1,9 @@
 -- The main screen at another size, with its text whole. The kept rows that left and the screen's rows are text, which wraps at the new
 -- width (this project's profile).
-use Rattle.std.specs.Prelude.{◌≡◌, ℕ, zero, suc, ◌+◌, ◌-◌, ◌==◌, ◌&&◌, ◌<◌, ◌≤◌, max, not, Bool, true, false, List, [], ◌∷◌, ◌++◌, codes, drop, length, map, take, None, if◌then◌else◌}
+use Rattle.std.specs.Prelude.{◌≡◌, ◌⊎◌, ℕ, zero, suc, ◌+◌, ◌-◌, ◌==◌, ◌&&◌, ◌<◌, ◌≤◌, max, not, Bool, true, false, List, [], ◌∷◌, ◌++◌, codes, drop, length, map, take, None, if◌then◌else◌}
 use Rattle.roam_cells.specs.Glyph.{Glyph, IsStyle}
 use Rattle.roam_cells.specs.Place.{cell_at, row_of}
+use Rattle.roam_charset.specs.Sets.{set_in}
 use Rattle.roam_charset.specs.declared.charsets.Charset.TheVariants.{Ascii}
 use Rattle.roam_charset.specs.declared.sets.Element.TheVariants.{G0}
 use Rattle.roam_controls.specs.declared.modes.Modes.{Modes}
@@ -22,7 +23,7 @@ use Rattle.roam_term.specs.Terminal.{Live, live_after, sized_to}
 use Rattle.roam_text.specs.Functions.{functions_of}
 use Rattle.roam_text.specs.Log.{Item, Byte, Resized}
 use Rattle.roam_text.specs.Resting.{AtRest}
-use Rattle.roam_text.specs.Stands.{Stands as Reads}
+use Rattle.roam_text.specs.Stands.{IsAtRest, Stands as Reads}
 use Rattle.roam_text.specs.declared.functions.Function.{Function}
 
 -- ---- the screen as text
@@ -78,6 +79,7 @@ pub record IsRewrapText (l : Live) (reflow : ReflowView) (text : List ℕ) : Typ
   pub wraps : repaint.wraps ≡ l.modes.autowrap
   pub asked : repaint.pending ≡ true → reflow.pending ≡ true
   pub pends : repaint.pending ≡ true → MayPend repaint
+  pub due : reflow.pending ≡ true → MayPend repaint → repaint.pending ≡ true
   pub is : text ≡ opening ++ (repaint_text repaint ++ closing l.modes)
 
 -- ---- the whole
@@ -93,6 +95,12 @@ pub record Follows (old new : SourceView) (items : List Item) (log : List Item) 
 abbrev pub text_from : ℕ → ℕ → List TextRow → Live → List Wrap → List TextRow
 text_from first height kept l wraps = drop first (kept ++ screen_text height l.screen wraps)
 
+-- whether a line begins behind some rows: there are none, or the last of them ends its line
+abbrev pub begins_line : List TextRow → Bool
+begins_line [] = true
+begins_line (row ∷ []) = not row.goes_on
+begins_line (row ∷ next ∷ rows) = begins_line (next ∷ rows)
+
 -- The screen of a terminal with its main screen at another size, the number of kept rows that stay away and that come back, and the text
 -- that paints that screen.
 pub record IsPrepared (l : Live) (wraps : List Wrap) (kept : List TextRow) (rows cols first back : ℕ) (reflow : ReflowView)
@@ -100,6 +108,8 @@ pub record IsPrepared (l : Live) (wraps : List Wrap) (kept : List TextRow) (rows
   pub height : ℕ
   pub is_height : IsHeight l.screen height
   pub counted : first + back ≡ length kept
+  pub blank : height < l.screen.rows → back ≡ 0
+  pub line : height ≡ l.screen.rows → begins_line (take first (kept ++ screen_text height l.screen wraps)) ≡ true
   pub is : reflow ≡ reflowed (text_from first height kept l wraps)
       (record { row = back + l.screen.row; col = columns_before l.screen }) rows cols l.modes.cursor_visible
   pub brings : IsRewrapText l reflow text
@@ -116,6 +126,13 @@ pub record IsRewrapped (old new : SourceView) (lines lines' : LinesView) (rows c
   pub follows : (log : List Item) → Reads old.reader log → Follows old new (Resized rows cols ∷ map Byte text) log
   pub wraps : new.wraps ≡ wraps_of cols (shown_rows rows reflow.off reflow.rows)
   pub written : Writes (record lines { kept = take first lines.kept }) lines' (map left_of (take reflow.off reflow.rows))
+
+-- A source can't take the text of a screen yet. It is within a sequence or a character; or its main screen is shown, and the next character
+-- isn't ASCII.
+abbrev pub IsLater : SourceView → Type 0
+IsLater s =
+    (¬ IsAtRest s.reader)
+    ⊎ ((s.live.alternate ≡ false) × (¬ ((set_in s.live.sets.locked s.live.sets ≡ Ascii) × (s.live.sets.single ≡ None))))
 
 -- ---- the law
 
@@ -161,6 +178,13 @@ RewrapKeepsLines =
     → lines_of (take is.reflow.off is.reflow.rows
     ++ (shown_rows rows is.reflow.off is.reflow.rows ++ drop rows (drop is.reflow.off is.reflow.rows)))
     ≡ lines_of (text_from is.first is.prepared.height lines.kept old.live old.wraps)
+
+-- a wrap is pending behind the text of a rewrap exactly if the cursor is behind all columns of its row, and lines wrap
+abbrev pub RewrapPends : Type 0
+RewrapPends =
+    (l : Live) (wraps : List Wrap) (kept : List TextRow) (rows cols first back : ℕ) (reflow : ReflowView) (text : List ℕ)
+    → (prepared : IsPrepared l wraps kept rows cols first back reflow text)
+    → prepared.brings.repaint.pending ≡ (reflow.pending && l.modes.autowrap)
 
 -- ---- the same text on another terminal
 

@@ -1,5 +1,5 @@
 -- A row as the text that paints it: from the default style and the first column of a blank row.
-use Rattle.std.specs.Prelude.{ℕ, ◌+◌, ◌-◌, ◌==◌, ◌&&◌, Bool, List, [], ◌∷◌, ◌++◌, length, map, take, if◌then◌else◌}
+use Rattle.std.specs.Prelude.{ℕ, ◌+◌, ◌-◌, ◌==◌, ◌&&◌, List, [], ◌∷◌, ◌++◌, length, map, take, if◌then◌else◌}
 use Rattle.std.specs.List.{flat_map}
 use Rattle.roam_cells.specs.Glyph.{Glyph, is_right_half, blank, default_style}
 use Rattle.roam_cells.specs.Place.{glyph_at}
@@ -7,6 +7,7 @@ use Rattle.roam_cells.specs.Same.{same}
 use Rattle.roam_cells.specs.declared.styles.Style.{Style}
 use Rattle.roam_paint.specs.Painting.{styling}
 use Rattle.roam_paint.specs.Sequences.{spelling_of}
+use Rattle.roam_scrollback.specs.Wraps.{is_on}
 use Rattle.roam_scrollback.specs.declared.wraps.Wrap.{Wrap}
 use Rattle.roam_scrollback.specs.declared.wraps.Wrap.TheVariants.{Ends, Full, Early}
 use Rattle.roam_text.specs.declared.functions.Function.{Function}
@@ -34,14 +35,6 @@ row_words g (x ∷ xs) = cell_words g x ++ row_words (style_behind g x) xs
 abbrev pub text_of : List Glyph → List ℕ
 text_of cells = flat_map spelling_of (row_words default_style cells)
 
--- the text of a row: all its columns if it goes on in the next, since blanks at its end belong to it; else the columns in use
-unfoldable pub row_text : Bool → List Glyph → List ℕ
-row_text on row = if on then text_of row else text_of (take (used row) row)
-
--- the line of a row: + if autowrap went on from it, else a space, and then its text
-abbrev pub line_text : Bool → List Glyph → List ℕ
-line_text on row = (if on then 0x2B else 0x20) ∷ (row_text on row ++ 0x0A ∷ [])
-
 -- cells without a blank at their end
 unfoldable pub without_blank : List Glyph → List Glyph
 without_blank cells = if same (glyph_at cells (length cells - 1)) blank then take (length cells - 1) cells else cells
@@ -51,3 +44,11 @@ abbrev pub text_cells : Wrap → List Glyph → List Glyph
 text_cells Ends cells = take (used cells) cells
 text_cells Full cells = cells
 text_cells Early cells = without_blank cells
+
+-- the text of a row: that of its cells that are text
+unfoldable pub row_text : Wrap → List Glyph → List ℕ
+row_text wrap row = text_of (text_cells wrap row)
+
+-- the line of a row: + if autowrap went on from it, else a space, and then its text
+abbrev pub line_text : Wrap → List Glyph → List ℕ
+line_text wrap row = (if is_on wrap then 0x2B else 0x20) ∷ (row_text wrap row ++ 0x0A ∷ [])

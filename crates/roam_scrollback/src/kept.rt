@@ -1,7 +1,7 @@
 //! The last rows that left, as text.
-ghost use Rattle.std.specs.Prelude.{◌≡◌, ◌∷◌, ◌++◌, ℕ, [], true, length, replicate, take, OnOk};
+ghost use Rattle.std.specs.Prelude.{◌≡◌, ◌≤◌, ◌∷◌, ◌++◌, ℕ, [], true, length, replicate, take, OnOk};
 ghost use Rattle.roam_cells.specs.Glyph.{blank};
-ghost use Rattle.roam_scrollback.specs.Lines.{Keeps};
+ghost use Rattle.roam_scrollback.specs.Lines.{most_kept, newest, text_row};
 ghost use Rattle.roam_scrollback.specs.Wraps.{is_on};
 
 use crate::row_texts::text_cells;
@@ -15,7 +15,7 @@ use std::marker::Model;
 /// So many rows are kept at most.
 pub const MOST_KEPT: usize = 200;
 
-/// The last rows that left, as text, the oldest first: at most 200, and none if memory runs out.
+/// The last rows that left, as text, the oldest first: at most 200.
 #[derive(Drop)]
 pub struct RecentRows {
     alloc: Global,
@@ -23,12 +23,15 @@ pub struct RecentRows {
 }
 
 impl Model for RecentRows {
-    ghost use Rattle.std.specs.Prelude.{List};
+    ghost use Rattle.std.specs.Prelude.{◌≤◌, List, length};
     ghost use Rattle.roam_rewrap.specs.Lines.{TextRow};
+    ghost use Rattle.roam_scrollback.specs.Lines.{most_kept};
 
     ghost Value = { List TextRow };
 
     ghost view = { λ a. a.rows.items };
+
+    ghost invariant = { λ a. length a.rows.items ≤ most_kept };
 }
 
 // Adds the same rows once more.
@@ -50,6 +53,13 @@ impl RecentRows {
             alloc,
             rows: VecDeque::new(alloc),
         }
+    }
+
+    /// Proves the fact about all kept rows: how many there are at most.
+    pub fn facts(&self)
+        ensures few { length self.now ≤ most_kept }
+    {
+        let _ = &self.rows;
     }
 
     /// How many they are.
@@ -84,30 +94,22 @@ impl RecentRows {
 
     // Removes the oldest row if there are as many as may be.
     fn make_room(&mut self)
-        ensures last { Keeps self.old [] self.new }
+        ensures newest { self.new ≡ newest 199 self.old }
     {
         if MOST_KEPT <= self.rows.len() {
             let _ = self.rows.pop_front();
         }
     }
 
-    fn add(&mut self, wrap: Wrap, front: &[Cell]) -> Result<(), AllocError>
-        ensures added { OnOk result ((n : ℕ) → (is_on wrap ≡ true → n ≡ 0)
-            → Keeps self.old (record { wrap = wrap; cells = front.now ++ replicate n blank } ∷ []) self.new) }
+    /// Adds a row that left, in place of the oldest one if 200 are kept. It may be lent without some of the blanks at its end if it ends.
+    /// After `AllocError` it is not kept, and the oldest one may be gone.
+    pub fn push(&mut self, wrap: Wrap, front: &[Cell]) -> Result<(), AllocError>
+        ensures kept { OnOk result ((n : ℕ) → (is_on wrap ≡ true → n ≡ 0)
+            → self.new ≡ newest most_kept (self.old ++ text_row (record { wrap = wrap; cells = front.now ++ replicate n blank }) ∷ [])) }
     {
         let row = Row::new(self.alloc, wrap.is_on(), text_cells(wrap, front))?;
         self.make_room();
         self.rows.push_back(row)?;
         Ok(())
-    }
-
-    /// A row left, which may be lent without some of the blanks at its end if it ends. Without memory no row is kept.
-    pub fn push(&mut self, wrap: Wrap, front: &[Cell])
-        ensures last { (n : ℕ) → (is_on wrap ≡ true → n ≡ 0)
-            → Keeps self.old (record { wrap = wrap; cells = front.now ++ replicate n blank } ∷ []) self.new }
-    {
-        if self.add(wrap, front).is_err() {
-            self.rows.clear();
-        }
     }
 }

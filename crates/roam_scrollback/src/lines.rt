@@ -1,7 +1,7 @@
 //! Rows that left, as lines that wait to be written somewhere.
-ghost use Rattle.std.specs.Prelude.{◌≡◌, ◌≤◌, ◌+◌, ◌∷◌, ◌++◌, ℕ, [], true, map, min, replicate, take, OnOk, OnErr};
+ghost use Rattle.std.specs.Prelude.{◌≡◌, ◌≤◌, ◌+◌, ◌∷◌, ◌++◌, ℕ, [], true, length, map, min, replicate, take, OnOk, OnErr};
 ghost use Rattle.roam_cells.specs.Glyph.{blank};
-ghost use Rattle.roam_scrollback.specs.Lines.{Keeps, Writes, is_full, left_of, most_lost, no_lines};
+ghost use Rattle.roam_scrollback.specs.Lines.{Writes, is_full, left_of, most_kept, most_lost, newest, no_lines, text_row};
 ghost use Rattle.roam_scrollback.specs.RowText.{line_text};
 ghost use Rattle.roam_scrollback.specs.Wraps.{is_on};
 
@@ -54,10 +54,12 @@ impl LeftLines {
         }
     }
 
-    /// Proves the facts about all lines: how many lost rows are counted.
+    /// Proves the facts about all lines: how many lost rows are counted, and how many rows are kept.
     pub fn facts(&self)
         ensures lost { self.now.lost ≤ most_lost }
+        ensures few { length self.now.kept ≤ most_kept }
     {
+        self.kept.facts();
         let _ = &self.lost;
     }
 
@@ -122,27 +124,44 @@ impl LeftLines {
     }
 
     // Adds the line of a row.
-    fn add(&mut self, goes_on: bool, row: &[Cell]) -> Result<(), AllocError>
+    fn add(&mut self, wrap: Wrap, row: &[Cell]) -> Result<(), AllocError>
         ensures added { OnOk result (self.new ≡ record self.old {
-          text = self.old.text ++ line_text goes_on row.now;
+          text = self.old.text ++ line_text wrap row.now;
           count = self.old.count + 1;
         }) }
         ensures err { OnErr result (self.new ≡ self.old) }
     {
         self.line.clear();
-        push_line(&mut self.line, goes_on, row)?;
+        push_line(&mut self.line, wrap, row)?;
         self.text.extend_from_slice(&self.line)?;
         self.count += 1;
         Ok(())
     }
 
-    // A row is kept, as text.
-    fn keep(&mut self, wrap: Wrap, front: &[Cell])
+    // Keeps a row as text. After `AllocError` other rows may be kept.
+    fn keep(&mut self, wrap: Wrap, front: &[Cell]) -> Result<(), AllocError>
         ensures lines { self.new ≡ record self.old { kept = self.new.kept } }
-        ensures kept { (n : ℕ) → (is_on wrap ≡ true → n ≡ 0)
-            → Keeps self.old.kept (record { wrap = wrap; cells = front.now ++ replicate n blank } ∷ []) self.new.kept }
+        ensures kept { OnOk result ((n : ℕ) → (is_on wrap ≡ true → n ≡ 0)
+            → self.new.kept
+            ≡ newest most_kept (self.old.kept ++ text_row (record { wrap = wrap; cells = front.now ++ replicate n blank }) ∷ [])) }
     {
-        self.kept.push(wrap, front);
+        self.kept.push(wrap, front)
+    }
+
+    // Keeps a row as text, and adds its line. After `AllocError` other rows may be kept.
+    fn keep_and_add(&mut self, wrap: Wrap, front: &[Cell]) -> Result<(), AllocError>
+        ensures added { OnOk result (self.new ≡ record self.old {
+          text = self.old.text ++ line_text wrap front.now;
+          count = self.old.count + 1;
+          kept = self.new.kept;
+        }) }
+        ensures kept { OnOk result ((n : ℕ) → (is_on wrap ≡ true → n ≡ 0)
+            → self.new.kept
+            ≡ newest most_kept (self.old.kept ++ text_row (record { wrap = wrap; cells = front.now ++ replicate n blank }) ∷ [])) }
+        ensures err { OnErr result (self.new ≡ record self.old { kept = self.new.kept }) }
+    {
+        self.keep(wrap, front)?;
+        self.add(wrap, front)
     }
 
     // A row is lost, and no row is kept.
@@ -153,15 +172,14 @@ impl LeftLines {
         self.lost = self.lost.saturating_add(1);
     }
 
-    /// A row left, which may be lent without some of the blanks at its end if it ends. Where there is no memory for its line it
-    /// is lost, and so is each that comes after it, until the lines are taken.
+    /// A row left, which may be lent without some of the blanks at its end if it ends. If there is no memory for it as text or for its line,
+    /// it is lost, and so is each that comes after it, until the lines are taken.
     pub fn push(&mut self, wrap: Wrap, front: &[Cell])
         ensures written { (n : ℕ) → (is_on wrap ≡ true → n ≡ 0)
             → Writes self.old self.new (record { wrap = wrap; cells = front.now ++ replicate n blank } ∷ []) }
     {
         if self.lost == 0 {
-            if let Ok(()) = self.add(wrap.is_on(), front) {
-                self.keep(wrap, front);
+            if let Ok(()) = self.keep_and_add(wrap, front) {
                 return;
             }
         }

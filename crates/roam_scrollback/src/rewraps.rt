@@ -6,7 +6,7 @@ ghost use Rattle.roam_repaint.specs.Repainted.{MayPend};
 ghost use Rattle.roam_repaint.specs.Repainting.{repaint_text};
 ghost use Rattle.roam_rewrap.specs.Windows.{reflowed, shown_rows};
 ghost use Rattle.roam_scrollback.specs.Lines.{Writes, left_of};
-ghost use Rattle.roam_scrollback.specs.Rewraps.{IsHeight, IsPrepared, IsRewrapText, closing, columns_before, ends_at_cursor, opening, screen_cells, screen_text};
+ghost use Rattle.roam_scrollback.specs.Rewraps.{IsHeight, IsPrepared, IsRewrapText, begins_line, closing, columns_before, ends_at_cursor, opening, screen_cells, screen_text};
 ghost use Rattle.roam_scrollback.specs.Wraps.{wraps_of};
 
 use crate::kept::RecentRows;
@@ -37,8 +37,10 @@ pub enum NotRewrapped {
     Later,
     /// The other screen is shown.
     OtherScreen,
-    /// The size is none, memory ran out, a cell is guarded, the guard is on, or rows count from a margin.
+    /// The size is none, a cell is guarded, the guard is on, or rows count from a margin.
     Refused,
+    /// Memory ran out.
+    NoMemory,
 }
 
 // How many columns come before the cursor.
@@ -119,6 +121,7 @@ fn rows_of(cells: usize, cols: usize) -> usize
 fn first_back(all: &[Row], kept: usize, rows: usize, cols: usize) -> usize
     requires cols { 0 < cols }
     ensures within { result ≤ kept }
+    ensures line { begins_line (take result all.now) ≡ true }
 {
     let mut from = all.len();
     let mut filled = 0usize;
@@ -142,6 +145,8 @@ fn first_back(all: &[Row], kept: usize, rows: usize, cols: usize) -> usize
 fn first_row(all: &[Row], kept: usize, is_full: bool, rows: usize, cols: usize) -> usize
     requires cols { 0 < cols }
     ensures within { result ≤ kept }
+    ensures blank { is_full ≡ false → result ≡ kept }
+    ensures line { is_full ≡ true → begins_line (take result all.now) ≡ true }
 {
     if !is_full {
         return kept;
@@ -181,6 +186,9 @@ fn ending_of(reflow: &Reflow, style: Style, wraps: bool) -> Ending
     ensures asked { IsTrue result.pending → reflow.now.pending ≡ true }
     ensures pends { IsTrue result.pending
         → MayPend (record { shot = reflow.now.shot; pending = result.pending; style = result.style; wraps = result.wraps }) }
+    ensures due { reflow.now.pending ≡ true
+        → MayPend (record { shot = reflow.now.shot; pending = result.pending; style = result.style; wraps = result.wraps })
+        → IsTrue result.pending }
 {
     let ending = Ending {
         pending: reflow.is_pending(),

@@ -145,15 +145,14 @@ fn push_cells(text: &mut Vec<u8>, row: &[Cell]) -> Result<(), AllocError>
     push_style(text, worn.style, Style::default())
 }
 
-/// Appends the line of a row: `+` if autowrap went on from it, else a space, the text that paints it, and LF. Blanks at its end have no
-/// text if it doesn't go on, and it may be lent without them then.
+/// Appends the line of a row: `+` if autowrap went on from it, else a space, the text that paints its cells, and LF. Blanks at its end have
+/// no text if it ends, and it may be lent without them then. The blank left by a wide character has none either.
 #[tactic(auto, unfolding(crate::specs::RowText::row_text))]
-pub fn push_line(text: &mut Vec<u8>, goes_on: bool, row: &[Cell]) -> Result<(), AllocError>
-    ensures text { OnOk result (text.new.items ≡ text.old.items ++ line_text goes_on row.now) }
+pub fn push_line(text: &mut Vec<u8>, wrap: Wrap, row: &[Cell]) -> Result<(), AllocError>
+    ensures text { OnOk result (text.new.items ≡ text.old.items ++ line_text wrap row.now) }
 {
-    text.push(if goes_on { b'+' } else { b' ' })?;
-    let count = if goes_on { row.len() } else { used(row) };
-    push_cells(text, &row[..count])?;
+    text.push(if wrap.is_on() { b'+' } else { b' ' })?;
+    push_cells(text, text_cells(wrap, row))?;
     text.push(b'\n')?;
     Ok(())
 }

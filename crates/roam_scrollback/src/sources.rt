@@ -8,7 +8,7 @@ ghost use Rattle.roam_text.specs.Stands.{Stands as Reads};
 ghost use Rattle.roam_text.specs.Dispatched.{function_of, functions_by};
 ghost use Rattle.roam_term.specs.Terminal.{changed_by, live_after};
 ghost use Rattle.roam_scrollback.specs.Lines.{Writes, is_full};
-ghost use Rattle.roam_scrollback.specs.Rewraps.{Follows, IsRewrapped};
+ghost use Rattle.roam_scrollback.specs.Rewraps.{Follows, IsLater, IsRewrapped};
 ghost use Rattle.roam_scrollback.specs.Sources.{IsCleared, IsSource, Sheds, clears, rows_leaving, rows_shown, rows_through, wraps_after, wraps_through};
 
 use crate::lines::LeftLines;
@@ -336,6 +336,7 @@ impl RowSource {
         ensures rewrapped { IfOk result (λ done. IsRewrapped self.old self.new lines.old lines.new rows cols done.back done.text.items) }
         ensures err { OnErr result ((self.new ≡ self.old) × (lines.new ≡ lines.old)) }
         ensures other { IsErrOf result NotRewrapped.OtherScreen → self.old.live.alternate ≡ true }
+        ensures later { IsErrOf result NotRewrapped.Later → IsLater self.old }
     {
         if !is_size(rows, cols) {
             return Err(NotRewrapped::Refused);
@@ -349,7 +350,10 @@ impl RowSource {
         if !self.surface.canvas().prints_ascii() {
             return Err(NotRewrapped::Later);
         }
-        let Ok(Some(prepared)) = prepare(alloc, &self.surface, lines.kept(), rows, cols) else {
+        let Ok(prepared) = prepare(alloc, &self.surface, lines.kept(), rows, cols) else {
+            return Err(NotRewrapped::NoMemory);
+        };
+        let Some(prepared) = prepared else {
             return Err(NotRewrapped::Refused);
         };
         let Prepared {
@@ -360,7 +364,7 @@ impl RowSource {
         } = prepared;
         let mut dropped = LeftLines::new(alloc);
         let Ok(()) = self.size(alloc, rows, cols, &mut dropped) else {
-            return Err(NotRewrapped::Refused);
+            return Err(NotRewrapped::NoMemory);
         };
         self.read_all(&text, &mut dropped);
         self.surface.wrap_as(wraps_of(&reflow, rows, cols));

@@ -1,18 +1,19 @@
 -- The rows reported from a terminal in any state, piece by piece.
-use Rattle.std.proofs.Common.{◌≡◌, ℕ, Bool, true, false, ◌||◌, List, [], ◌∷◌, ◌++◌, map, refl, sym, ap, subst, ◌∙◌, append_assoc}
+use Rattle.std.proofs.Common.{◌≡◌, ◌≤◌, ℕ, Bool, true, false, ◌||◌, List, [], ◌∷◌, ◌++◌, length, map, refl, sym, ap, subst, ◌∙◌, arith, append_assoc}
 use Rattle.std.specs.Prelude.{nat_lt, if◌then◌else◌}
-use Rattle.std.specs.List.{flat_map}
+use Rattle.std.specs.List.{flat_map, fold}
+use Rattle.std.proofs.lemmas.Bool.Decides.{nat_tests}
+use Rattle.std.proofs.lemmas.List.Sums.{fold-append}
 use Rattle.std.proofs.lemmas.List.{append-nil, map-append}
 use Rattle.std.proofs.lemmas.List.Concat.{flat_map-append}
 use Rattle.roam_rewrap.specs.Lines.{TextRow}
-use Rattle.roam_scrollback.specs.Lines.{Keeps, LeftRow, LinesView, Writes, lines_behind}
+use Rattle.roam_scrollback.specs.Lines.{LeftRow, LinesView, Writes, lines_behind, most_kept, newest, text_row}
 use Rattle.roam_scrollback.specs.Sources.{Sheds, SourceView, rows_through, wraps_through}
 use Rattle.roam_scrollback.specs.declared.wraps.Wrap.{Wrap}
-use Rattle.roam_scrollback.proofs.Keeping.{keeps-all, keeps-none, keeps-then}
+use Rattle.roam_scrollback.proofs.Keeping.{newest-few}
 use Rattle.roam_scrollback.proofs.Through.{live-append, wraps-append}
-use Rattle.roam_scrollback_stream.specs.Panes.{ArePieces, Piece, TellsFrom, came_in, kept_behind, rows_in}
+use Rattle.roam_scrollback_stream.specs.Panes.{ArePieces, Piece, TellsFrom, came_in, kept_after, kept_behind}
 use Rattle.roam_scrollback_stream.specs.Records.{Part, part_text, rows_text, lost_text, cleared_text}
-use Rattle.roam_scrollback_stream.proofs.Telling.{unkept, without}
 use Rattle.roam_term.specs.Terminal.{Live, live_after}
 use Rattle.roam_text.specs.Log.{Item, Byte}
 use Rattle.roam_text.specs.Stands.{Stands as Reads}
@@ -40,22 +41,32 @@ from-none s kept n out = λ log reads. record {
   live = refl;
   wraps = refl;
   text = sym (append-nil out);
-  kept = keeps-all kept;
+  kept = refl;
 }
 
-kept-if : (b : Bool) (old new : List TextRow) (rows : List LeftRow) → Keeps old rows new → Keeps old rows (if b then [] else new)
-kept-if true old new rows keeps = keeps-none old rows
-kept-if false old new rows keeps = keeps
+kept-if : (b : Bool) (lost : ℕ) (kept' kept : List TextRow) (rows : List LeftRow) (all_of : List TextRow) (cleared : Bool)
+    → (cleared || nat_lt 0 lost) ≡ b → kept' ≡ (if b then [] else kept) → length kept' ≤ most_kept
+    → (lost ≡ 0 → newest most_kept kept ≡ newest most_kept all_of) → kept' ≡ (if b then [] else newest most_kept all_of)
+kept-if true lost kept' kept rows all_of cleared e is few keeps = is
+kept-if false lost kept' kept rows all_of cleared e is few keeps =
+    is ∙ sym (newest-few most_kept kept (subst (λ l. length l ≤ most_kept) is few)) ∙ keeps (none cleared e)
+  where
+    none : (c : Bool) → (c || nat_lt 0 lost) ≡ false → lost ≡ 0
+    none true h = cc
+    none false h = not-some lost h
+      where
+        not-some : (n : ℕ) → nat_lt 0 n ≡ false → n ≡ 0
+        not-some n h = grind (arith, nat_tests)
 
 -- the lines of a source are reported
 pub from-one : (old new : SourceView) (v w : LinesView) (kept kept' : List TextRow) (cleared : Bool) (items : List Item) (n : ℕ)
-    (out out' : List ℕ) → v ≡ lines_behind kept → kept' ≡ kept_behind cleared w → Sheds old new v w cleared items
+    (out out' : List ℕ) → v ≡ lines_behind kept → kept' ≡ kept_behind cleared w → length kept' ≤ most_kept → Sheds old new v w cleared items
     → out' ≡ out ++ (rows_text n w ++ (lost_text n w ++ cleared_text n cleared)) → TellsFrom old kept new kept' n out out' items
-from-one old new v w kept kept' cleared items n out out' none is sheds text = λ log reads.
+from-one old new v w kept kept' cleared items n out out' none is few sheds text = λ log reads.
     let gives = sheds.gives log reads in
     let rows = rows_through old.live gives.more old.wraps in
     let written : Writes (lines_behind kept) w rows = subst (λ (u : LinesView). Writes u w rows) none gives.written in
-    let part : Part = record { items = items; rows = rows; lines = without w; written = unkept kept w rows written; is_cleared = cleared } in
+    let part : Part = record { items = items; rows = rows; before = kept; lines = w; written = written; is_cleared = cleared } in
     record {
       reads = sheds.reads log reads;
       pieces = record { part = part; came = gives.more } ∷ [];
@@ -63,9 +74,7 @@ from-one old new v w kept kept' cleared items n out out' none is sheds text = λ
       live = gives.live ∙ ap (live_after old.live) (sym (append-nil gives.more));
       wraps = gives.wraps ∙ ap (λ fs. wraps_through old.live fs old.wraps) (sym (append-nil gives.more));
       text = text ∙ ap (λ l. out ++ l) (sym (append-nil (part_text n part)));
-      kept =
-          subst (λ (rs : List LeftRow). Keeps kept rs kept') (sym (append-nil rows))
-          (subst (λ (k : List TextRow). Keeps kept rows k) (sym is) (kept-if (cleared || nat_lt 0 w.lost) kept w.kept rows written.kept));
+      kept = kept-if (cleared || nat_lt 0 w.lost) w.lost kept' w.kept rows (kept ++ map text_row rows) cleared refl is few written.kept;
     }
 
 -- some came, and then more
@@ -103,8 +112,7 @@ from-then a b c one two three n out mid last xs ys p q = λ log reads.
           ∙ append_assoc out (flat_map (λ (piece : Piece). part_text n piece.part) ps) (flat_map (λ (piece : Piece). part_text n piece.part) qs)
           ∙ ap (λ l. out ++ l) (sym (flat_map-append (λ (piece : Piece). part_text n piece.part) ps qs));
       kept =
-          subst (λ (rs : List LeftRow). Keeps one rs three) (sym (flat_map-append rows_in ps qs))
-          (keeps-then one two three (flat_map rows_in ps) (flat_map rows_in qs) first.kept second.kept);
+          second.kept ∙ ap (λ l. fold kept_after l qs) first.kept ∙ sym (fold-append kept_after one ps qs);
     }
 
 -- the same behind earlier output

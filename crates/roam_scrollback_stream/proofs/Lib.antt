@@ -1,4 +1,5 @@
 mod Asking
 pub mod Telling
 pub mod Going
+pub mod Answering
 mod Reading

@@ -66,11 +66,12 @@ rewrap-behind w rows cols old new out out' (is_brought b) = is_brought (record {
   text = b.text;
   rewrapped = b.rewrapped;
   kept = b.kept;
+  few = b.few;
   held = b.held;
   number = b.number;
   written = ap (λ l. w ++ l) b.written ∙ sym (append_assoc w out _);
 })
-rewrap-behind w rows cols old new out out' (is_later same text) = is_later same (ap (λ l. w ++ l) text ∙ sym (append_assoc w out _))
+rewrap-behind w rows cols old new out out' (is_later why same text) = is_later why same (ap (λ l. w ++ l) text ∙ sym (append_assoc w out _))
 rewrap-behind w rows cols old new out out' (is_other is same text) = is_other is same (ap (λ l. w ++ l) text ∙ sym (append_assoc w out _))
 rewrap-behind w rows cols old new out out' (is_refused same text) = is_refused same (ap (λ l. w ++ l) text ∙ sym (append_assoc w out _))
 

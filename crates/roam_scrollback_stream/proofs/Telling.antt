@@ -4,7 +4,7 @@ use Rattle.std.specs.List.{flat_map}
 use Rattle.std.proofs.lemmas.List.{append-nil, map-append}
 use Rattle.std.proofs.lemmas.List.Concat.{flat_map-append}
 use Rattle.roam_rewrap.specs.Lines.{TextRow}
-use Rattle.roam_scrollback.specs.Lines.{LeftRow, LinesView, Writes, lines_behind, no_lines, text_row}
+use Rattle.roam_scrollback.specs.Lines.{LeftRow, LinesView, Writes, lines_behind}
 use Rattle.roam_scrollback.specs.Sources.{SourceView, IsSource, Sheds, left_through}
 use Rattle.roam_scrollback.proofs.Standing.{continues}
 use Rattle.roam_scrollback_stream.specs.Panes.{ArePartsOf, TellsAll}
@@ -27,21 +27,6 @@ tells-none s n out = λ rows cols log is. record {
   parts = append-nil log;
 }
 
--- lines of rows are the same without the rows that are kept with them
-abbrev pub without : LinesView → LinesView
-without w = record w { kept = [] }
-
-pub unkept : (kept : List TextRow) (w : LinesView) (rows : List LeftRow) → Writes (lines_behind kept) w rows → Writes no_lines (without w) rows
-unkept kept w rows p = record {
-  written = p.written;
-  few = p.few;
-  text = p.text;
-  count = p.count;
-  lost = p.lost;
-  none = p.none;
-  kept = record { gone = map text_row rows; is = append-nil (map text_row rows) };
-}
-
 -- the lines of a source are reported
 pub tells-one : (old new : SourceView) (v w : LinesView) (kept : List TextRow) (cleared : Bool) (items : List Item) (n : ℕ)
     (out out' : List ℕ) → v ≡ lines_behind kept
@@ -50,7 +35,7 @@ pub tells-one : (old new : SourceView) (v w : LinesView) (kept : List TextRow) (
 tells-one old new v w kept cleared items n out out' none sheds text = λ rows cols log is.
     let k = continues old new v w cleared items rows cols log sheds is in
     let gives = sheds.gives log is.reads in
-    let part : Part = record { items = items; rows = k.more; lines = without w; written = unkept kept w k.more (subst (λ (u : LinesView). Writes u w k.more) none k.written); is_cleared = cleared } in
+    let part : Part = record { items = items; rows = k.more; before = kept; lines = w; written = subst (λ (u : LinesView). Writes u w k.more) none k.written; is_cleared = cleared } in
     record {
       source = k.source;
       more = k.more;

@@ -1,8 +1,8 @@
 -- A terminal whose rows are reported, with the filter before it.
-use Rattle.std.specs.Prelude.{◌≡◌, ℕ, ◌||◌, nat_lt, Bool, false, if◌then◌else◌, List, [], ◌∷◌, ◌++◌, length, Option, Some, None}
-use Rattle.std.specs.List.{flat_map}
+use Rattle.std.specs.Prelude.{◌≡◌, ℕ, ◌||◌, nat_lt, Bool, false, if◌then◌else◌, List, [], ◌∷◌, ◌++◌, length, map, Option, Some, None}
+use Rattle.std.specs.List.{flat_map, fold}
 use Rattle.roam_rewrap.specs.Lines.{TextRow}
-use Rattle.roam_scrollback.specs.Lines.{Keeps, LeftRow, LinesView, Writes, no_lines}
+use Rattle.roam_scrollback.specs.Lines.{LeftRow, LinesView, Writes, most_kept, newest, no_lines, text_row}
 use Rattle.roam_scrollback.specs.Sources.{SourceView, IsCleared, IsSource, left_through, rows_shown, rows_through, wraps_through}
 use Rattle.roam_scrollback.specs.declared.wraps.Wrap.{Wrap}
 use Rattle.roam_normalize.specs.Normalized.{normalized_part, held_part}
@@ -80,8 +80,10 @@ pub record Piece : Type 0 where
 abbrev pub came_in : Piece → List Function
 came_in piece = piece.came
 
-abbrev pub rows_in : Piece → List LeftRow
-rows_in piece = piece.part.rows
+-- the rows that are kept behind a piece: none once what left is erased, or a row was lost; else the newest
+abbrev pub kept_after : List TextRow → Piece → List TextRow
+kept_after kept piece =
+    if (piece.part.is_cleared || nat_lt 0 piece.part.lines.lost) then [] else newest most_kept (kept ++ map text_row piece.part.rows)
 
 -- A piece of the items behind a log, from a terminal in a state. Its rows are those that leave by it. It reports that the earlier rows are
 -- erased exactly if the last of its functions erases them.
@@ -97,7 +99,7 @@ ArePieces l wraps log later (piece ∷ pieces) =
     IsPiece l wraps log piece
     × ArePieces (live_after l piece.came) (wraps_through l piece.came wraps) (log ++ piece.part.items) later pieces
 
--- the items behind a log were read, the rows that left by them were reported, and the last of them are kept
+-- the items behind a log were read, the rows that left by them were reported, and the newest rows are kept, piece by piece
 pub record ToldFrom (old : SourceView) (before : List TextRow) (new : SourceView) (after : List TextRow) (n : ℕ) (out out' : List ℕ)
     (log later : List Item) : Type 0 where
   pub reads : Reads new.reader later
@@ -106,7 +108,7 @@ pub record ToldFrom (old : SourceView) (before : List TextRow) (new : SourceView
   pub live : new.live ≡ live_after old.live (flat_map came_in pieces)
   pub wraps : new.wraps ≡ wraps_through old.live (flat_map came_in pieces) old.wraps
   pub text : out' ≡ out ++ flat_map (λ (piece : Piece). part_text n piece.part) pieces
-  pub kept : Keeps before (flat_map rows_in pieces) after
+  pub kept : after ≡ fold kept_after before pieces
 
 -- for every log that its reader has read
 abbrev pub TellsFrom : SourceView → List TextRow → SourceView → List TextRow → ℕ → List ℕ → List ℕ → List Item → Type 0

@@ -1,9 +1,10 @@
 -- The records about rows: a line each, some with bytes behind it.
 use Rattle.std.specs.Prelude.{◌≡◌, ℕ, ◌==◌, Bool, List, [], ◌++◌, length, codes, decimal, if◌then◌else◌}
 use Rattle.std.specs.List.{flat_map}
-use Rattle.roam_scrollback.specs.Lines.{LeftRow, LinesView, Writes, no_lines}
+use Rattle.roam_rewrap.specs.Lines.{TextRow}
+use Rattle.roam_scrollback.specs.Lines.{LeftRow, LinesView, Writes, lines_behind}
 use Rattle.roam_scrollback.specs.declared.rewraps.NotRewrapped.{NotRewrapped}
-use Rattle.roam_scrollback.specs.declared.rewraps.NotRewrapped.TheVariants.{Later, OtherScreen, Refused}
+use Rattle.roam_scrollback.specs.declared.rewraps.NotRewrapped.TheVariants.{Later, NoMemory, OtherScreen, Refused}
 use Rattle.roam_text.specs.Log.{Item}
 
 -- the record of a terminal's lines: their number and bytes; empty for none
@@ -34,6 +35,7 @@ abbrev pub refusal_word : NotRewrapped → List ℕ
 refusal_word Later = codes "later "
 refusal_word OtherScreen = codes "other "
 refusal_word Refused = codes "none "
+refusal_word NoMemory = codes "none "
 
 -- so many rows that were reported are back on the screen, or are reported anew behind this
 abbrev pub back_text : ℕ → ℕ → List ℕ
@@ -43,12 +45,13 @@ back_text n back = if (back == 0) then [] else codes "back " ++ decimal n ++ cod
 abbrev pub brought_text : ℕ → List ℕ → List ℕ
 brought_text n text = codes "text " ++ decimal n ++ codes " " ++ decimal (length text) ++ codes "\n" ++ text
 
--- a terminal's items, the rows that left by them, their lines, and true if the earlier rows are erased
+-- a terminal's items, the rows that left by them, the rows kept before them, the lines, and true if the earlier rows are erased
 pub record Part : Type 0 where
   pub items : List Item
   pub rows : List LeftRow
+  pub before : List TextRow
   pub lines : LinesView
-  pub written : Writes no_lines lines rows
+  pub written : Writes (lines_behind before) lines rows
   pub is_cleared : Bool
 
 abbrev pub part_text : ℕ → Part → List ℕ

@@ -2,8 +2,8 @@
 use Rattle.std.specs.Prelude.{◌≡◌, ◌≢◌, ◌⊎◌, ℕ, zero, suc, ◌-◌, ◌^◌, ◌<◌, ◌≤◌, min, Bool, List, [], ◌∷◌, ◌++◌, codes, false, length, map, replicate, slice_index_or, slice_set, Option, Some, None, true, if◌then◌else◌}
 use Rattle.std.specs.List.{All}
 use Rattle.roam_cells.specs.Limits.{IsSize}
-use Rattle.roam_scrollback.specs.Lines.{LinesView, lines_behind}
-use Rattle.roam_scrollback.specs.Rewraps.{IsRewrapped}
+use Rattle.roam_scrollback.specs.Lines.{LinesView, lines_behind, most_kept}
+use Rattle.roam_scrollback.specs.Rewraps.{IsLater, IsRewrapped}
 use Rattle.roam_scrollback.specs.Sources.{IsSource}
 use Rattle.roam_scrollback_stream.specs.Panes.{PaneView, ShowsAll, TellsAll, TellsFrom, fed_for, held_for, is_holding, kept_behind}
 use Rattle.roam_scrollback_stream.specs.Records.{back_text, brought_text, lost_text, named_text, rows_text}
@@ -70,15 +70,16 @@ pub record IsBrought (rows cols : ℕ) (old new : PaneView) (out out' : List ℕ
   pub text : List ℕ
   pub rewrapped : IsRewrapped old.source new.source (lines_behind old.kept) lines rows cols back text
   pub kept : new.kept ≡ kept_behind false lines
+  pub few : length new.kept ≤ most_kept
   pub held : new.held ≡ old.held
   pub number : new.number ≡ old.number
   pub written : out' ≡ out ++ (back_text old.number back ++ (rows_text old.number lines ++ (lost_text old.number lines ++ brought_text old.number text)))
 
--- Either that is done; or nothing changes, and a word gives the reason: the terminal is within a sequence or a character, the other screen
--- is shown, or it can't be done.
+-- Either that is done; or nothing changes, and a word gives the reason: the terminal is within a sequence or a character, or its next
+-- character isn't ASCII; the other screen is shown; or it can't be done.
 pub data AnswersRewrap (rows cols : ℕ) (old new : PaneView) (out out' : List ℕ) : Type 0 where
   is_brought : IsBrought rows cols old new out out' → AnswersRewrap rows cols old new out out'
-  is_later : new ≡ old → out' ≡ out ++ named_text (codes "later ") old.number → AnswersRewrap rows cols old new out out'
+  is_later : (is_holding old.held ≡ true) ⊎ IsLater old.source → new ≡ old → out' ≡ out ++ named_text (codes "later ") old.number → AnswersRewrap rows cols old new out out'
   is_other : old.source.live.alternate ≡ true → new ≡ old → out' ≡ out ++ named_text (codes "other ") old.number
       → AnswersRewrap rows cols old new out out'
   is_refused : new ≡ old → out' ≡ out ++ named_text (codes "none ") old.number → AnswersRewrap rows cols old new out out'

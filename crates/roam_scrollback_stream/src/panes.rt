@@ -140,7 +140,7 @@ fn refusal_word(why: NotRewrapped) -> &'static str
     match why {
         NotRewrapped::Later => "later ",
         NotRewrapped::OtherScreen => "other ",
-        NotRewrapped::Refused => "none ",
+        NotRewrapped::Refused | NotRewrapped::NoMemory => "none ",
     }
 }
 
@@ -164,6 +164,7 @@ fn feed_some(
     tellings.swap_kept(kept);
     let fed = source.feed(piece, &mut tellings.lines);
     tellings.take_kept(kept, fed.cleared);
+    kept.facts();
     tellings.push_part(number, fed.cleared)?;
     Ok(fed.count)
 }
@@ -292,6 +293,7 @@ impl Pane {
         tellings.swap_kept(&mut self.kept);
         self.source.size(alloc, rows, cols, &mut tellings.lines)?;
         tellings.take_kept(&mut self.kept, false);
+        self.kept.facts();
         tellings.push_part(self.number, false)?;
         Ok(())
     }
@@ -327,6 +329,7 @@ impl Pane {
         tellings.swap_kept(&mut self.kept);
         let done = self.source.rewrap(alloc, rows, cols, &mut tellings.lines);
         tellings.take_kept(&mut self.kept, false);
+        self.kept.facts();
         tellings.push_answer(self.number, done)?;
         Ok(())
     }

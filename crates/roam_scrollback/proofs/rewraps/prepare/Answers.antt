@@ -1,8 +1,9 @@
-use Rattle.std.proofs.Common.{◌≡◌, ◌+◌, ◌-◌, ◌++◌, drop, ap, subst, ◌∙◌, arith}
+use Rattle.std.proofs.Common.{◌≡◌, ◌+◌, ◌-◌, ◌++◌, drop, take, ap, sym, subst, ◌∙◌, arith}
+use Rattle.std.proofs.lemmas.Bool.{eq-eqb, ne_eqb}
 use Rattle.roam_controls.specs.declared.modes.Modes.{Modes}
 use Rattle.roam_grid.specs.Screen.{Screen}
 use Rattle.roam_rewrap.specs.Windows.{reflowed}
-use Rattle.roam_scrollback.specs.Rewraps.{IsHeight, IsRewrapText, columns_before, screen_text}
+use Rattle.roam_scrollback.specs.Rewraps.{IsHeight, IsRewrapText, begins_line, columns_before, screen_text}
 use Rattle.roam_scrollback.proofs.rewraps.prepare.Goals as goal
 use Rattle.roam_term.specs.Terminal.{Live}
 
@@ -30,6 +31,14 @@ returns c =
         height = c.height_of-height.result;
         is_height = subst (λ s. IsHeight s c.height_of-height.result) screen c.height_of-height.ensures.height;
         counted = omega (arith, c.first_row-first.ensures.within, c.len-count.ensures.len);
+        blank = λ less.
+            let high = c.rows.ensures.rows ∙ ap (λ (s : Screen). s.rows) screen in
+            let first_is = c.first_row-first.ensures.blank (ne_eqb c.height_of-height.result c.rows.result (λ e. absurd (omega (arith, less, e, high)))) in
+            omega (arith, first_is);
+        line = λ whole.
+            let high = c.rows.ensures.rows ∙ ap (λ (s : Screen). s.rows) screen in
+            ap (λ l. begins_line (take first l)) (sym (c.deref.ensures.value ∙ c.in_ok-all.ensures.rows))
+            ∙ c.first_row-first.ensures.line (eq-eqb c.height_of-height.result c.rows.result (omega (arith, whole, high)));
         is = reflow ∙ (λ i. reflowed (drop first (all i)) (record { row = row i; col = col i }) c.args.rows c.args.cols (visible i));
         brings = subst (λ (l : Live). IsRewrapText l c.in-Some.reflow c.in-Some-2.text.items) c.canvas-canvas.ensures.live text;
       };

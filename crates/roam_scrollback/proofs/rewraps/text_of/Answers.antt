@@ -30,6 +30,11 @@ returns c =
             subst
             (λ (s : Screenshot). MayPend (record { shot = s; pending = ending.result.pending; style = ending.result.style; wraps = ending.result.wraps }))
             (sym c.shot-2.ensures.shot) (ending.ensures.pends pending);
+        due = λ asked may.
+            ending.ensures.due asked
+            (subst
+            (λ (s : Screenshot). MayPend (record { shot = s; pending = ending.result.pending; style = ending.result.style; wraps = ending.result.wraps }))
+            c.shot-2.ensures.shot may);
         is =
             c.in_ok-push_closing.ensures.text
             ∙ ap (λ l. l ++ closing c.modes-modes.result)

@@ -21,5 +21,5 @@ returns-clause-from c =
     (map Byte (take c.feed-fed.result.count c.args.piece.now)) c.args.number c.args.tellings.now.out c.push_part.new.self.out
     (ap (λ (v : TellingsView). v.lines) (c.tellings.view_is ∙ c.swap_kept.ensures.lines)
     ∙ ap (λ (v : LinesView). record v { kept = c.args.kept.now }) c.requires.none)
-    c.take_kept.ensures.kept c.feed-fed.ensures.sheds
+    c.take_kept.ensures.kept c.facts.ensures.few c.feed-fed.ensures.sheds
     (search rules)

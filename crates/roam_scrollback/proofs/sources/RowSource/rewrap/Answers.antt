@@ -9,10 +9,10 @@ use Rattle.roam_term.specs.Terminal.{Live}
 
 pub returns-clause-rewrapped : goal.returns-clause-rewrapped
 returns-clause-rewrapped c =
-    let p = c.in-Ok-Some.prepared in
+    let p = c.in-Some.prepared in
     let surface = c.self.inside.surface in
     let made : IsPrepared surface.live surface.wraps c.kept.result.now c.args.rows c.args.cols p.first p.back p.reflow p.text.items =
-    rw c.in-Ok-Some.field-0-is at c.in-Ok-Some.ensures.prepared in
+    rw c.in-Some.is at c.in-Ok.ensures.prepared in
     let old : SourceView = record { reader = c.self.inside.reader; live = surface.live; wraps = surface.wraps } in
     let new : SourceView = record { reader = c.self-2.inside.reader; live = c.wrap_as.new.self.live; wraps = c.wrap_as.new.self.wraps } in
     rw (← c.self.view_is)
@@ -33,7 +33,7 @@ returns-clause-rewrapped c =
           let one : Follows old c.size.new.self (size ∷ []) log =
           follows-sheds old c.size.new.self c.new-dropped.result c.size.new.lines false (size ∷ [])
           (subst (λ (s : SourceView). Sheds s c.size.new.self c.new-dropped.result c.size.new.lines false (size ∷ [])) (sym c.self.view_is)
-          c.in-Ok.ensures.sheds)
+          c.in-Ok-size.ensures.sheds)
           log reads in
           follows-as old c.read_all.new.self new (size ∷ map Byte p.text.items) log (ap (λ (s : SourceView). s.reader) c.self-2.view_is)
           (ap (λ (s : SurfaceView). s.live) c.wrap_as.ensures.wraps ∙ ap (λ (s : SourceView). s.live) c.self-2.view_is)

@@ -23,4 +23,4 @@ returns-clause-from c =
     c.args.tellings.now.out c.push_part.new.self.out
     (ap (λ (v : TellingsView). v.lines) (c.tellings.view_is ∙ c.swap_kept.ensures.lines)
     ∙ ap (λ (v : LinesView). record v { kept = c.self.inside.kept }) c.requires.none)
-    c.take_kept.ensures.kept (search rules) (search rules))
+    c.take_kept.ensures.kept c.facts.ensures.few (search rules) (search rules))
