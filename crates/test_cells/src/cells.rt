@@ -78,26 +78,22 @@ fn fault_of_a_link(text: &str) -> Option<Fault> {
     }
 }
 
-fn is_text(alloc: Global, text: &str) -> bool {
-    match fault_of_a_screen(text).or(fault_of_a_link(text)) {
-        Some(fault) => matches!(fault.to_string(alloc), Ok(told) if told.as_str() == text),
-        None => false,
+// Returns the text of the fault with this name; `None` if no fault has it.
+fn fault_text(alloc: Global, name: &str) -> Result<Option<String>, AllocError> {
+    match fault_of_a_screen(name).or(fault_of_a_link(name)) {
+        Some(fault) => Ok(Some(fault.to_string(alloc)?)),
+        None => Ok(None),
     }
 }
 
-fn has_width(line: &str) -> bool {
-    let (text, rest) = line.split_once(' ').unwrap_or((line, ""));
+// Returns a line with the width and the effect that its character has; `None` if it has no character.
+fn width_text(alloc: Global, line: &str) -> Result<Option<String>, AllocError> {
+    let (text, _) = line.split_once(' ').unwrap_or((line, ""));
     let Some(c) = text.chars().next() else {
-        return false;
+        return Ok(None);
     };
-    let wanted = match rest {
-        "0 joins" => (0, true),
-        "0 stands" => (0, false),
-        "1 stands" => (1, false),
-        "2 stands" => (2, false),
-        _ => return false,
-    };
-    (width(c), is_joiner(c)) == wanted
+    let effect = if is_joiner(c) { "joins" } else { "stands" };
+    Ok(Some(format!(in alloc; "{text} {} {effect}", width(c))?))
 }
 
 fn bold() -> Style {
@@ -106,22 +102,23 @@ fn bold() -> Style {
     style
 }
 
-// Returns the kind of cell of code points, if it keeps them, its style and its guard.
-fn kind_made(points: &[char]) -> Option<&'static str> {
+// Returns the kind of cell of code points, or `changed` if it does not keep them, its style and its guard.
+fn kind_made(points: &[char]) -> &'static str {
     let Some(cell) = Cell::of(points, bold(), true) else {
-        return Some("none");
+        return "none";
     };
     if cell.chars().as_slice() != points
         || cell.style() != bold()
         || !cell.guard()
         || cell.is_right_half()
     {
-        return None;
+        return "changed";
     }
     match (cell.is_narrow(), cell.is_wide()) {
-        (true, false) => Some("narrow"),
-        (false, true) => Some("wide"),
-        _ => None,
+        (true, false) => "narrow",
+        (false, true) => "wide",
+        (true, true) => "narrow and wide",
+        (false, false) => "neither narrow nor wide",
     }
 }
 
@@ -133,56 +130,115 @@ fn points_of(alloc: Global, text: &str) -> Result<Vec<char>, AllocError> {
     Ok(points)
 }
 
-fn makes(alloc: Global, line: &str) -> bool {
-    let (text, kind) = line.split_once('|').unwrap_or((line, ""));
-    matches!(points_of(alloc, text), Ok(points) if kind_made(&points) == Some(kind))
+// Returns a line with the kind of cell that its code points make; `None` if it has no kind.
+fn cell_text(alloc: Global, line: &str) -> Result<Option<String>, AllocError> {
+    let Some((text, _)) = line.split_once('|') else {
+        return Ok(None);
+    };
+    let points = points_of(alloc, text)?;
+    Ok(Some(format!(in alloc; "{text}|{}", kind_made(&points))?))
 }
 
-fn holds(alloc: Global, line: &str) -> bool {
-    let (word, rest) = line.split_once(' ').unwrap_or((line, ""));
+// Returns what follows the word of a line, with the result that the calls give; `None` if the line is malformed.
+fn found_of(alloc: Global, word: &str, rest: &str) -> Result<Option<String>, AllocError> {
     match word {
-        "fault" => is_text(alloc, rest),
-        "width" => has_width(rest),
-        "cell" => makes(alloc, rest),
-        _ => false,
+        "fault" => fault_text(alloc, rest),
+        "width" => width_text(alloc, rest),
+        "cell" => cell_text(alloc, rest),
+        _ => Ok(None),
     }
 }
 
 #[test]
-fn faults_widths_and_cells(rt: HostRuntime) {
-    for line in LINES.lines() {
-        assert!(rt; holds(rt.alloc(), line), "{line:?}");
+fn faults_widths_and_cells(rt: HostRuntime) -> Result<(), Fail> {
+    for (number, line) in LINES.lines().enumerate() {
+        let (word, wanted) = line.split_once(' ').unwrap_or((line, ""));
+        match found_of(rt.alloc(), word, wanted)? {
+            Some(found) => assert_eq!(rt; found.as_str(), wanted, "case {number}, {word}"),
+            None => panic!(rt; "malformed case {number}: {line:?}"),
+        }
     }
+    Ok(())
 }
 
-fn halves_become_spaces() -> bool {
+// A claim about cells, the value found, and the expected one.
+type Claim = (&'static str, bool, bool);
+
+fn spaces_of_halves() -> [Claim; 4] {
     let half = Cell::right_half(bold(), true);
     let space = half.space_in();
-    half.is_right_half()
-        && half.chars().len() == 0
-        && space.is_same(&Cell::ascii(b' ', bold(), true))
-        && !space.is_same(&Cell::blank())
+    let bold_space = Cell::ascii(b' ', bold(), true);
+    [
+        ("a right half is one", half.is_right_half(), true),
+        ("it has no code point", half.chars().len() == 0, true),
+        (
+            "its space is in its style",
+            space.is_same(&bold_space),
+            true,
+        ),
+        ("its space is blank", space.is_same(&Cell::blank()), false),
+    ]
 }
 
-fn cells_take_characters() -> bool {
-    let mut cell = Cell::right_half(bold(), true);
+fn characters_of_cells() -> [Claim; 6] {
+    let half = Cell::right_half(bold(), true);
+    let mut cell = half;
     cell.set_ascii(b'~');
     let plain = cell.unguarded();
-    cell.chars().first() == Some(&'~')
-        && cell.chars() == plain.chars()
-        && cell.chars() != Cell::right_half(bold(), true).chars()
-        && cell.is_same(&Cell::ascii(b'~', bold(), true))
-        && plain.is_same(&Cell::ascii(b'~', bold(), false))
-        && !plain.is_same(&cell)
+    let guarded_tilde = Cell::ascii(b'~', bold(), true);
+    let tilde = Cell::ascii(b'~', bold(), false);
+    [
+        (
+            "a set character is read",
+            cell.chars().first() == Some(&'~'),
+            true,
+        ),
+        (
+            "unguarded, it is the same",
+            cell.chars() == plain.chars(),
+            true,
+        ),
+        (
+            "it is that of the half",
+            cell.chars() == half.chars(),
+            false,
+        ),
+        (
+            "the cell keeps its guard",
+            cell.is_same(&guarded_tilde),
+            true,
+        ),
+        ("unguarded, it has none", plain.is_same(&tilde), true),
+        ("unguarded, it is the cell", plain.is_same(&cell), false),
+    ]
 }
 
-fn styles_are_told_apart() -> bool {
+fn styles_and_colours() -> [Claim; 5] {
     let three = Colour::Index(3);
-    bold().is_same(bold())
-        && !bold().is_same(Style::default())
-        && three.is_same(Colour::Index(3))
-        && !three.is_same(Colour::Index(4))
-        && !Colour::Index(0).is_same(Colour::Default)
+    let zero = Colour::Index(0);
+    [
+        ("bold is bold", bold().is_same(bold()), true),
+        (
+            "bold is the default",
+            bold().is_same(Style::default()),
+            false,
+        ),
+        (
+            "colour 3 is colour 3",
+            three.is_same(Colour::Index(3)),
+            true,
+        ),
+        (
+            "colour 3 is colour 4",
+            three.is_same(Colour::Index(4)),
+            false,
+        ),
+        (
+            "colour 0 is the default",
+            zero.is_same(Colour::Default),
+            false,
+        ),
+    ]
 }
 
 fn wide() -> Cell {
@@ -192,66 +248,100 @@ fn wide() -> Cell {
     }
 }
 
-fn blanks_are_whole() -> bool {
+fn well_formed_blanks() -> [Claim; 6] {
     let s = Cell::blank();
     let all = [s, s, s, s];
-    let rows = is_well_formed(&[], 4) && is_well_formed(&all, 4) && is_well_formed(&all, 2);
-    let others = is_well_formed(&all, 0) || is_well_formed(&[], 0) || is_well_formed(&all, 3);
-    rows && !others
+    [
+        ("no cells, 4 columns", is_well_formed(&[], 4), true),
+        ("4 blanks, 4 columns", is_well_formed(&all, 4), true),
+        ("4 blanks, 2 columns", is_well_formed(&all, 2), true),
+        ("4 blanks, no columns", is_well_formed(&all, 0), false),
+        ("no cells, no columns", is_well_formed(&[], 0), false),
+        ("4 blanks, 3 columns", is_well_formed(&all, 3), false),
+    ]
 }
 
-fn halves_want_each_other() -> bool {
+fn well_formed_halves() -> [Claim; 7] {
     let s = Cell::blank();
     let w = wide();
     let r = Cell::right_half(Style::default(), false);
-    let pairs = is_well_formed(&[s, w, r, s], 4) && is_well_formed(&[w, r, w, r], 4);
-    let right = is_well_formed(&[r, s, s, s], 4) || is_well_formed(&[s, r, s, s], 4);
-    let left = is_well_formed(&[w, s, s, s], 4) || is_well_formed(&[s, s, s, w], 4);
-    pairs && !right && !left && !is_well_formed(&[w, r, r, s], 4)
+    [
+        ("a pair", is_well_formed(&[s, w, r, s], 4), true),
+        ("two pairs", is_well_formed(&[w, r, w, r], 4), true),
+        (
+            "a right half first",
+            is_well_formed(&[r, s, s, s], 4),
+            false,
+        ),
+        ("a lone right half", is_well_formed(&[s, r, s, s], 4), false),
+        ("a lone left half", is_well_formed(&[w, s, s, s], 4), false),
+        ("a left half last", is_well_formed(&[s, s, s, w], 4), false),
+        ("two right halves", is_well_formed(&[w, r, r, s], 4), false),
+    ]
 }
 
-// A wide character in the last column, its right half in the next row.
-fn halves_are_in_one_row() -> bool {
+// A wide character in the last column of 4, its right half in the next row.
+fn halves_in_rows() -> [Claim; 2] {
     let s = Cell::blank();
-    let cells = [
-        s,
-        s,
-        s,
-        wide(),
-        Cell::right_half(Style::default(), false),
-        s,
-        s,
-        s,
-    ];
-    is_well_formed(&cells, 8) && !is_well_formed(&cells, 4)
+    let r = Cell::right_half(Style::default(), false);
+    let cells = [s, s, s, wide(), r, s, s, s];
+    [
+        ("a pair in 8 columns", is_well_formed(&cells, 8), true),
+        ("a pair over 4 columns", is_well_formed(&cells, 4), false),
+    ]
 }
 
-fn halves_are_of_one_ink() -> bool {
+fn inks_and_guards() -> [Claim; 4] {
     let s = Cell::blank();
     let w = wide();
+    let r = Cell::right_half(Style::default(), false);
     let guarded = Cell::right_half(Style::default(), true);
     let styled = Cell::right_half(bold(), false);
-    !is_well_formed(&[w, styled, s, s], 4) && !is_well_formed(&[w, guarded, s, s], 4)
+    [
+        (
+            "halves of two styles",
+            is_well_formed(&[w, styled, s, s], 4),
+            false,
+        ),
+        (
+            "one half guarded",
+            is_well_formed(&[w, guarded, s, s], 4),
+            false,
+        ),
+        ("no guard", are_unguarded(&[s, w, r]), true),
+        ("a guard", are_unguarded(&[s, w, guarded]), false),
+    ]
 }
 
-fn guards_are_found() -> bool {
-    let s = Cell::blank();
-    let r = Cell::right_half(Style::default(), false);
-    let guarded = Cell::right_half(Style::default(), true);
-    are_unguarded(&[s, wide(), r]) && !are_unguarded(&[s, wide(), guarded])
-}
-
-// Cells that are made from cells, and lists of cells.
+// Cells that are made from cells.
 #[test]
-fn cells_from_cells_and_well_formed_cells(rt: HostRuntime) {
-    assert!(rt; halves_become_spaces());
-    assert!(rt; cells_take_characters());
-    assert!(rt; styles_are_told_apart());
-    assert!(rt; blanks_are_whole());
-    assert!(rt; halves_want_each_other());
-    assert!(rt; halves_are_in_one_row());
-    assert!(rt; halves_are_of_one_ink());
-    assert!(rt; guards_are_found());
+fn cells_from_cells(rt: HostRuntime) {
+    for (claim, found, wanted) in spaces_of_halves() {
+        assert_eq!(rt; found, wanted, "{claim}");
+    }
+    for (claim, found, wanted) in characters_of_cells() {
+        assert_eq!(rt; found, wanted, "{claim}");
+    }
+    for (claim, found, wanted) in styles_and_colours() {
+        assert_eq!(rt; found, wanted, "{claim}");
+    }
+}
+
+// Lists of cells.
+#[test]
+fn well_formed_cells(rt: HostRuntime) {
+    for (claim, found, wanted) in well_formed_blanks() {
+        assert_eq!(rt; found, wanted, "{claim}");
+    }
+    for (claim, found, wanted) in well_formed_halves() {
+        assert_eq!(rt; found, wanted, "{claim}");
+    }
+    for (claim, found, wanted) in halves_in_rows() {
+        assert_eq!(rt; found, wanted, "{claim}");
+    }
+    for (claim, found, wanted) in inks_and_guards() {
+        assert_eq!(rt; found, wanted, "{claim}");
+    }
 }
 
 static SIZES: [(u16, u16, bool); 8] = [
@@ -265,22 +355,26 @@ static SIZES: [(u16, u16, bool); 8] = [
     (65_535, 65_535, false),
 ];
 
-// Returns true if a blank screen of a size is made if it fits, and refused if it doesn't.
-fn is_blank_where(alloc: Global, rows: u16, cols: u16, fits: bool) -> bool {
-    match Shot::blank(alloc, rows, cols) {
-        Ok(shot) => {
-            let counted = shot.cells().len() == rows as usize * cols as usize;
-            fits && shot.rows() == rows && shot.cols() == cols && counted
-        }
-        Err(fault) => !fits && fault == Fault::BadSize,
-    }
+// Returns the rows, the columns and the number of cells of a blank screen, or its refusal.
+fn blank_size(alloc: Global, rows: u16, cols: u16) -> Result<(u16, u16, usize), Fault> {
+    let shot = Shot::blank(alloc, rows, cols)?;
+    Ok((shot.rows(), shot.cols(), shot.cells().len()))
 }
 
 #[test]
 fn sizes_of_a_blank_screen(rt: HostRuntime) {
     for (rows, cols, fits) in SIZES.iter() {
-        assert!(rt; is_size(*rows, *cols) == *fits, "{rows}");
-        assert!(rt; is_blank_where(rt.alloc(), *rows, *cols, *fits), "{rows}");
+        let wanted = if *fits {
+            Ok((*rows, *cols, *rows as usize * *cols as usize))
+        } else {
+            Err(Fault::BadSize)
+        };
+        assert_eq!(rt; is_size(*rows, *cols), *fits, "{rows} by {cols}");
+        assert_eq!(rt;
+            blank_size(rt.alloc(), *rows, *cols),
+            wanted,
+            "{rows} by {cols}"
+        );
     }
 }
 

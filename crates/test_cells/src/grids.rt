@@ -224,8 +224,10 @@ fn acts_leave_their_screens(rt: HostRuntime) {
     }
 }
 
-fn is_refused(alloc: Global, rows: usize, cols: usize) -> bool {
-    matches!(Grid::new(alloc, rows, cols), Err(Fault::BadSize))
+// Returns the rows and the columns of a new grid, or its refusal.
+fn size_made(alloc: Global, rows: usize, cols: usize) -> Result<(usize, usize), Fault> {
+    let grid = Grid::new(alloc, rows, cols)?;
+    Ok((grid.rows(), grid.cols()))
 }
 
 /// Returns true if a new grid is of this size.
@@ -247,7 +249,11 @@ fn sizes_in_the_limits_alone_are_made(rt: HostRuntime) {
         (0, 0),
         (usize::MAX, usize::MAX),
     ] {
-        assert!(rt; is_refused(rt.alloc(), rows, cols), "{rows}");
+        assert_eq!(rt;
+            size_made(rt.alloc(), rows, cols),
+            Err(Fault::BadSize),
+            "{rows} by {cols}"
+        );
     }
     for (rows, cols) in [(2, 4), (24, 80), (200, 500)] {
         assert!(rt;

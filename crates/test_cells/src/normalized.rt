@@ -1,7 +1,7 @@
 //! Worked rows: the meaning of bytes that this project's profile reads otherwise, by xterm's list of control sequences, ISO 8613-6 and the
 //! VT220.
 use crate::readers::bytes_of;
-use roam_normalize::{Filter, MOST_BODY, MOST_HELD};
+use roam_normalize::{Filter, MOST_BODY, MOST_HELD, MOST_TITLE};
 use std::alloc::{AllocError, Global};
 
 /// Rows of a heading, bytes and their output, with an empty line between them. A character is the byte of its code, `␊` is LF, and `‐` the
@@ -59,6 +59,14 @@ seventeen are written one by one
 \x1B[1;1;1;1;1;1;1;1;1;1;1;1;1;38;5;4;7m
 \x1B[1m\x1B[1m\x1B[1m\x1B[1m\x1B[1m\x1B[1m\x1B[1m\x1B[1m\x1B[1m\x1B[1m\x1B[1m\x1B[1m\x1B[1m\x1B[38;5;4m\x1B[7m
 
+58 and 59 are values of a colour among seventeen
+\x1B[1;1;1;1;1;1;1;1;1;1;1;1;1;1;38;5;58m
+\x1B[1m\x1B[1m\x1B[1m\x1B[1m\x1B[1m\x1B[1m\x1B[1m\x1B[1m\x1B[1m\x1B[1m\x1B[1m\x1B[1m\x1B[1m\x1B[1m\x1B[38;5;58m
+
+so are they of a mixture
+\x1B[1;1;1;1;1;1;1;1;1;1;1;1;48;2;58;59;1m
+\x1B[1m\x1B[1m\x1B[1m\x1B[1m\x1B[1m\x1B[1m\x1B[1m\x1B[1m\x1B[1m\x1B[1m\x1B[1m\x1B[1m\x1B[48;2;58;59;1m
+
 zeros that lead a number change nothing
 \x1B[04:3;038;05;1;0058;5;2;048:05:7;4:00m
 \x1B[4m\x1B[038;05;1m\x1B[48;5;7m\x1B[24m
@@ -74,6 +82,22 @@ DECCOLM clears
 the soft hyphen
 soft\u{C2}\u{AD}hyphen\u{C2}\u{A9}
 soft‐hyphen\u{C2}\u{A9}
+
+a title goes out as nothing
+ab\x1Bkuser@host: ~\x1B\\cd\x1Bk\x1B\\e
+abcde
+
+BEL is a byte of a title, and C2 too
+x\x1Bka\x07b\u{C2}\u{AD}\x1B\\y
+xy
+
+CAN and SUB end a title
+x\x1Bkone\x18y\x1Bktwo\x1Az
+xyz
+
+another sequence ends a title, and goes through
+x\x1Bkone\x1B[1my\x1Bktwo\x1Bkthree\x1B\\z
+x\x1B[1myz
 
 a control inside a sequence leaves it as it is
 \x1B[4:␊3m\x1B[4:\x1B[4:3m
@@ -134,6 +158,25 @@ fn gone_out(alloc: Global, digits: usize) -> usize {
     out
 }
 
+// How many bytes go out for a title with so many letters, with its end and a letter behind it.
+fn left_of_title(alloc: Global, letters: usize) -> usize {
+    let mut filter = Filter::new(alloc);
+    let mut out = filter.feed(b"\x1Bk").map_or(0, |out| out.len());
+    for _ in 0..letters {
+        let more = filter.feed(b"x").map_or(0, |out| out.len());
+        out = out.saturating_add(more);
+    }
+    let end = filter.feed(b"\x1B\\y").map_or(0, |out| out.len());
+    out.saturating_add(end)
+}
+
+// Returns true if the last title of these pieces is this one.
+fn is_last_title(alloc: Global, first: &[u8], piece: &[u8], wanted: Option<&[u8]>) -> bool {
+    let mut filter = Filter::new(alloc);
+    filter.feed(first).is_ok()
+        && matches!(filter.title(piece), Ok(title) if title.as_deref() == wanted)
+}
+
 #[test]
 fn rows_of_what_is_normalized(rt: HostRuntime) {
     for block in ROWS.split("\n\n") {
@@ -141,4 +184,16 @@ fn rows_of_what_is_normalized(rt: HostRuntime) {
     }
     assert_eq!(rt; gone_out(rt.alloc(), MOST_BODY), 0);
     assert_eq!(rt; gone_out(rt.alloc(), MOST_BODY + 1), MOST_HELD + 1);
+    assert_eq!(rt; left_of_title(rt.alloc(), MOST_TITLE - 1), 1);
+    assert_eq!(rt; left_of_title(rt.alloc(), MOST_TITLE), 3);
+    assert_eq!(rt; left_of_title(rt.alloc(), MOST_TITLE + 1), 4);
+    assert!(rt;
+        is_last_title(
+            rt.alloc(),
+            b"\x1Bkone\x1B\\\x1Bktw",
+            b"o\x1B\\three",
+            Some(b"two")
+        )
+    );
+    assert!(rt; is_last_title(rt.alloc(), b"\x1Bkone\x1B\\", b"\x1Bktwo\x1B", None));
 }

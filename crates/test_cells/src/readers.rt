@@ -1,7 +1,9 @@
 //! Worked rows: the functions of bytes, by ECMA-48, ECMA-35, the Unicode Standard and this project's profile.
+use crate::words::{as_wanted, case_of};
 use roam_text::{Dispatch, Dispatched, Function, Out, Reader};
 use std::alloc::{AllocError, Global};
 use std::fmt::Write;
+use std::test::Fail;
 
 /// Rows of a heading, bytes and their functions, with an empty line between them. A character is the byte of its code, but `␊` is LF, `␍`
 /// is CR, and `⇕` is no byte: a new size of 3 rows by 8 columns comes there. Functions are written with all numbers but parameters and
@@ -469,39 +471,50 @@ fn read_row(text: &mut String, row: &Row<'_>, way: Way) -> Result<(), AllocError
     read(text, &mut reader, after, way)
 }
 
-fn are_wanted(read: &str, wanted: &str) -> bool {
-    let functions = read.trim_end();
-    functions == wanted || functions.is_empty() && wanted == "-"
-}
-
-fn holds_by(alloc: Global, row: &Row<'_>, way: Way) -> bool {
+// Returns the functions of a row's bytes that are read in this way.
+fn read_by(alloc: Global, row: &Row<'_>, way: Way) -> Result<String, AllocError> {
     let mut text = String::new(alloc);
-    read_row(&mut text, row, way).is_ok() && are_wanted(text.as_str(), row.functions)
+    read_row(&mut text, row, way)?;
+    Ok(text)
 }
 
-// Returns true if a row's bytes have its functions, in each way.
-fn is_read(alloc: Global, row: &Row<'_>) -> bool {
+// Returns the functions of a row that are read by `next`, or those in pieces if the former are the expected ones.
+fn read_whole(alloc: Global, row: &Row<'_>) -> Result<String, AllocError> {
+    let found = read_by(alloc, row, Way::Next)?;
+    if as_wanted(found.as_str()) != row.functions {
+        return Ok(found);
+    }
+    let found = read_by(alloc, row, Way::Pieces(1))?;
+    if as_wanted(found.as_str()) != row.functions {
+        return Ok(found);
+    }
+    read_by(alloc, row, Way::Pieces(row.bytes.len()))
+}
+
+// Returns the functions of a line that are read in the first way in which they are not the expected ones, or else the expected ones.
+fn first_read(alloc: Global, line: &str, functions: &str) -> Result<String, AllocError> {
+    let row = row_of(alloc, line, functions)?;
     for at in 0..row.bytes.len() {
-        if !holds_by(alloc, row, Way::Cut(at)) {
-            return false;
+        let found = read_by(alloc, &row, Way::Cut(at))?;
+        if as_wanted(found.as_str()) != functions {
+            return Ok(found);
         }
     }
-    holds_by(alloc, row, Way::Next)
-        && holds_by(alloc, row, Way::Pieces(1))
-        && holds_by(alloc, row, Way::Pieces(row.bytes.len()))
-}
-
-fn holds(alloc: Global, block: &str) -> bool {
-    let (_, rest) = block.split_once('\n').unwrap_or((block, ""));
-    let (line, functions) = rest.split_once('\n').unwrap_or((rest, ""));
-    matches!(row_of(alloc, line, functions), Ok(row) if is_read(alloc, &row))
+    read_whole(alloc, &row)
 }
 
 #[test]
-fn rows_of_the_reader(rt: HostRuntime) {
-    for block in ROWS.split("\n\n") {
-        assert!(rt; holds(rt.alloc(), block), "{block}");
+fn rows_of_the_reader(rt: HostRuntime) -> Result<(), Fail> {
+    for case in ROWS.split("\n\n") {
+        match case_of(case) {
+            Some((name, line, functions)) => {
+                let found = first_read(rt.alloc(), line, functions)?;
+                assert_eq!(rt; as_wanted(found.as_str()), functions, "{name}");
+            }
+            None => panic!(rt; "malformed case: {case}"),
+        }
     }
+    Ok(())
 }
 
 // The beginning of a long sequence, a byte that continues it a million times, its end, and the functions of all.
@@ -531,7 +544,7 @@ fn read_long(text: &mut String, first: &[u8], byte: u8, last: &[u8]) -> bool {
 
 fn asks_for(alloc: Global, first: &[u8], byte: u8, last: &[u8], functions: &str) -> bool {
     let mut text = String::new(alloc);
-    read_long(&mut text, first, byte, last) && are_wanted(text.as_str(), functions)
+    read_long(&mut text, first, byte, last) && as_wanted(text.as_str()) == functions
 }
 
 fn is_long_read(alloc: Global, line: &str) -> bool {

@@ -11,95 +11,134 @@ const SPECIAL_GRAPHICS: &str = "\
 \u{23BA}\u{23BB}\u{2500}\u{23BC}\u{23BD}\u{251C}\u{2524}\u{2534}\
 \u{252C}\u{2502}\u{2264}\u{2265}\u{3C0}\u{2260}\u{A3}\u{B7}";
 
-fn maps_special_graphics() -> bool {
-    CODES
-        .chars()
-        .map(|code| Charset::DecSpecialGraphics.map(code))
-        .eq(SPECIAL_GRAPHICS.chars())
+// Returns the first of these codes that a set does not map to its character of another text: the code and the character found. The texts
+// are equally long.
+fn first_other(set: Charset, codes: &str, wanted: &str) -> Option<(char, Option<char>)> {
+    let mut wanted = wanted.chars();
+    for code in codes.chars() {
+        let found = set.map(code);
+        if wanted.next() != Some(found) {
+            return Some((code, Some(found)));
+        }
+    }
+    match wanted.next() {
+        Some(lacking) => Some((lacking, None)),
+        None => None,
+    }
 }
 
-// Returns true if characters outside those codes are themselves.
-fn keeps_others() -> bool {
-    let below = ('!'..='^').all(|code| Charset::DecSpecialGraphics.map(code) == code);
-    let ascii = CODES.chars().all(|code| Charset::Ascii.map(code) == code);
-    let outside = Charset::DecSpecialGraphics.map(' ') == ' '
-        && Charset::DecSpecialGraphics.map('\u{7F}') == '\u{7F}';
-    below && ascii && outside
+// Returns the first of these characters that a set maps to another, and that one.
+fn first_changed(set: Charset, chars: &str) -> Option<(char, Option<char>)> {
+    first_other(set, chars, chars)
 }
 
-fn maps_united_kingdom() -> bool {
-    ('!'..='~').all(|code| {
+// Returns the first character up to 5/14 that special graphics map to another, and that one.
+fn first_changed_below() -> Option<(char, char)> {
+    for code in '!'..='^' {
+        let found = Charset::DecSpecialGraphics.map(code);
+        if found != code {
+            return Some((code, found));
+        }
+    }
+    None
+}
+
+// Returns the first character that the British set maps to another than expected, and that one.
+fn first_other_british() -> Option<(char, char)> {
+    for code in '!'..='~' {
         let shown = if code == '#' { '\u{A3}' } else { code };
-        Charset::UnitedKingdom.map(code) == shown
-    })
+        let found = Charset::UnitedKingdom.map(code);
+        if found != shown {
+            return Some((code, found));
+        }
+    }
+    None
 }
 
 // Characters that no set touches.
 const OTHERS: &str = "\0 \u{7F}\u{A0}\u{A3}\u{4E2D}\u{FFFD}\u{10FFFF}";
 
-fn leaves_others(set: Charset) -> bool {
-    OTHERS.chars().all(|c| set.map(c) == c)
-}
+// What the sets map, step by step: the step, whether both shifts select ASCII, and the characters found and expected.
+type Step = (&'static str, bool, bool, char, char);
 
-fn locks() -> bool {
+fn locking_shifts() -> [Step; 5] {
     let mut sets = Sets::new();
-    let fresh = sets.is_ascii() && sets.map('q') == 'q';
+    let fresh = ("fresh", sets.is_ascii(), true, sets.map('q'), 'q');
     sets.designate(Element::G1, Charset::DecSpecialGraphics);
-    let designated = sets.map('q') == 'q';
+    let designated = ("designated", true, true, sets.map('q'), 'q');
     sets.shift(Element::G1);
-    let locked = !sets.is_ascii() && sets.map('q') == '\u{2500}' && sets.map('x') == '\u{2502}';
+    let shifted = ("shifted", sets.is_ascii(), false, sets.map('q'), '\u{2500}');
+    let stays = ("stays", false, false, sets.map('x'), '\u{2502}');
     sets.shift(Element::G0);
-    fresh && designated && locked && sets.map('q') == 'q'
+    [
+        fresh,
+        designated,
+        shifted,
+        stays,
+        ("back", true, true, sets.map('q'), 'q'),
+    ]
 }
 
 // The second of two single shifts counts.
-fn shifts_once() -> bool {
+fn single_shifts() -> [Step; 6] {
     let mut sets = Sets::new();
     sets.designate(Element::G2, Charset::UnitedKingdom);
     sets.designate(Element::G3, Charset::DecSpecialGraphics);
     sets.single_shift(Element::G2);
-    let spent = !sets.is_ascii() && sets.map('#') == '\u{A3}' && sets.map('#') == '#';
+    let shifted = ("SS2", sets.is_ascii(), false, sets.map('#'), '\u{A3}');
+    let spent = ("SS2 spent", true, true, sets.map('#'), '#');
     sets.single_shift(Element::G3);
-    let by_any = sets.map('\u{4E2D}') == '\u{4E2D}' && sets.map('q') == 'q';
+    let other = ("SS3", true, true, sets.map('\u{4E2D}'), '\u{4E2D}');
+    let by_any = ("SS3 spent by any", true, true, sets.map('q'), 'q');
     sets.single_shift(Element::G2);
     sets.single_shift(Element::G3);
-    spent && by_any && sets.map('q') == '\u{2500}' && sets.is_ascii()
+    let second = ("SS2, SS3", true, true, sets.map('q'), '\u{2500}');
+    let last = ("SS2, SS3 spent", sets.is_ascii(), true, 'q', 'q');
+    [shifted, spent, other, by_any, second, last]
 }
 
-// Returns true if an element has a set of its own, which goes back to ASCII.
-fn is_designated(element: Element) -> bool {
+// Returns what an element with the British set maps `#` to, and whether it then goes back to ASCII.
+fn designated(element: Element) -> (char, bool) {
     let mut sets = Sets::new();
     sets.designate(element, Charset::UnitedKingdom);
     sets.shift(element);
-    let shown = sets.map('#') == '\u{A3}';
+    let shown = sets.map('#');
     sets.designate(element, Charset::Ascii);
     let locked = Sets {
         locked: element,
         ..Sets::new()
     };
-    shown && sets == locked
+    (shown, sets == locked)
 }
 
 #[test]
 fn sets_map_their_codes(rt: HostRuntime) {
-    assert!(rt; maps_special_graphics());
-    assert!(rt; keeps_others());
-    assert!(rt; maps_united_kingdom());
-    for set in [
-        Charset::Ascii,
-        Charset::UnitedKingdom,
-        Charset::DecSpecialGraphics,
-    ] {
-        assert!(rt; leaves_others(set));
-    }
+    let special = Charset::DecSpecialGraphics;
+    assert_eq!(rt; first_other(special, CODES, SPECIAL_GRAPHICS), None);
+    assert_eq!(rt; first_changed_below(), None);
+    assert_eq!(rt; first_changed(Charset::Ascii, CODES), None);
+    assert_eq!(rt; first_changed(special, " \u{7F}"), None);
+    assert_eq!(rt; first_other_british(), None);
+    assert_eq!(rt; first_changed(Charset::Ascii, OTHERS), None, "ASCII");
+    assert_eq!(rt;
+        first_changed(Charset::UnitedKingdom, OTHERS),
+        None,
+        "United Kingdom"
+    );
+    assert_eq!(rt; first_changed(special, OTHERS), None, "special graphics");
 }
 
 // A locking shift stays; a single shift is spent by any character; each element has its own set.
 #[test]
 fn designations_and_shifts(rt: HostRuntime) {
-    assert!(rt; locks());
-    assert!(rt; shifts_once());
-    for element in [Element::G0, Element::G1, Element::G2, Element::G3] {
-        assert!(rt; is_designated(element));
+    for (step, is_ascii, ascii, found, wanted) in locking_shifts() {
+        assert_eq!(rt; (is_ascii, found), (ascii, wanted), "{step}");
+    }
+    for (step, is_ascii, ascii, found, wanted) in single_shifts() {
+        assert_eq!(rt; (is_ascii, found), (ascii, wanted), "{step}");
+    }
+    let elements = [Element::G0, Element::G1, Element::G2, Element::G3];
+    for (number, element) in elements.into_iter().enumerate() {
+        assert_eq!(rt; designated(element), ('\u{A3}', true), "G{number}");
     }
 }

@@ -1,8 +1,10 @@
 //! Worked rows: which control strings count among bytes, and with what text (ECMA-48, 5.6; xterm's end at BEL).
 use crate::readers::bytes_of;
+use crate::words::{as_wanted, case_of};
 use roam_text::{StringEnd, StringKind, StringReader, StringStep};
 use std::alloc::{AllocError, Global};
 use std::fmt::Write;
+use std::test::Fail;
 
 /// Rows of a heading, bytes and their counted strings, each as its kind, its text between brackets and its end, with an empty line between
 /// them. A character of the bytes is the byte of its code; `-` is no string.
@@ -99,26 +101,31 @@ fn strings_in(alloc: Global, bytes: &[u8]) -> Result<String, AllocError> {
     Ok(counts)
 }
 
-fn are_wanted(alloc: Global, line: &str, wanted: &str) -> bool {
-    let Ok(bytes) = bytes_of(alloc, line) else {
-        return false;
-    };
-    let Ok(found) = strings_in(alloc, &bytes) else {
-        return false;
-    };
-    found.trim_end() == wanted || found.is_empty() && wanted == "-"
+// The strings that count among the bytes of a line.
+fn strings_of(alloc: Global, line: &str) -> Result<String, AllocError> {
+    let bytes = bytes_of(alloc, line)?;
+    strings_in(alloc, &bytes)
 }
 
-fn holds(alloc: Global, block: &str) -> bool {
-    let (_, rest) = block.split_once('\n').unwrap_or((block, ""));
-    let (line, wanted) = rest.split_once('\n').unwrap_or((rest, ""));
-    are_wanted(alloc, line, wanted)
+#[test]
+fn rows_of_control_strings(rt: HostRuntime) -> Result<(), Fail> {
+    for case in ROWS.split("\n\n") {
+        match case_of(case) {
+            Some((name, line, wanted)) => {
+                let found = strings_of(rt.alloc(), line)?;
+                assert_eq!(rt; as_wanted(found.as_str()), wanted, "{name}");
+            }
+            None => panic!(rt; "malformed case: {case}"),
+        }
+    }
+    Ok(())
 }
 
-// Returns true if a reader of strings is at rest exactly outside all of them, and between characters.
-fn rests() -> bool {
+// A reader of strings is at rest exactly outside all of them, and between characters.
+#[test]
+fn a_reader_of_strings_rests(rt: HostRuntime) {
     let mut reader = StringReader::new();
-    let mut rested = reader.is_at_rest();
+    assert_eq!(rt; reader.is_at_rest(), true, "before all bytes");
     for (byte, rests) in [
         (b'\x1B', false),
         (b']', false),
@@ -127,15 +134,6 @@ fn rests() -> bool {
         (0xE2, false),
     ] {
         reader.next(byte);
-        rested = rested && reader.is_at_rest() == rests;
+        assert_eq!(rt; reader.is_at_rest(), rests, "after byte {byte}");
     }
-    rested
-}
-
-#[test]
-fn rows_of_control_strings(rt: HostRuntime) {
-    for block in ROWS.split("\n\n") {
-        assert!(rt; holds(rt.alloc(), block), "{block}");
-    }
-    assert!(rt; rests());
 }

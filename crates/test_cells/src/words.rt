@@ -16,6 +16,21 @@ pub fn parts_of(line: &str, by: char) -> [&str; 5] {
     ]
 }
 
+/// The name of a case, its line, and what is expected of it; `None` if the case is malformed.
+pub fn case_of(case: &str) -> Option<(&str, &str, &str)> {
+    let (name, rest) = case.split_once('\n')?;
+    let (line, wanted) = rest.split_once('\n')?;
+    Some((name, line, wanted))
+}
+
+/// A found text as a table has it: without spaces at its end, and `-` in place of nothing.
+pub fn as_wanted(found: &str) -> &str {
+    match found.trim_end() {
+        "" => "-",
+        found => found,
+    }
+}
+
 /// A number; `max` is the largest.
 pub fn number(word: &str) -> Option<usize> {
     if word == "max" {

@@ -6,6 +6,7 @@
 //! them: those from a blank screen to two others, and the one from the first to the second.
 
 use crate::change;
+use crate::screens::{Other, malformed};
 use hex::FromHexError;
 use roam_cells::{Cell, Fault, Style, are_same_cells, width};
 use roam_screens::{RowShot, RowShot1, Seen};
@@ -236,85 +237,149 @@ pub fn made_by<S: Synced>(alloc: Global, base: &S, words: &str) -> Result<S, Fau
     made(alloc, base, &text)
 }
 
-fn is_change<S: Synced>(alloc: Global, base: &S, shot: &S, text: &[u8]) -> bool {
-    matches!(change(alloc, base, shot), Ok(written) if written.as_slice() == text)
+// Returns the first place at which two texts differ.
+fn first_other_place(text: &[u8], wanted: &[u8]) -> usize {
+    for (place, byte) in text.iter().enumerate() {
+        if wanted.get(place) != Some(byte) {
+            return place;
+        }
+    }
+    text.len()
 }
 
-/// Returns true if a text leads from a screen to another, and is written again from there.
-pub fn is_kept<S: Synced>(alloc: Global, blank: &S, text: &[u8]) -> bool {
-    matches!(made(alloc, blank, text), Ok(shot) if is_change(alloc, blank, &shot, text))
+/// Returns how a text differs from the expected one.
+pub fn other_bytes(alloc: Global, text: &[u8], wanted: &[u8]) -> Other {
+    if text == wanted {
+        return Ok(None);
+    }
+    let place = first_other_place(text, wanted);
+    Ok(Some(format!(in alloc;
+        "{} bytes in place of {}, byte {place}: {:?} in place of {:?}",
+        text.len(),
+        wanted.len(),
+        text.get(place),
+        wanted.get(place)
+    )?))
 }
 
-// Returns true if a text is refused, and leaves a screen as it was.
-fn is_refused<S: Synced + Seen>(alloc: Global, old: &S, text: &[u8]) -> bool {
-    match Synced::copy(old, alloc) {
-        Ok(mut shot) => shot.apply(alloc, text) == Err(Fault::BadChange) && is_same(&shot, old),
-        Err(_) => false,
+// Returns the place and the cursor of the screen, as a text, at which two screens differ.
+fn other_screen<S: Seen>(alloc: Global, shot: &S, wanted: &S) -> Other {
+    if is_same(shot, wanted) {
+        return Ok(None);
+    }
+    let found = (shot.rows(), shot.cols(), shot.cursor(), shot.visible());
+    let expected = (
+        wanted.rows(),
+        wanted.cols(),
+        wanted.cursor(),
+        wanted.visible(),
+    );
+    Ok(Some(format!(in alloc; "a screen of {found:?} in place of {expected:?}, or other cells")?))
+}
+
+// Returns how the diff between two screens differs from a text.
+fn other_change<S: Synced>(alloc: Global, base: &S, shot: &S, text: &[u8]) -> Other {
+    let written = change(alloc, base, shot)?;
+    other_bytes(alloc, written.as_slice(), text)
+}
+
+/// Returns how a text that leads from a screen to another is written otherwise from there.
+pub fn other_kept<S: Synced>(alloc: Global, blank: &S, text: &[u8]) -> Other {
+    let shot = made(alloc, blank, text)?;
+    other_change(alloc, blank, &shot, text)
+}
+
+// Returns how a text is not refused, or does not leave a screen as it was.
+fn other_refused<S: Synced + Seen>(alloc: Global, old: &S, text: &[u8]) -> Other {
+    let mut shot = Synced::copy(old, alloc)?;
+    match shot.apply(alloc, text) {
+        Err(Fault::BadChange) => other_screen(alloc, &shot, old),
+        answer => Ok(Some(format!(in alloc; "{answer:?} in place of a refusal")?)),
     }
 }
 
-fn are_beginnings_refused<S: Synced + Seen>(alloc: Global, old: &S, text: &[u8]) -> bool {
+fn other_beginnings<S: Synced + Seen>(alloc: Global, old: &S, text: &[u8]) -> Other {
     for n in 0..text.len() {
-        if !is_refused(alloc, old, &text[..n]) {
-            return false;
+        if let Some(other) = other_refused(alloc, old, &text[..n])? {
+            return Ok(Some(format!(in alloc; "the first {n} bytes: {}", other.as_str())?));
         }
     }
-    true
+    Ok(None)
 }
 
-fn is_so<S: Synced + Seen>(alloc: Global, blank: &S, old: &S, what: &str, text: &[u8]) -> bool {
+fn other_so<S: Synced + Seen>(alloc: Global, blank: &S, old: &S, what: &str, text: &[u8]) -> Other {
     match what {
-        "kept" => is_kept(alloc, blank, text),
-        "beginnings" => are_beginnings_refused(alloc, old, text),
-        _ => what.starts_with("refused ") && is_refused(alloc, old, text),
+        "kept" => other_kept(alloc, blank, text),
+        "beginnings" => other_beginnings(alloc, old, text),
+        _ if what.starts_with("refused ") => other_refused(alloc, old, text),
+        _ => malformed(alloc),
     }
 }
 
-/// Returns true if a row is true: a kept text leads on from a blank screen, and a refused one leaves the old screen.
-pub fn holds<S: Synced + Seen>(alloc: Global, blank: &S, old: &str, row: &str) -> bool {
-    let (what, words) = row.split_once(": ").unwrap_or((row, ""));
-    match (made_by(alloc, blank, old), bytes_of(alloc, words)) {
-        (Ok(old), Ok(text)) => is_so(alloc, blank, &old, what, &text),
-        _ => false,
-    }
+/// Returns how a row is not true: a kept text leads on from a blank screen, and a refused one leaves the old screen.
+pub fn other_row<S: Synced + Seen>(alloc: Global, blank: &S, old: &str, row: &str) -> Other {
+    let Some((what, words)) = row.split_once(": ") else {
+        return malformed(alloc);
+    };
+    let old = made_by(alloc, blank, old)?;
+    let text = bytes_of(alloc, words)?;
+    other_so(alloc, blank, &old, what, &text)
 }
 
-// Returns true if the diff from one screen to another leads there.
-fn leads<S: Synced + Seen>(alloc: Global, base: &S, shot: &S) -> bool {
-    match change(alloc, base, shot) {
-        Ok(text) => matches!(made(alloc, base, &text), Ok(copy) if is_same(&copy, shot)),
-        Err(_) => false,
-    }
+// Returns how the diff from one screen to another does not lead there.
+fn other_led<S: Synced + Seen>(alloc: Global, base: &S, shot: &S) -> Other {
+    let text = change(alloc, base, shot)?;
+    let copy = made(alloc, base, &text)?;
+    other_screen(alloc, &copy, shot)
 }
 
-fn leads_to_each<S: Synced + Seen>(alloc: Global, blank: &S, base: &S, screens: &str) -> bool {
+fn other_of_each<S: Synced + Seen>(alloc: Global, blank: &S, base: &S, screens: &str) -> Other {
     for screen in screens.lines() {
-        if !matches!(made_by(alloc, blank, screen), Ok(shot) if leads(alloc, base, &shot)) {
-            return false;
+        let shot = made_by(alloc, blank, screen)?;
+        if let Some(other) = other_led(alloc, base, &shot)? {
+            return Ok(Some(format!(in alloc; "to {screen}: {}", other.as_str())?));
         }
     }
-    true
+    Ok(None)
 }
 
-/// Returns true if diffs lead from a screen to each of them.
-pub fn reaches<S: Synced + Seen>(alloc: Global, blank: &S, screen: &str, screens: &str) -> bool {
-    matches!(made_by(alloc, blank, screen), Ok(base) if leads_to_each(alloc, blank, &base, screens))
+/// Returns how diffs do not lead from a screen to each of them.
+pub fn other_reached<S: Synced + Seen>(
+    alloc: Global,
+    blank: &S,
+    screen: &str,
+    screens: &str,
+) -> Other {
+    let base = made_by(alloc, blank, screen)?;
+    other_of_each(alloc, blank, &base, screens)
 }
 
-// Returns true if exactly this text is written from one screen to another, and leads there.
-fn goes(alloc: Global, old: &RowShot1, new: &RowShot1, text: &[u8]) -> bool {
-    is_change(alloc, old, new, text)
-        && matches!(made(alloc, old, text), Ok(made) if is_same(&made, new))
-}
-
-fn is_hop(alloc: Global, blank: &RowShot1, hop: &str) -> bool {
-    let (old, rest) = hop.split_once('>').unwrap_or((hop, ""));
-    let (new, words) = rest.split_once('>').unwrap_or((rest, ""));
-    match (made_by(alloc, blank, old), made_by(alloc, blank, new)) {
-        (Ok(old), Ok(new)) =>
-            matches!(bytes_of(alloc, words), Ok(text) if goes(alloc, &old, &new, &text)),
-        _ => false,
+// Returns how this text is not the one written from one screen to another, or does not lead there.
+fn other_between(alloc: Global, old: &RowShot1, new: &RowShot1, text: &[u8]) -> Other {
+    match other_change(alloc, old, new, text)? {
+        None => {
+            let made = made(alloc, old, text)?;
+            other_screen(alloc, &made, new)
+        }
+        other => Ok(other),
     }
+}
+
+// The three texts of a hop; `None` if it is malformed.
+fn three_of(hop: &str) -> Option<(&str, &str, &str)> {
+    let (old, rest) = hop.split_once('>')?;
+    let (new, words) = rest.split_once('>')?;
+    Some((old, new, words))
+}
+
+fn other_hop(alloc: Global, blank: &RowShot1, hop: &str) -> Other {
+    let Some((old, new, words)) = three_of(hop) else {
+        return malformed(alloc);
+    };
+    let old = made_by(alloc, blank, old)?;
+    let new = made_by(alloc, blank, new)?;
+    let text = bytes_of(alloc, words)?;
+    other_between(alloc, &old, &new, &text)
 }
 
 // A blank screen.
@@ -322,15 +387,13 @@ fn blank_of(alloc: Global, cols: u16) -> Result<RowShot1, Fault> {
     RowShot1::of(alloc, &RowShot::blank(alloc, 2, cols)?)
 }
 
-// Returns true if a row, a screen or a hop is true from a blank screen on.
-fn holds_from_blank(alloc: Global, table: Table, case: &str) -> bool {
-    let Ok(blank) = blank_of(alloc, 8) else {
-        return false;
-    };
+// Returns how a row, a screen or a hop is not true from a blank screen on.
+fn other_from_blank(alloc: Global, table: Table, case: &str) -> Other {
+    let blank = blank_of(alloc, 8)?;
     match table {
-        Table::Rows => holds(alloc, &blank, TWO, case),
-        Table::Screens => reaches(alloc, &blank, case, SCREENS),
-        Table::Hops => is_hop(alloc, &blank, case),
+        Table::Rows => other_row(alloc, &blank, TWO, case),
+        Table::Screens => other_reached(alloc, &blank, case, SCREENS),
+        Table::Hops => other_hop(alloc, &blank, case),
     }
 }
 
@@ -345,27 +408,37 @@ enum Table {
 #[test]
 fn rows_are_kept_or_refused(rt: HostRuntime) {
     for row in ROWS.lines() {
-        assert!(rt; holds_from_blank(rt.alloc(), Table::Rows, row), "{row}");
+        assert_eq!(rt;
+            other_from_blank(rt.alloc(), Table::Rows, row),
+            Ok(None),
+            "{row}"
+        );
     }
 }
 
 #[test]
 fn changes_lead_from_screen_to_screen(rt: HostRuntime) {
     for screen in SCREENS.lines() {
-        assert!(rt;
-            holds_from_blank(rt.alloc(), Table::Screens, screen),
+        assert_eq!(rt;
+            other_from_blank(rt.alloc(), Table::Screens, screen),
+            Ok(None),
             "{screen}"
         );
     }
     for hop in HOPS.split("\n\n") {
-        assert!(rt; holds_from_blank(rt.alloc(), Table::Hops, hop), "{hop}");
+        assert_eq!(rt;
+            other_from_blank(rt.alloc(), Table::Hops, hop),
+            Ok(None),
+            "{hop}"
+        );
     }
 }
 
-fn is_added_at_the_end(alloc: Global, blank: &RowShot1) -> Result<bool, Fault> {
+fn other_at_the_end(alloc: Global, blank: &RowShot1) -> Other {
     let mut text = bytes_of(alloc, ONE)?;
     blank.write_change(alloc, blank, &mut text)?;
-    Ok(text.as_slice() == bytes_of(alloc, ONE_AND_NONE)?.as_slice())
+    let wanted = bytes_of(alloc, ONE_AND_NONE)?;
+    other_bytes(alloc, text.as_slice(), wanted.as_slice())
 }
 
 fn is_kept_but_for_a_space(alloc: Global, blank: &RowShot1, shot: &RowShot1, text: &[u8]) -> bool {
@@ -426,14 +499,25 @@ fn count_narrow(place: usize) -> usize {
     count
 }
 
-// Returns true if so many other values are accepted at a place of ONE.
-fn takes_others(alloc: Global, blank: &RowShot1, place: usize, wanted: &str) -> bool {
-    let wanted = if wanted == "narrow" {
-        Ok(count_narrow(place.saturating_sub(27)))
-    } else {
-        wanted.parse::<usize>()
+// The number of other values of a table at a place of ONE; `None` if it is malformed.
+fn wanted_others(place: usize, wanted: &str) -> Option<usize> {
+    if wanted == "narrow" {
+        return Some(count_narrow(place.saturating_sub(27)));
+    }
+    wanted.parse::<usize>().ok()
+}
+
+// Returns how many other values than expected are accepted at a place of ONE.
+fn other_taken(alloc: Global, blank: &RowShot1, place: usize, wanted: &str) -> Other {
+    let Some(wanted) = wanted_others(place, wanted) else {
+        return malformed(alloc);
     };
-    matches!(bytes_of(alloc, ONE), Ok(one) if Ok(count_taken(alloc, blank, &one, place)) == wanted)
+    let one = bytes_of(alloc, ONE)?;
+    let count = count_taken(alloc, blank, &one, place);
+    if count == wanted {
+        return Ok(None);
+    }
+    Ok(Some(format!(in alloc; "{count} other values in place of {wanted}")?))
 }
 
 // A wide character in the first row of 2 by 8, with its left half in a column from 0 and one byte of flags.
@@ -449,19 +533,12 @@ fn wide_at(alloc: Global, col: u8, flags: u8) -> Result<RowShot1, Fault> {
     made(alloc, &blank, &text)
 }
 
-fn change_len(alloc: Global, base: &RowShot1, shot: &RowShot1) -> usize {
-    match change(alloc, base, shot) {
-        Ok(text) => text.len(),
-        Err(_) => 0,
-    }
-}
-
-// Returns the length of the diff from a wide character in 8 columns to a blank screen of fewer; 0 if memory is refused.
-fn cut_len(alloc: Global, cols: u16, col: u8, flags: u8) -> usize {
-    match (wide_at(alloc, col, flags), blank_of(alloc, cols)) {
-        (Ok(base), Ok(blank)) => change_len(alloc, &base, &blank),
-        _ => 0,
-    }
+// Returns the length of the diff from a wide character in 8 columns to a blank screen of fewer.
+fn cut_len(alloc: Global, cols: u16, col: u8, flags: u8) -> Result<usize, Fault> {
+    let base = wide_at(alloc, col, flags)?;
+    let blank = blank_of(alloc, cols)?;
+    let text = change(alloc, &base, &blank)?;
+    Ok(text.len())
 }
 
 // Both halves, below `cols`, differ from blanks; the left one alone, cut, if its style does; none beyond the last column is named.
@@ -476,12 +553,6 @@ fn named_len(cols: u16, col: u8, is_plain: bool) -> usize {
     }
 }
 
-// Returns true if a wide character that is cut is a space in its style.
-fn is_cut_a_space(alloc: Global, cols: u16, col: u8) -> bool {
-    cut_len(alloc, cols, col, 0) == named_len(cols, col, true)
-        && cut_len(alloc, cols, col, 1) == named_len(cols, col, false)
-}
-
 fn is_x(shot: &RowShot1, row: u16, col: u16) -> bool {
     match shot.at(row, col) {
         Some(cell) => cell.is_same(&Cell::ascii(b'x', Style::default(), false)),
@@ -489,17 +560,31 @@ fn is_x(shot: &RowShot1, row: u16, col: u16) -> bool {
     }
 }
 
-// Returns true if a screen of 3 by 5 has `x` only in its corners.
-fn has_corners(shot: &RowShot1) -> bool {
+// Returns the first place of 3 by 5 that has no `x` though it is a corner, or has one though it is none.
+fn first_other_corner(shot: &RowShot1) -> Option<(u16, u16)> {
     for row in 1..4 {
         for col in 1..6 {
             let corner = (row == 1 || row == 3) && (col == 1 || col == 5);
             if is_x(shot, row, col) != corner {
-                return false;
+                return Some((row, col));
             }
         }
     }
-    shot.rows() == 3 && shot.cols() == 5 && shot.cursor() == (3, 5) && !shot.visible()
+    None
+}
+
+// Returns how a screen is not one of 3 by 5 with `x` only in its corners, and a hidden cursor in the last.
+fn other_corners(alloc: Global, blank: &RowShot1) -> Other {
+    let shot = made_by(alloc, blank, CORNERS)?;
+    if let Some(place) = first_other_corner(&shot) {
+        return Ok(Some(format!(in alloc; "another cell at {place:?}")?));
+    }
+    let found = (shot.rows(), shot.cols(), shot.cursor(), shot.visible());
+    let wanted = (3, 5, (3, 5), false);
+    if found == wanted {
+        return Ok(None);
+    }
+    Ok(Some(format!(in alloc; "a screen of {found:?} in place of {wanted:?}")?))
 }
 
 /// The trial of a blank screen.
@@ -510,23 +595,21 @@ enum Trial<'a> {
     Corners,
 }
 
-fn tries(alloc: Global, blank: &RowShot1, trial: Trial<'_>) -> bool {
+fn other_tried(alloc: Global, trial: Trial<'_>) -> Other {
+    let blank = blank_of(alloc, 8)?;
     match trial {
-        Trial::AddedAtTheEnd => matches!(is_added_at_the_end(alloc, blank), Ok(true)),
-        Trial::ChangedByte(place, wanted) => takes_others(alloc, blank, place, wanted),
-        Trial::Corners => matches!(made_by(alloc, blank, CORNERS), Ok(shot) if has_corners(&shot)),
+        Trial::AddedAtTheEnd => other_at_the_end(alloc, &blank),
+        Trial::ChangedByte(place, wanted) => other_taken(alloc, &blank, place, wanted),
+        Trial::Corners => other_corners(alloc, &blank),
     }
-}
-
-fn is_tried(alloc: Global, trial: Trial<'_>) -> bool {
-    matches!(blank_of(alloc, 8), Ok(blank) if tries(alloc, &blank, trial))
 }
 
 #[test]
 fn each_changed_byte_is_refused_or_exact(rt: HostRuntime) {
     for (place, wanted) in OTHER_VALUES.split(' ').enumerate() {
-        assert!(rt;
-            is_tried(rt.alloc(), Trial::ChangedByte(place, wanted)),
+        assert_eq!(rt;
+            other_tried(rt.alloc(), Trial::ChangedByte(place, wanted)),
+            Ok(None),
             "at {place}"
         );
     }
@@ -535,53 +618,80 @@ fn each_changed_byte_is_refused_or_exact(rt: HostRuntime) {
 // A diff is added at the end, and turns each corner. A wide cell that is cut is a space in its style, at each column of each width.
 #[test]
 fn ends_corners_and_cuts(rt: HostRuntime) {
-    assert!(rt; is_tried(rt.alloc(), Trial::AddedAtTheEnd), "end");
-    assert!(rt; is_tried(rt.alloc(), Trial::Corners), "corners");
+    assert_eq!(rt;
+        other_tried(rt.alloc(), Trial::AddedAtTheEnd),
+        Ok(None),
+        "end"
+    );
+    assert_eq!(rt;
+        other_tried(rt.alloc(), Trial::Corners),
+        Ok(None),
+        "corners"
+    );
     for cols in 4..8u16 {
         for col in 0..7u8 {
-            assert!(rt; is_cut_a_space(rt.alloc(), cols, col), "{col} of {cols}");
+            assert_eq!(rt;
+                cut_len(rt.alloc(), cols, col, 0),
+                Ok(named_len(cols, col, true)),
+                "plain, {col} of {cols}"
+            );
+            assert_eq!(rt;
+                cut_len(rt.alloc(), cols, col, 1),
+                Ok(named_len(cols, col, false)),
+                "styled, {col} of {cols}"
+            );
         }
     }
 }
 
-// Returns true if a call succeeded and had its effect, or failed for want of memory and changed nothing.
-fn is_done_or_kept(answer: Result<(), Fault>, is_done: bool, is_kept: bool) -> bool {
+// What is wrong with a call that may be refused memory: its name, and what it did; `None` if nothing is.
+pub type Wrong = Option<(&'static str, &'static str)>;
+
+// A call has succeeded and had its effect, or it failed for want of memory and changed nothing.
+fn wrong_in(call: &'static str, answer: Result<(), Fault>, is_done: bool, is_kept: bool) -> Wrong {
     match answer {
-        Ok(()) => is_done,
-        Err(fault) => fault == Fault::OutOfMemory && is_kept,
+        Ok(()) if is_done => None,
+        Ok(()) => Some((call, "succeeded without its effect")),
+        Err(Fault::OutOfMemory) if is_kept => None,
+        Err(Fault::OutOfMemory) => Some((call, "was refused memory and had an effect")),
+        Err(_) => Some((call, "was refused for another reason than memory")),
     }
 }
 
-/// Returns true if the diff from one screen to another is written and applied so, or memory is refused and nothing changes.
-pub fn is_changed_or_kept<S: Synced + Seen>(
-    alloc: Global,
-    old: &mut S,
-    new: &S,
-    text: &[u8],
-) -> bool {
+/// The diff from one screen to another is written and applied so, or memory is refused and nothing changes.
+pub fn wrong_change<S: Synced + Seen>(alloc: Global, old: &mut S, new: &S, text: &[u8]) -> Wrong {
     let mut out = Vec::new(alloc);
     let written = new.write_change(alloc, old, &mut out);
     let applied = old.apply(alloc, text);
-    is_done_or_kept(written, out.as_slice() == text, out.is_empty())
-        && is_done_or_kept(applied, is_same(old, new), !is_same(old, new))
+    wrong_in(
+        "write_change",
+        written,
+        out.as_slice() == text,
+        out.is_empty(),
+    )
+    .or(wrong_in("apply", applied, is_same(old, new), !is_same(old, new)))
 }
 
-fn is_copied_or_refused(alloc: Global, shot: &RowShot1) -> bool {
+fn wrong_copy(alloc: Global, shot: &RowShot1) -> Wrong {
     match Synced::copy(shot, alloc) {
-        Ok(copy) => is_same(&copy, shot),
-        Err(fault) => fault == Fault::OutOfMemory,
+        Ok(copy) => wrong_in("copy", Ok(()), is_same(&copy, shot), true),
+        Err(fault) => wrong_in("copy", Err(fault), true, true),
     }
 }
 
 // The test ends if there is no memory for the screens themselves.
-fn survives(alloc: Global) -> Result<bool, Fault> {
+fn first_wrong(alloc: Global) -> Result<Wrong, Fault> {
     let mut old = blank_of(alloc, 8)?;
     let text = bytes_of(alloc, ONE)?;
     let new = made(alloc, &old, &text)?;
-    Ok(is_copied_or_refused(alloc, &new) && is_changed_or_kept(alloc, &mut old, &new, &text))
+    Ok(wrong_copy(alloc, &new).or(wrong_change(alloc, &mut old, &new, &text)))
 }
 
 #[test]
 fn refused_memory_changes_nothing(rt: HostRuntime) {
-    assert!(rt; matches!(survives(rt.alloc()), Ok(true) | Err(Fault::OutOfMemory)));
+    let found = first_wrong(rt.alloc());
+    assert!(rt;
+        matches!(found, Ok(None) | Err(Fault::OutOfMemory)),
+        "{found:?}"
+    );
 }

@@ -3,7 +3,9 @@
 //! Tables are texts, one case after another with an empty line between them: the input of two terminals, with a bar between. In `TEXTS` a
 //! name comes before, and the text between their screens behind.
 use crate::screen;
-use crate::screens::{shown_by, shows_after};
+use crate::screens::{
+    Other, malformed, other_after, other_text, shown_by, size_and_input, text_behind,
+};
 use roam_cells::Fault;
 use roam_paint::{open, paint};
 use roam_screens::Shot;
@@ -161,112 +163,136 @@ fn text_between(alloc: Global, old: &Shot, new: &Shot) -> Result<Vec<u8>, Fault>
     Ok(text)
 }
 
-fn goes_over(alloc: Global, term: &mut Term, old: &Shot, new: &Shot) -> bool {
-    match text_between(alloc, old, new) {
-        Ok(text) => shows_after(
-            alloc,
-            term,
-            text.as_slice()
-                .strip_prefix(b"before".as_slice())
-                .unwrap_or(b""),
-            new,
-        ),
-        Err(_) => false,
+fn other_painted(alloc: Global, term: &mut Term, old: &Shot, new: &Shot) -> Other {
+    let text = text_between(alloc, old, new)?;
+    let painting = text
+        .as_slice()
+        .strip_prefix(b"before".as_slice())
+        .unwrap_or(b"");
+    other_after(alloc, term, painting, new)
+}
+
+// Opens a terminal in any state, leads it by an old screen to a new one, and returns how it shows another.
+fn other_by(alloc: Global, term: &mut Term, before: &str, old: &Shot, new: &Shot) -> Other {
+    term.feed(before.as_bytes())?;
+    let text = opening_to(alloc, old)?;
+    match other_after(alloc, term, &text, old)? {
+        None => other_painted(alloc, term, old, new),
+        other => Ok(other),
     }
 }
 
-// Opens a terminal in any state, leads it by an old screen to a new one, and returns true if it shows them.
-fn goes_by(alloc: Global, term: &mut Term, before: &str, old: &Shot, new: &Shot) -> bool {
-    term.feed(before.as_bytes()).is_ok()
-        && matches!(opening_to(alloc, old), Ok(text) if shows_after(alloc, term, &text, old))
-        && goes_over(alloc, term, old, new)
-}
-
-fn leads(alloc: Global, before: &str, old: &Shot, new: &Shot) -> bool {
-    match Term::new(alloc, 4, 10, 0) {
-        Ok(mut term) => goes_by(alloc, &mut term, before, old, new),
-        Err(_) => false,
-    }
+fn other_led(alloc: Global, before: &str, old: &Shot, new: &Shot) -> Other {
+    let mut term = Term::new(alloc, 4, 10, 0)?;
+    other_by(alloc, &mut term, before, old, new)
 }
 
 // There and back.
-fn both_lead(alloc: Global, old: &Shot, new: &Shot) -> bool {
-    leads(alloc, "abc\x1B[?1049h\x1B[3;4r\x1B[1;31", old, new)
-        && leads(
+fn other_there_and_back(alloc: Global, old: &Shot, new: &Shot) -> Other {
+    match other_led(alloc, "abc\x1B[?1049h\x1B[3;4r\x1B[1;31", old, new)? {
+        None => other_led(
             alloc,
             "\x1B[5mxyz\x0E\x1B(0\x1B[4h\x1B[?6h\x1B]0;a",
             new,
             old,
-        )
+        ),
+        other => Ok(other),
+    }
 }
 
-fn is_led(alloc: Global, pair: &str) -> bool {
+fn other_of_pair(alloc: Global, pair: &str) -> Other {
     let (old, new) = pair.split_once('|').unwrap_or((pair, ""));
-    match (shown_by(alloc, old), shown_by(alloc, new)) {
-        (Ok(old), Ok(new)) => both_lead(alloc, &old, &new),
-        _ => false,
+    match (size_and_input(old), size_and_input(new)) {
+        (Some(old), Some(new)) => {
+            let old = shown_by(alloc, old)?;
+            let new = shown_by(alloc, new)?;
+            other_there_and_back(alloc, &old, &new)
+        }
+        _ => malformed(alloc),
     }
 }
 
 #[test]
 fn pairs_of_screens(rt: HostRuntime) {
     for pair in PAIRS.split("\n\n") {
-        assert!(rt; is_led(rt.alloc(), pair), "{pair:?}");
+        assert_eq!(rt; other_of_pair(rt.alloc(), pair), Ok(None), "{pair:?}");
     }
 }
 
-fn is_written(alloc: Global, old: &Shot, new: &Shot, wanted: &str) -> bool {
-    match text_between(alloc, old, new) {
-        Ok(text) => text.as_slice().strip_prefix(b"before".as_slice()) == Some(wanted.as_bytes()),
-        Err(_) => false,
+fn other_written(alloc: Global, old: &Shot, new: &Shot, wanted: &str) -> Other {
+    let text = text_between(alloc, old, new)?;
+    other_text(alloc, text.as_slice(), wanted)
+}
+
+// The inputs of a case, and the text between their screens; `None` if it is malformed.
+fn inputs_and_text(case: &str) -> Option<(&str, &str, &str)> {
+    let (_, rest) = case.split_once('\n')?;
+    let (old, rest) = rest.split_once('|')?;
+    let (new, text) = rest.split_once('|')?;
+    Some((old, new, text))
+}
+
+fn other_of_case(alloc: Global, case: &str) -> Other {
+    let Some((old, new, text)) = inputs_and_text(case) else {
+        return malformed(alloc);
+    };
+    let old = small(alloc, old)?;
+    let new = small(alloc, new)?;
+    match other_written(alloc, &old, &new, text)? {
+        None => other_led(alloc, "", &old, &new),
+        other => Ok(other),
     }
 }
 
-fn holds(alloc: Global, case: &str) -> bool {
-    let (_, rest) = case.split_once('\n').unwrap_or((case, ""));
-    let (old, rest) = rest.split_once('|').unwrap_or((rest, ""));
-    let (new, text) = rest.split_once('|').unwrap_or((rest, ""));
-    match (small(alloc, old), small(alloc, new)) {
-        (Ok(old), Ok(new)) => is_written(alloc, &old, &new, text) && leads(alloc, "", &old, &new),
-        _ => false,
-    }
-}
-
-fn opens_behind(alloc: Global) -> bool {
+fn opened_behind(alloc: Global) -> Result<Vec<u8>, Fault> {
     let mut text = Vec::new(alloc);
-    text.push(b'a').is_ok() && open(&mut text).is_ok() && text.as_slice() == b"a\x1Bc".as_slice()
+    text.push(b'a')?;
+    open(&mut text)?;
+    Ok(text)
 }
 
 #[test]
-fn texts(rt: HostRuntime) {
+fn texts(rt: HostRuntime) -> Result<(), Fail> {
     for case in TEXTS.split("\n\n") {
-        assert!(rt; holds(rt.alloc(), case), "{case:?}");
+        assert_eq!(rt; other_of_case(rt.alloc(), case), Ok(None), "{case:?}");
     }
-    assert!(rt; opens_behind(rt.alloc()));
+    let text = opened_behind(rt.alloc())?;
+    assert_eq!(rt; text.as_slice(), b"a\x1Bc".as_slice());
+    Ok(())
 }
 
-// Returns true if a text is appended; if memory is refused nothing is added, and the same call then adds it.
-fn is_painted_or_kept(old: &Shot, new: &Shot, out: &mut Vec<u8>, text: &str) -> bool {
+// Paints behind a text; if memory is refused, returns how long the text is then, and paints again.
+fn paint_or_keep(old: &Shot, new: &Shot, out: &mut Vec<u8>) -> (usize, Result<(), Fault>) {
     let before = out.len();
-    if paint(old, new, out).is_err() && (out.len() != before || paint(old, new, out).is_err()) {
-        return false;
+    if paint(old, new, out).is_ok() {
+        return (before, Ok(()));
     }
-    out.len() == before + text.len() && out.as_slice().ends_with(text.as_bytes())
+    let kept = out.len();
+    (kept, paint(old, new, out))
 }
 
-fn is_painted_or_nothing(alloc: Global) -> Result<bool, Fault> {
+// What a painting behind `before` gave: the length after a refusal, the answer to the last call, and the text.
+type Painted = (usize, Result<(), Fault>, Vec<u8>);
+
+fn painted_or_kept(alloc: Global) -> Result<Painted, Fault> {
     let old = small(alloc, "a")?;
     let new = small(alloc, "\x1B[1mb\x1B[2;1H\x1B[38;5;9mc")?;
     let mut out = Vec::from_slice(alloc, b"before")?;
-    let text = "\x1B[?25l\x1B[1;1H\x1B[0;1mb\x1B[2;1H\x1B[0;1;38;5;9mc\x1B[0m\x1B[2;2H\x1B[?25h";
-    Ok(is_painted_or_kept(&old, &new, &mut out, text))
+    let (kept, answer) = paint_or_keep(&old, &new, &mut out);
+    Ok((kept, answer, out))
 }
 
-// This test also runs with each of its allocations refused in turn. It ends if there is no memory for the values themselves.
+// This test also runs with each of its allocations refused in turn. It ends if there is no memory for the values themselves. If memory is
+// refused nothing is added, and the same call then adds the text.
 #[test]
 fn refused_memory_paints_nothing(rt: HostRuntime) {
-    match is_painted_or_nothing(rt.alloc()) {
-        Ok(is_painted) => assert!(rt; is_painted),
-        Err(fault) => assert!(rt; fault == Fault::OutOfMemory),
+    let text = "\x1B[?25l\x1B[1;1H\x1B[0;1mb\x1B[2;1H\x1B[0;1;38;5;9mc\x1B[0m\x1B[2;2H\x1B[?25h";
+    match painted_or_kept(rt.alloc()) {
+        Ok((kept, answer, out)) => {
+            assert_eq!(rt; kept, b"before".len(), "length after a refusal");
+            assert_eq!(rt; answer, Ok(()), "last call");
+            assert_eq!(rt; text_behind(out.as_slice()), Some(text));
+        }
+        Err(fault) => assert_eq!(rt; fault, Fault::OutOfMemory),
     }
 }

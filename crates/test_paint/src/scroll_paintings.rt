@@ -4,7 +4,9 @@
 //! and columns of a terminal, its input, the input of another of that size, and the text between their screens, with bars between. A case
 //! of `PAIRS` has two terminals, with a bar between.
 use crate::screen;
-use crate::screens::{shown_by, shows_after, size_and_input};
+use crate::screens::{
+    Other, malformed, other_after, other_text, shown_by, size_and_input, text_behind,
+};
 use crate::scroll_paint_uses::two_texts;
 use roam_cells::Fault;
 use roam_paint::paint;
@@ -100,25 +102,36 @@ const PAIRS: &str = "\
 
 4 10 abcdefghij|2 8 \x1B[1;2;3;4;5;7;8;9;31;42mabc\x1B[0;1;31md\x1B[42me";
 
-// Returns the text between two screens, behind `before`, if it is no longer than the one that leaves nothing out.
+// The text between two screens, behind `before`.
 fn text_between(alloc: Global, old: &Shot, new: &Shot) -> Result<Vec<u8>, Fault> {
     let mut text = Vec::from_slice(alloc, b"before")?;
     paint_moved(old, new, &mut text)?;
-    let mut plain = Vec::from_slice(alloc, b"before")?;
-    paint(old, new, &mut plain)?;
-    if plain.len() < text.len() {
-        text.clear();
-    }
     Ok(text)
 }
 
-fn goes_over(alloc: Global, term: &mut Term, old: &Shot, new: &Shot) -> bool {
-    match text_between(alloc, old, new) {
-        Ok(text) => match text.as_slice().strip_prefix(b"before".as_slice()) {
-            Some(text) => shows_after(alloc, term, text, new),
-            None => false,
-        },
-        Err(_) => false,
+// Returns how much longer than the text that leaves nothing out this text between two screens is.
+fn other_length(alloc: Global, old: &Shot, new: &Shot, text: &[u8]) -> Other {
+    let mut plain = Vec::from_slice(alloc, b"before")?;
+    paint(old, new, &mut plain)?;
+    if text.len() <= plain.len() {
+        return Ok(None);
+    }
+    Ok(Some(format!(in alloc;
+        "a text of {} bytes in place of {}",
+        text.len(),
+        plain.len()
+    )?))
+}
+
+fn other_painted(alloc: Global, term: &mut Term, old: &Shot, new: &Shot) -> Other {
+    let text = text_between(alloc, old, new)?;
+    let painting = text
+        .as_slice()
+        .strip_prefix(b"before".as_slice())
+        .unwrap_or(b"");
+    match other_length(alloc, old, new, text.as_slice())? {
+        None => other_after(alloc, term, painting, new),
+        other => Ok(other),
     }
 }
 
@@ -129,95 +142,134 @@ fn last_but_one_starts_with(shown: &Shot, char: char) -> bool {
     }
 }
 
-// Returns true if an LF in the last row of a terminal moves it up: its margins are full.
-fn scrolls(alloc: Global, term: &mut Term) -> bool {
-    term.feed(b"\x1B[999;1HZ\n").is_ok()
-        && matches!(term.shot(alloc, 0), Ok(shown) if last_but_one_starts_with(&shown, 'Z'))
+// An LF in the last row of a terminal moves it up: its margins are full.
+fn other_scrolled(alloc: Global, term: &mut Term) -> Other {
+    term.feed(b"\x1B[999;1HZ\n")?;
+    let shown = term.shot(alloc, 0)?;
+    if last_but_one_starts_with(&shown, 'Z') {
+        return Ok(None);
+    }
+    Ok(Some(format!(in alloc; "no Z in the last row but one")?))
 }
 
-// A terminal goes to an old screen by the new one, then there, back and there again.
-fn goes_about(alloc: Global, term: &mut Term, old: &Shot, new: &Shot) -> bool {
-    matches!(two_texts(alloc, new, old), Ok(text) if shows_after(alloc, term, &text, old))
-        && goes_over(alloc, term, old, new)
-        && goes_over(alloc, term, new, old)
-        && goes_over(alloc, term, old, new)
-        && scrolls(alloc, term)
-}
-
-fn leads(alloc: Global, old: &Shot, new: &Shot) -> bool {
-    match Term::new(alloc, 7, 20, 0) {
-        Ok(mut term) => goes_about(alloc, &mut term, old, new),
-        Err(_) => false,
+// There, back and there again.
+fn other_about(alloc: Global, term: &mut Term, old: &Shot, new: &Shot) -> Other {
+    match other_painted(alloc, term, old, new)? {
+        None => match other_painted(alloc, term, new, old)? {
+            None => other_painted(alloc, term, old, new),
+            other => Ok(other),
+        },
+        other => Ok(other),
     }
 }
 
-fn is_led(alloc: Global, pair: &str) -> bool {
+// A terminal goes to an old screen by the new one, then there, back and there again.
+fn other_by(alloc: Global, term: &mut Term, old: &Shot, new: &Shot) -> Other {
+    let text = two_texts(alloc, new, old)?;
+    match other_after(alloc, term, &text, old)? {
+        None => match other_about(alloc, term, old, new)? {
+            None => other_scrolled(alloc, term),
+            other => Ok(other),
+        },
+        other => Ok(other),
+    }
+}
+
+fn other_led(alloc: Global, old: &Shot, new: &Shot) -> Other {
+    let mut term = Term::new(alloc, 7, 20, 0)?;
+    other_by(alloc, &mut term, old, new)
+}
+
+fn other_of_pair(alloc: Global, pair: &str) -> Other {
     let (old, new) = pair.split_once('|').unwrap_or((pair, ""));
-    match (shown_by(alloc, old), shown_by(alloc, new)) {
-        (Ok(old), Ok(new)) => leads(alloc, &old, &new),
-        _ => false,
+    match (size_and_input(old), size_and_input(new)) {
+        (Some(old), Some(new)) => {
+            let old = shown_by(alloc, old)?;
+            let new = shown_by(alloc, new)?;
+            other_led(alloc, &old, &new)
+        }
+        _ => malformed(alloc),
     }
 }
 
 #[test]
 fn pairs_of_screens(rt: HostRuntime) {
     for pair in PAIRS.split("\n\n") {
-        assert!(rt; is_led(rt.alloc(), pair), "{pair:?}");
+        assert_eq!(rt; other_of_pair(rt.alloc(), pair), Ok(None), "{pair:?}");
     }
 }
 
-fn is_written(alloc: Global, old: &Shot, new: &Shot, wanted: &str) -> bool {
-    match text_between(alloc, old, new) {
-        Ok(text) => text.as_slice().strip_prefix(b"before".as_slice()) == Some(wanted.as_bytes()),
-        Err(_) => false,
+fn other_written(alloc: Global, old: &Shot, new: &Shot, wanted: &str) -> Other {
+    let text = text_between(alloc, old, new)?;
+    match other_length(alloc, old, new, text.as_slice())? {
+        None => other_text(alloc, text.as_slice(), wanted),
+        other => Ok(other),
     }
 }
 
-fn holds(alloc: Global, case: &str) -> bool {
-    let (_, rest) = case.split_once('\n').unwrap_or((case, ""));
-    let (old, rest) = rest.split_once('|').unwrap_or((rest, ""));
-    let (input, text) = rest.split_once('|').unwrap_or((rest, ""));
-    let (rows, cols, _) = size_and_input(old);
-    match (
-        shown_by(alloc, old),
-        screen(alloc, rows, cols, input.as_bytes()),
-    ) {
-        (Ok(old), Ok(new)) => is_written(alloc, &old, &new, text) && leads(alloc, &old, &new),
-        _ => false,
+// A size and an input, an input, and the text between their screens.
+type Inputs<'a> = ((u16, u16, &'a str), &'a str, &'a str);
+
+// The inputs and the text of a case; `None` if it is malformed.
+fn inputs_and_text(case: &str) -> Option<Inputs<'_>> {
+    let (_, rest) = case.split_once('\n')?;
+    let (old, rest) = rest.split_once('|')?;
+    let (input, text) = rest.split_once('|')?;
+    Some((size_and_input(old)?, input, text))
+}
+
+fn other_of_case(alloc: Global, case: &str) -> Other {
+    let Some((size_and_input, input, text)) = inputs_and_text(case) else {
+        return malformed(alloc);
+    };
+    let (rows, cols, _) = size_and_input;
+    let old = shown_by(alloc, size_and_input)?;
+    let new = screen(alloc, rows, cols, input.as_bytes())?;
+    match other_written(alloc, &old, &new, text)? {
+        None => other_led(alloc, &old, &new),
+        other => Ok(other),
     }
 }
 
 #[test]
 fn texts(rt: HostRuntime) {
     for case in TEXTS.split("\n\n") {
-        assert!(rt; holds(rt.alloc(), case), "{case:?}");
+        assert_eq!(rt; other_of_case(rt.alloc(), case), Ok(None), "{case:?}");
     }
 }
 
-// Returns true if a text is appended; if memory is refused nothing is added, and the same call then adds it.
-fn is_painted_or_kept(old: &Shot, new: &Shot, out: &mut Vec<u8>, text: &str) -> bool {
+// Paints behind a text; if memory is refused, returns how long the text is then, and paints again.
+fn paint_or_keep(old: &Shot, new: &Shot, out: &mut Vec<u8>) -> (usize, Result<(), Fault>) {
     let before = out.len();
-    if paint_moved(old, new, out).is_err()
-        && (out.len() != before || paint_moved(old, new, out).is_err())
-    {
-        return false;
+    if paint_moved(old, new, out).is_ok() {
+        return (before, Ok(()));
     }
-    out.len() == before + text.len() && out.as_slice().ends_with(text.as_bytes())
+    let kept = out.len();
+    (kept, paint_moved(old, new, out))
 }
 
-fn is_painted_or_nothing(alloc: Global) -> Result<bool, Fault> {
+// What a painting behind `before` gave: the length after a refusal, the answer to the last call, and the text.
+type Painted = (usize, Result<(), Fault>, Vec<u8>);
+
+fn painted_or_kept(alloc: Global) -> Result<Painted, Fault> {
     let old = screen(alloc, 2, 8, b"a")?;
     let new = screen(alloc, 2, 8, b"\x1B[1mb\x1B[2;1H\x1B[38;5;9mc")?;
     let mut out = Vec::from_slice(alloc, b"before")?;
-    let text = "\x1B[1H\x1B[1mb\x1B[2H\x1B[38;5;9mc\x1B[0m\x1B[2;2H";
-    Ok(is_painted_or_kept(&old, &new, &mut out, text))
+    let (kept, answer) = paint_or_keep(&old, &new, &mut out);
+    Ok((kept, answer, out))
 }
 
-// This test also runs with each of its allocations refused in turn. It ends if there is no memory for the values themselves.
+// This test also runs with each of its allocations refused in turn. It ends if there is no memory for the values themselves. If memory is
+// refused nothing is added, and the same call then adds the text.
 #[test]
 fn refused_memory_paints_nothing(rt: HostRuntime) {
-    match is_painted_or_nothing(rt.alloc()) {
-        Ok(is_painted) => assert!(rt; is_painted),
-        Err(fault) => assert!(rt; fault == Fault::OutOfMemory),
+    let text = "\x1B[1H\x1B[1mb\x1B[2H\x1B[38;5;9mc\x1B[0m\x1B[2;2H";
+    match painted_or_kept(rt.alloc()) {
+        Ok((kept, answer, out)) => {
+            assert_eq!(rt; kept, b"before".len(), "length after a refusal");
+            assert_eq!(rt; answer, Ok(()), "last call");
+            assert_eq!(rt; text_behind(out.as_slice()), Some(text));
+        }
+        Err(fault) => assert_eq!(rt; fault, Fault::OutOfMemory),
     }
 }

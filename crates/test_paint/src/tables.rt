@@ -1,7 +1,10 @@
 //! Diffs of screens of version 2, byte for byte: each style is said once, in a table. Tables of texts are written as those of version 1.
 
-use crate::changes::{bytes_of, holds, is_changed_or_kept, is_kept, made, made_by, reaches};
+use crate::changes::{
+    Wrong, bytes_of, made, made_by, other_bytes, other_kept, other_reached, other_row, wrong_change,
+};
 use crate::narrow_change;
+use crate::screens::Other;
 use roam_cells::{Cell, Colour, Fault, Style};
 use roam_screens::{RowShot, RowShot1, Seen};
 use roam_update::Synced;
@@ -57,21 +60,27 @@ const SCREENS: &str = "\
     00000004 00000001 01 000000 00000078 0000000a 00000001 01 000001 00000078 0000000e 00000001 01 000000 00000078
 00c8 01f4 0001 0001 01 000000 00000000";
 
-fn is_row(alloc: Global, row: &str) -> bool {
-    matches!(RowShot::blank(alloc, 2, 8), Ok(blank) if holds(alloc, &blank, CORNERS, row))
+fn other_row_from_blank(alloc: Global, row: &str) -> Other {
+    let blank = RowShot::blank(alloc, 2, 8)?;
+    other_row(alloc, &blank, CORNERS, row)
 }
 
-fn is_screen(alloc: Global, screen: &str) -> bool {
-    matches!(RowShot::blank(alloc, 2, 8), Ok(blank) if reaches(alloc, &blank, screen, SCREENS))
+fn other_reached_from_blank(alloc: Global, screen: &str) -> Other {
+    let blank = RowShot::blank(alloc, 2, 8)?;
+    other_reached(alloc, &blank, screen, SCREENS)
 }
 
 #[test]
 fn rows_and_screens_by_tables(rt: HostRuntime) {
     for row in ROWS.lines() {
-        assert!(rt; is_row(rt.alloc(), row), "{row}");
+        assert_eq!(rt; other_row_from_blank(rt.alloc(), row), Ok(None), "{row}");
     }
     for screen in SCREENS.lines() {
-        assert!(rt; is_screen(rt.alloc(), screen), "{screen}");
+        assert_eq!(rt;
+            other_reached_from_blank(rt.alloc(), screen),
+            Ok(None),
+            "{screen}"
+        );
     }
 }
 
@@ -87,15 +96,24 @@ fn is_mixed(cell: Option<Cell>) -> bool {
     }
 }
 
-// Returns true if a screen is the mixture, also for a client of version 1.
-fn is_the_mixture(alloc: Global, blank: &RowShot, shot: &RowShot) -> Result<bool, Fault> {
+// Returns how a screen is not the mixture, also for a client of version 1.
+fn other_mixture(alloc: Global, blank: &RowShot, shot: &RowShot) -> Other {
+    let found = (is_mixed(shot.at(1, 1)), shot.cursor());
+    let wanted = (true, (1, 2));
+    if found != wanted {
+        return Ok(Some(format!(in alloc;
+            "mixed, and a cursor: {found:?} in place of {wanted:?}"
+        )?));
+    }
     let text = narrow_change(alloc, blank, shot)?;
-    let narrowed = text.as_slice() == bytes_of(alloc, NARROWED)?.as_slice();
-    Ok(narrowed && is_mixed(shot.at(1, 1)) && shot.cursor() == (1, 2))
+    let narrowed = bytes_of(alloc, NARROWED)?;
+    other_bytes(alloc, text.as_slice(), narrowed.as_slice())
 }
 
-fn makes_a_mixture(alloc: Global, blank: &RowShot) -> bool {
-    matches!(made_by(alloc, blank, MIXED), Ok(shot) if matches!(is_the_mixture(alloc, blank, &shot), Ok(true)))
+fn other_made_mixture(alloc: Global) -> Other {
+    let blank = RowShot::blank(alloc, 2, 8)?;
+    let shot = made_by(alloc, &blank, MIXED)?;
+    other_mixture(alloc, &blank, &shot)
 }
 
 // Adds 100,000 styles, each with a mixture of its own.
@@ -127,8 +145,13 @@ fn largest(alloc: Global) -> Result<Vec<u8>, Fault> {
     Ok(text)
 }
 
-fn keeps_the_largest(alloc: Global, blank: &RowShot) -> bool {
-    matches!(largest(alloc), Ok(text) if text.len() == 2_500_024 && is_kept(alloc, blank, &text))
+fn other_largest(alloc: Global) -> Other {
+    let blank = RowShot::blank(alloc, 2, 8)?;
+    let text = largest(alloc)?;
+    if text.len() != 2_500_024 {
+        return Ok(Some(format!(in alloc; "{} bytes in place of 2,500,024", text.len())?));
+    }
+    other_kept(alloc, &blank, &text)
 }
 
 // Texts that are no diff, refused with any memory: nine styles for eight places, a table of eight that is cut short, a missing number of
@@ -140,30 +163,35 @@ const REFUSED_AT_ONCE: &str = "\
 0002 0004 0001 0001 01 000001 000000000000000000 000000
 0002 0004 0001 0001 01 000002 000300000000000000 010000000000000000 00000000";
 
-fn are_refused_at_once(alloc: Global, old: &mut RowShot) -> Result<bool, Fault> {
+// Returns the first of these texts that is not refused as one that is no diff.
+fn first_not_refused(alloc: Global, old: &mut RowShot) -> Result<Wrong, Fault> {
     for row in REFUSED_AT_ONCE.lines() {
         let text = bytes_of(alloc, row)?;
         if old.apply(alloc, &text) != Err(Fault::BadChange) {
-            return Ok(false);
+            return Ok(Some(("not refused", row)));
         }
     }
-    Ok(true)
+    Ok(None)
 }
 
 // The test ends if there is no memory for the screens themselves.
-fn survives(alloc: Global) -> Result<bool, Fault> {
+fn first_wrong(alloc: Global) -> Result<Wrong, Fault> {
     let mut old = RowShot::blank(alloc, 2, 8)?;
     let text = bytes_of(alloc, CORNERS)?;
     let new = made(alloc, &old, &text)?;
-    if !are_refused_at_once(alloc, &mut old)? {
-        return Ok(false);
+    match first_not_refused(alloc, &mut old)? {
+        None => Ok(wrong_change(alloc, &mut old, &new, &text)),
+        wrong => Ok(wrong),
     }
-    Ok(is_changed_or_kept(alloc, &mut old, &new, &text))
 }
 
 #[test]
 fn memory_refused_to_a_table_changes_nothing(rt: HostRuntime) {
-    assert!(rt; matches!(survives(rt.alloc()), Ok(true) | Err(Fault::OutOfMemory)));
+    let found = first_wrong(rt.alloc());
+    assert!(rt;
+        matches!(found, Ok(None) | Err(Fault::OutOfMemory)),
+        "{found:?}"
+    );
 }
 
 // A blank screen of 200 by 500 with the cursor in row 150, in version 1.
@@ -173,25 +201,22 @@ fn cut_to_version_1(alloc: Global) -> Result<RowShot1, Fault> {
     RowShot1::of(alloc, &shot)
 }
 
-fn is_cut(old: &RowShot1) -> bool {
-    old.rows() == 100 && old.cols() == 250 && old.cursor() == (99, 7) && !old.visible()
+// The rows, the columns, the cursor and its visibility of a large screen in version 1.
+type Large = (u16, u16, (u16, u16), bool);
+
+fn large_cut(alloc: Global) -> Result<Large, Fault> {
+    let old = cut_to_version_1(alloc)?;
+    Ok((old.rows(), old.cols(), old.cursor(), old.visible()))
 }
 
 // A mixture in both versions; the longest diff has a style a cell; a large screen in version 1.
 #[test]
 fn a_mixture_the_longest_change_and_a_large_screen(rt: HostRuntime) {
-    let alloc = rt.alloc();
-    let blank = RowShot::blank(alloc, 2, 8);
-    assert!(rt;
-        matches!(&blank, Ok(blank) if makes_a_mixture(alloc, blank)),
-        "mixture"
-    );
-    assert!(rt;
-        matches!(&blank, Ok(blank) if keeps_the_largest(alloc, blank)),
-        "longest"
-    );
-    assert!(rt;
-        matches!(cut_to_version_1(alloc), Ok(old) if is_cut(&old)),
+    assert_eq!(rt; other_made_mixture(rt.alloc()), Ok(None), "mixture");
+    assert_eq!(rt; other_largest(rt.alloc()), Ok(None), "longest");
+    assert_eq!(rt;
+        large_cut(rt.alloc()),
+        Ok((100, 250, (99, 7), false)),
         "large"
     );
 }

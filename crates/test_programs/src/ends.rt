@@ -37,12 +37,11 @@ fn fault_of(text: &str) -> Option<RunFault> {
     }
 }
 
-/// A standard error that knows the text to expect behind `roam: `.
+/// A standard error that keeps its last line.
 #[derive(Drop)]
 struct Ear {
     alloc: Global,
-    wanted: &'static str,
-    heard: Cell<bool>,
+    heard: Cell<Option<String>>,
 }
 
 impl Eprint for Ear {
@@ -51,49 +50,47 @@ impl Eprint for Ear {
     }
 
     fn eprintln<D: Display + Drop>(&self, value: D) -> io::Result<()> {
-        if let Ok(line) = value.to_string(self.alloc) {
-            self.heard
-                .set(line.as_str().strip_prefix("roam: ") == Some(self.wanted));
-        }
+        self.heard.set(value.to_string(self.alloc).ok());
         Ok(())
     }
 }
 
-fn ear_for(alloc: Global, wanted: &'static str) -> Ear {
-    Ear {
+// Returns the exit status of a run that ends so, and the last line that it prints on standard error.
+fn end_of(alloc: Global, ran: Result<(), RunFault>) -> (ExitCode, Option<String>) {
+    let ear = Ear {
         alloc,
-        wanted,
-        heard: Cell::new(false),
-    }
-}
-
-fn has_text(alloc: Global, fault: &RunFault, wanted: &str) -> bool {
-    matches!(fault.to_string(alloc), Ok(text) if text.as_str() == wanted)
-}
-
-// Returns true if an error has a text, and a run with it prints that text and ends with status 1.
-fn is_told(alloc: Global, text: &'static str) -> bool {
-    let ear = ear_for(alloc, text);
-    match fault_of(text) {
-        Some(fault) => has_text(alloc, &fault, text)
-            && end(&ear, Err(fault)) == ExitCode::FAILURE
-            && ear.heard.get(),
-        None => false,
-    }
+        heard: Cell::new(None),
+    };
+    let status = end(&ear, ran);
+    (status, ear.heard.into_inner())
 }
 
 #[test]
-fn a_fault_is_told_with_status_1(rt: HostRuntime) {
+fn a_fault_is_told_with_status_1(rt: HostRuntime) -> Result<(), Fail> {
     for text in FAULTS.lines() {
-        assert!(rt; is_told(rt.alloc(), text), "{text}");
+        match fault_of(text) {
+            Some(fault) => {
+                let found = fault.to_string(rt.alloc())?;
+                assert_eq!(rt; found.as_str(), text);
+                let wanted = format!(in rt.alloc(); "roam: {text}")?;
+                let (status, line) = end_of(rt.alloc(), Err(fault));
+                assert_eq!(rt; line, Some(wanted), "{text}");
+                assert!(rt;
+                    status == ExitCode::FAILURE,
+                    "the status of {text} is not 1"
+                );
+            }
+            None => panic!(rt; "malformed case: {text}"),
+        }
     }
+    Ok(())
 }
 
 #[test]
 fn a_run_that_ends_well_says_nothing(rt: HostRuntime) {
-    let ear = ear_for(rt.alloc(), "");
-    assert!(rt; end(&ear, Ok(())) == ExitCode::SUCCESS);
-    assert!(rt; !ear.heard.get());
+    let (status, line) = end_of(rt.alloc(), Ok(()));
+    assert_eq!(rt; line, None);
+    assert!(rt; status == ExitCode::SUCCESS, "the status is not 0");
 }
 
 /// An environment in which ROAM_WHY has this value, or isn't there.
@@ -140,6 +137,6 @@ fn more_is_told_where_it_is_asked_for(rt: HostRuntime) {
         (Some("a value of more than sixteen bytes"), true),
     ];
     for (why, wanted) in rows {
-        assert!(rt; asks_why(&Surroundings { why }) == wanted, "{why:?}");
+        assert_eq!(rt; asks_why(&Surroundings { why }), wanted, "{why:?}");
     }
 }

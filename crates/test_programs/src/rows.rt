@@ -1,5 +1,5 @@
 //! The output of `roam rows`: the rows that leave by ECMA-48, the VT220 and this project's profile, and the errors of bad records.
-use crate::streams::{Cut, Narrow};
+use crate::streams::{Cut, Narrow, text_of, told};
 use roam_scrollback_stream::{RowsFault, run_rows};
 use std::alloc::{AllocError, Global};
 use std::test::*;
@@ -60,7 +60,15 @@ ab  cd\r\n
 =
 2 4 a wide character that goes to the next row
 abc\u{4E2D}\r\n
+|+abc
+|| \u{4E2D}
+||\x20
+=
+3 4 a blank that was typed in the last column is text, and one that a wide character left there isn't
+abc \u{4E2D}\r\nabc\u{4E2D}\r\n
 |+abc\x20
+| \u{4E2D}
+||+abc
 || \u{4E2D}
 ||\x20
 =
@@ -99,8 +107,34 @@ a\r\nb\x1Bc\r\n\r\n
 ||\x20
 ||\x20";
 
-fn number_in(word: Option<&str>) -> u16 {
-    word.unwrap_or("").parse::<u16>().unwrap_or(0)
+fn number_in(word: Option<&str>) -> Option<u16> {
+    word?.parse::<u16>().ok()
+}
+
+/// A case: its first line, the size of the screen there, the bytes, and what follows its first bar.
+#[derive(Clone, Copy)]
+struct Case<'a> {
+    name: &'a str,
+    rows: u16,
+    cols: u16,
+    bytes: &'a str,
+    inside: &'a str,
+}
+
+// Returns a case; `None` if the text is malformed.
+fn case_of(text: &str) -> Option<Case<'_>> {
+    let (name, rest) = text.split_once('\n')?;
+    let (bytes, inside) = rest.split_once("\n|")?;
+    let mut words = name.split(' ');
+    let rows = number_in(words.next())?;
+    let cols = number_in(words.next())?;
+    Some(Case {
+        name,
+        rows,
+        cols,
+        bytes,
+        inside,
+    })
 }
 
 // Returns the lines behind a bar, each with its LF, and their number.
@@ -126,13 +160,9 @@ fn lines_behind(alloc: Global, text: &str, is_shown: bool) -> Result<(String, us
 }
 
 // Returns the records of a case, and the expected output.
-fn records_of(alloc: Global, case: &str) -> Result<(String, String), AllocError> {
-    let (head, rest) = case.split_once('\n').unwrap_or((case, ""));
-    let (bytes, inside) = rest.split_once("\n|").unwrap_or((rest, ""));
-    let mut words = head.split(' ');
-    let rows = number_in(words.next());
-    let cols = number_in(words.next());
-    let inside = inside.replace(alloc, "\n|", "\n")?;
+fn records_of(alloc: Global, case: Case<'_>) -> Result<(String, String), AllocError> {
+    let (rows, cols, bytes) = (case.rows, case.cols, case.bytes);
+    let inside = case.inside.replace(alloc, "\n|", "\n")?;
     let (left, count) = lines_behind(alloc, inside.as_str(), false)?;
     let (shown, rows_shown) = lines_behind(alloc, inside.as_str(), true)?;
     let asked = format!(in alloc;
@@ -148,22 +178,27 @@ fn records_of(alloc: Global, case: &str) -> Result<(String, String), AllocError>
     Ok((asked, told))
 }
 
-fn tells(alloc: Global, asked: &str, told: &str) -> bool {
+// Returns the output for records that come whole, and then the error of the run, if it has one.
+fn told_whole(alloc: Global, asked: &str) -> Result<String, AllocError> {
     let mut out = Vec::new(alloc);
     let mut reader = Cut::new(asked.as_bytes(), usize::MAX, usize::MAX);
-    run_rows(alloc, false, &mut reader, &mut out) == Ok(()) && out.as_slice() == told.as_bytes()
-}
-
-fn is_told(alloc: Global, case: &str) -> Result<bool, AllocError> {
-    let (asked, told) = records_of(alloc, case)?;
-    Ok(tells(alloc, asked.as_str(), told.as_str()))
+    let ran = run_rows(alloc, false, &mut reader, &mut out);
+    told(alloc, &out, ran)
 }
 
 #[test]
-fn rows_of_records(rt: HostRuntime) {
-    for case in CASES.split("\n=\n") {
-        assert!(rt; is_told(rt.alloc(), case) == Ok(true), "{case:?}");
+fn rows_of_records(rt: HostRuntime) -> Result<(), Fail> {
+    for text in CASES.split("\n=\n") {
+        match case_of(text) {
+            Some(case) => {
+                let (asked, wanted) = records_of(rt.alloc(), case)?;
+                let found = told_whole(rt.alloc(), asked.as_str())?;
+                assert_eq!(rt; found, wanted, "{}", case.name);
+            }
+            None => panic!(rt; "malformed case: {text:?}"),
+        }
     }
+    Ok(())
 }
 
 // Records, with an empty line between them, of which the last line is none or out of place.
@@ -216,62 +251,71 @@ screen 0 0
 // The output for two rows of eight blank columns.
 const BLANK: &str = "screen 0 2 4\n \n \n";
 
-// Returns true if a run of these records, behind one that asks for a screen, is refused at the last line, and prints its answers before
-// that.
-fn is_refused(alloc: Global, bad: &str) -> Result<bool, AllocError> {
-    let asked = format!(in alloc; "pane 0 2 8\nscreen 0\ngone 0\n{bad}\n")?;
-    let line = asked.as_str().split('\n').count() - 1;
+// Returns how a run of these records ends, and its output.
+fn refusal_of(alloc: Global, asked: &str) -> Result<(Result<(), RowsFault>, String), AllocError> {
     let mut out = Vec::new(alloc);
     let mut reader = Cut::new(asked.as_bytes(), 5, 3);
     let ran = run_rows(alloc, false, &mut reader, &mut out);
-    Ok(ran == Err(RowsFault::Record(line as u64)) && out.as_slice() == BLANK.as_bytes())
+    Ok((ran, text_of(alloc, &out)?))
 }
 
+// A run of these records, behind one that asks for a screen, is refused at the last line, and prints its answers before that.
 #[test]
-fn records_that_are_none(rt: HostRuntime) {
+fn records_that_are_none(rt: HostRuntime) -> Result<(), Fail> {
     for bad in BAD.split("\n\n") {
-        assert!(rt; is_refused(rt.alloc(), bad) == Ok(true), "{bad:?}");
+        let asked = format!(in rt.alloc(); "pane 0 2 8\nscreen 0\ngone 0\n{bad}\n")?;
+        let line = asked.as_str().split('\n').count().saturating_sub(1);
+        let (ran, found) = refusal_of(rt.alloc(), asked.as_str())?;
+        assert_eq!(rt; ran, Err(RowsFault::Record(line as u64)), "{bad:?}");
+        assert_eq!(rt; found.as_str(), BLANK, "{bad:?}");
     }
+    Ok(())
 }
 
-// Returns the output for these records, with or without the filter.
-fn told_of(alloc: Global, asked: &str, normalize: bool) -> Result<Vec<u8>, RowsFault> {
+// Returns the output for these records, with or without the filter, and then the error of the run, if it has one.
+fn told_of(alloc: Global, asked: &str, normalize: bool) -> Result<String, AllocError> {
     let mut out = Vec::new(alloc);
     let mut reader = Cut::new(asked.as_bytes(), 1, 1);
-    run_rows(alloc, normalize, &mut reader, &mut out)?;
-    Ok(out)
+    let ran = run_rows(alloc, normalize, &mut reader, &mut out);
+    told(alloc, &out, ran)
 }
 
-fn are_told(alloc: Global, asked: &str, normalize: bool, told: &str) -> bool {
-    matches!(told_of(alloc, asked, normalize), Ok(out) if out.as_slice() == told.as_bytes())
-}
+// Records, whether they go through the filter, and their output.
+const PRINTED: [(&str, bool, &str); 5] = [
+    (
+        "pane 3 4 8\nbytes 3 10\n1\r\n2\r\n3\r\n4size 3 2 4\nsize 3 200 500\nsize 3 2 4\n",
+        false,
+        "rows 3 2 6\n 1\n 2\n",
+    ),
+    (
+        "pane 0 2 8\nbytes 0 13\na\r\nb\r\nc\x1B[3J\r\n",
+        false,
+        "rows 0 1 3\n a\ncleared 0\nrows 0 1 3\n b\n",
+    ),
+    (
+        "pane 0 2 8\nbytes 0 13\n\x1B[4:3ma\r\n\r\n\r\n",
+        true,
+        "rows 0 1 13\n \x1B[0;4ma\x1B[0m\nrows 0 1 2\n \n",
+    ),
+    (
+        "pane 0 2 8\nbytes 0 13\n\x1B[4:3ma\r\n\r\n\r\n",
+        false,
+        "rows 0 1 3\n a\nrows 0 1 2\n \n",
+    ),
+    (
+        "pane 0 2 8\nbytes 0 3\na\r\npane 0 2 8\nscreen 0\n",
+        false,
+        BLANK,
+    ),
+];
 
 #[test]
-fn sizes_clearings_and_meanings(rt: HostRuntime) {
-    let alloc = rt.alloc();
-    let sizes = "pane 3 4 8\nbytes 3 10\n1\r\n2\r\n3\r\n4size 3 2 4\nsize 3 200 500\nsize 3 2 4\n";
-    assert!(rt; are_told(alloc, sizes, false, "rows 3 2 6\n 1\n 2\n"));
-    let cleared = "pane 0 2 8\nbytes 0 13\na\r\nb\r\nc\x1B[3J\r\n";
-    assert!(rt;
-        are_told(
-            alloc,
-            cleared,
-            false,
-            "rows 0 1 3\n a\ncleared 0\nrows 0 1 3\n b\n"
-        )
-    );
-    let styled = "pane 0 2 8\nbytes 0 13\n\x1B[4:3ma\r\n\r\n\r\n";
-    assert!(rt;
-        are_told(
-            alloc,
-            styled,
-            true,
-            "rows 0 1 13\n \x1B[0;4ma\x1B[0m\nrows 0 1 2\n \n"
-        )
-    );
-    assert!(rt; are_told(alloc, styled, false, "rows 0 1 3\n a\nrows 0 1 2\n \n"));
-    let again = "pane 0 2 8\nbytes 0 3\na\r\npane 0 2 8\nscreen 0\n";
-    assert!(rt; are_told(alloc, again, false, BLANK));
+fn sizes_clearings_and_meanings(rt: HostRuntime) -> Result<(), Fail> {
+    for (asked, normalize, wanted) in PRINTED {
+        let found = told_of(rt.alloc(), asked, normalize)?;
+        assert_eq!(rt; found.as_str(), wanted, "{asked:?}");
+    }
+    Ok(())
 }
 
 // What a terminal is fed first at another size, before the rows of its screen: IRM and DECSCNM are reset; ASCII to G0
@@ -345,6 +389,11 @@ ab\x1B[4h\x1B[?5h\x1B[?7l\x1B[?25l
 =>
 @\x1B[1;1Hab\x1B[0m\x1B[1;3H\x1B[0m\x1B[?7l\x1B[4h\x1B[?5h
 =
+50 8 50 4 a tall screen
+a
+=>
+@\x1B[1;1Ha\x1B[0m\x1B[1;2H\x1B[?25h\x1B[0m
+=
 2 8 2 4 within a sequence
 a\x1B[1
 =>
@@ -380,8 +429,8 @@ a\u{4E2D}\x1B
 =>
 !none";
 
-// Adds what a line of a case says is told.
-fn push_told(alloc: Global, told: &mut String, line: &str) -> Result<(), AllocError> {
+// Adds what a line of a case says is told, and returns true if it says so.
+fn push_told(alloc: Global, told: &mut String, line: &str) -> Result<bool, AllocError> {
     if let Some(back) = line.strip_prefix("<") {
         told.push_str(format!(in alloc; "back 7 {back}\n")?.as_str())?;
     } else if let Some(row) = line.strip_prefix("|") {
@@ -394,53 +443,223 @@ fn push_told(alloc: Global, told: &mut String, line: &str) -> Result<(), AllocEr
         told.push_str(format!(in alloc; "text 7 {count}\n{HEAD}{rest}")?.as_str())?;
     } else if let Some(word) = line.strip_prefix("!") {
         told.push_str(format!(in alloc; "{word} 7\n")?.as_str())?;
+    } else {
+        return Ok(false);
     }
-    Ok(())
+    Ok(true)
 }
 
-// Whether a run tells this for the last record, behind what it tells for those before it.
-fn tells_last(
+// Returns the output for the last record, behind that for those before it; all of the output if it does not begin with that.
+fn told_last(
     alloc: Global,
     asked: &str,
     last: &str,
     normalize: bool,
-    told: &str,
-) -> Result<bool, AllocError> {
+) -> Result<String, AllocError> {
     let all = format!(in alloc; "{asked}{last}")?;
-    let Ok(before) = told_of(alloc, asked, normalize) else {
-        return Ok(false);
-    };
-    let Ok(after) = told_of(alloc, all.as_str(), normalize) else {
-        return Ok(false);
-    };
-    let count = before.len().min(after.len());
-    Ok(after.as_slice().split_at(count).1 == told.as_bytes())
+    let before = told_of(alloc, asked, normalize)?;
+    let after = told_of(alloc, all.as_str(), normalize)?;
+    let last = after
+        .as_str()
+        .strip_prefix(before.as_str())
+        .unwrap_or(after.as_str());
+    String::from_str(alloc, last)
 }
 
-fn is_rewrapped(alloc: Global, case: &str) -> Result<bool, AllocError> {
-    let (head, rest) = case.split_once('\n').unwrap_or((case, ""));
-    let (bytes, lines) = rest.split_once("\n=>\n").unwrap_or((rest, ""));
-    let mut words = head.split(' ');
-    let rows = number_in(words.next());
-    let cols = number_in(words.next());
-    let later_rows = number_in(words.next());
-    let later_cols = number_in(words.next());
-    let asked = format!(in alloc; "pane 7 {rows} {cols}\nbytes 7 {}\n{bytes}", bytes.len())?;
-    let last = format!(in alloc; "rewrap 7 {later_rows} {later_cols}\n")?;
+/// A case of another size: its first line, the size of the screen there, the size that it gets, the bytes, and the lines of what is told.
+#[derive(Clone, Copy)]
+struct Rewrap<'a> {
+    name: &'a str,
+    rows: u16,
+    cols: u16,
+    later_rows: u16,
+    later_cols: u16,
+    bytes: &'a str,
+    lines: &'a str,
+}
+
+// Returns such a case; `None` if the text is malformed.
+fn rewrap_of(text: &str) -> Option<Rewrap<'_>> {
+    let (name, rest) = text.split_once('\n')?;
+    let (bytes, lines) = rest.split_once("\n=>\n")?;
+    let mut words = name.split(' ');
+    Some(Rewrap {
+        name,
+        rows: number_in(words.next())?,
+        cols: number_in(words.next())?,
+        later_rows: number_in(words.next())?,
+        later_cols: number_in(words.next())?,
+        bytes,
+        lines,
+    })
+}
+
+// Returns what the lines of a case say is told; `None` if one of them is malformed.
+fn wanted_of(alloc: Global, lines: &str) -> Result<Option<String>, AllocError> {
     let mut told = String::new(alloc);
     for line in lines.split('\n') {
-        push_told(alloc, &mut told, line)?;
+        if !push_told(alloc, &mut told, line)? {
+            return Ok(None);
+        }
     }
-    let is_plain = tells_last(alloc, asked.as_str(), last.as_str(), false, told.as_str())?;
-    let is_filtered = tells_last(alloc, asked.as_str(), last.as_str(), true, told.as_str())?;
-    Ok(is_plain && is_filtered)
+    Ok(Some(told))
+}
+
+// Returns what is told for the new size of a case, with or without the filter.
+fn rewrapped(alloc: Global, case: Rewrap<'_>, normalize: bool) -> Result<String, AllocError> {
+    let asked = format!(in alloc;
+        "pane 7 {} {}\nbytes 7 {}\n{}",
+        case.rows,
+        case.cols,
+        case.bytes.len(),
+        case.bytes
+    )?;
+    let last = format!(in alloc; "rewrap 7 {} {}\n", case.later_rows, case.later_cols)?;
+    told_last(alloc, asked.as_str(), last.as_str(), normalize)
 }
 
 #[test]
-fn sizes_with_their_text_whole(rt: HostRuntime) {
-    for case in REWRAPS.split("\n=\n") {
-        assert!(rt; is_rewrapped(rt.alloc(), case) == Ok(true), "{case:?}");
+fn sizes_with_their_text_whole(rt: HostRuntime) -> Result<(), Fail> {
+    for text in REWRAPS.split("\n=\n") {
+        let Some(case) = rewrap_of(text) else {
+            panic!(rt; "malformed case: {text:?}")
+        };
+        let wanted = wanted_of(rt.alloc(), case.lines)?;
+        assert!(rt; wanted.is_some(), "malformed lines: {text:?}");
+        let plain = Some(rewrapped(rt.alloc(), case, false)?);
+        assert_eq!(rt; plain, wanted, "{}", case.name);
+        let filtered = Some(rewrapped(rt.alloc(), case, true)?);
+        assert_eq!(rt; filtered, wanted, "{}, filtered", case.name);
     }
+    Ok(())
+}
+
+// Adds so many equal letters: those of a line, `a` to `z`, and again.
+fn push_letters(text: &mut String, line: u32, wide: u32) -> Result<(), AllocError> {
+    for _ in 0..wide {
+        text.push(char::from(b'a' + (line % 26) as u8))?;
+    }
+    Ok(())
+}
+
+// Returns such lines.
+fn lines_of_letters(alloc: Global, lines: u32, wide: u32) -> Result<String, AllocError> {
+    let mut text = String::new(alloc);
+    for line in 0..lines {
+        if 0 < line {
+            text.push_str("\r\n")?;
+        }
+        push_letters(&mut text, line, wide)?;
+    }
+    Ok(text)
+}
+
+// Returns the record of a screen of so many rows that shows the last of so many such lines, with its cursor behind the last.
+fn letters_shown(alloc: Global, rows: u32, lines: u32, wide: u32) -> Result<String, AllocError> {
+    let mut text = String::new(alloc);
+    for row in 0..rows {
+        let place = row.saturating_add(1);
+        text.push_str(format!(in alloc; "\x1B[{place};1H")?.as_str())?;
+        push_letters(
+            &mut text,
+            lines.saturating_sub(rows).saturating_add(row),
+            wide,
+        )?;
+    }
+    let col = wide.saturating_add(1);
+    text.push_str(format!(in alloc; "\x1B[0m\x1B[{rows};{col}H\x1B[?25h\x1B[0m")?.as_str())?;
+    let count = HEAD.len().saturating_add(text.len());
+    format!(in alloc; "text 7 {count}\n{HEAD}{}", text.as_str())
+}
+
+/// A terminal of a height gets lines of a width and other sizes, and then a last height. It shows its last lines there, and what is told
+/// for that begins so.
+#[derive(Clone, Copy)]
+struct Tall {
+    name: &'static str,
+    rows: u32,
+    lines: u32,
+    wide: u32,
+    between: &'static str,
+    last: u32,
+    back: &'static str,
+}
+
+const TALL: [Tall; 4] = [
+    Tall {
+        name: "150 rows",
+        rows: 150,
+        lines: 150,
+        wide: 1,
+        between: "",
+        last: 150,
+        back: "",
+    },
+    Tall {
+        name: "60 rows",
+        rows: 60,
+        lines: 60,
+        wide: 1,
+        between: "rewrap 7 5 100\n",
+        last: 60,
+        back: "back 7 55\n",
+    },
+    Tall {
+        name: "250 leave",
+        rows: 2,
+        lines: 252,
+        wide: 1,
+        between: "",
+        last: 200,
+        back: "back 7 198\n",
+    },
+    Tall {
+        name: "long",
+        rows: 200,
+        lines: 200,
+        wide: 90,
+        between: "rewrap 7 5 100\n",
+        last: 200,
+        back: "back 7 195\n",
+    },
+];
+
+// Returns the records of such a case before the last.
+fn tall_asked(alloc: Global, case: Tall) -> Result<String, AllocError> {
+    let bytes = lines_of_letters(alloc, case.lines, case.wide)?;
+    format!(in alloc;
+        "pane 7 {} 100\nbytes 7 {}\n{}{}",
+        case.rows,
+        bytes.len(),
+        bytes.as_str(),
+        case.between
+    )
+}
+
+// Returns what is told for its last height, and what is expected.
+fn tall_told(alloc: Global, case: Tall, asked: &str) -> Result<(String, String), AllocError> {
+    let rewrap = format!(in alloc; "rewrap 7 {} 100\n", case.last)?;
+    let found = told_last(alloc, asked, rewrap.as_str(), false)?;
+    let shown = letters_shown(alloc, case.last, case.lines, case.wide)?;
+    let wanted = format!(in alloc; "{}{}", case.back, shown.as_str())?;
+    Ok((found, wanted))
+}
+
+// No row is lost before the last height.
+#[test]
+fn many_rows_with_their_text_whole(rt: HostRuntime) -> Result<(), Fail> {
+    for case in TALL {
+        let asked = tall_asked(rt.alloc(), case)?;
+        let before = told_of(rt.alloc(), asked.as_str(), false)?;
+        assert!(rt;
+            !before.as_str().contains("lost "),
+            "{}: a row is lost: {before:?}",
+            case.name
+        );
+        let (found, wanted) = tall_told(rt.alloc(), case, asked.as_str())?;
+        assert_eq!(rt; found, wanted, "{}", case.name);
+    }
+    Ok(())
 }
 
 // How a run ends that fails at a read, or at a call of its writer.
@@ -456,7 +675,7 @@ fn ends(alloc: Global, read: u32, call: u32) -> Result<(), RowsFault> {
 
 #[test]
 fn rows_that_cannot_be_read_or_written(rt: HostRuntime) {
-    assert!(rt; ends(rt.alloc(), 1, 0) == Err(RowsFault::Read));
-    assert!(rt; ends(rt.alloc(), 0, 1) == Err(RowsFault::Write));
-    assert!(rt; ends(rt.alloc(), 0, 0) == Ok(()));
+    assert_eq!(rt; ends(rt.alloc(), 1, 0), Err(RowsFault::Read), "read 1");
+    assert_eq!(rt; ends(rt.alloc(), 0, 1), Err(RowsFault::Write), "call 1");
+    assert_eq!(rt; ends(rt.alloc(), 0, 0), Ok(()), "no call");
 }

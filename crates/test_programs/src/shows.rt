@@ -1,5 +1,5 @@
 //! The output of `roam show`: rows by ECMA-48, the VT220 and this project's profile, and the errors of a run.
-use crate::streams::{Cut, Drip, Narrow};
+use crate::streams::{Cut, Drip, Narrow, told};
 use roam_cells::Fault;
 use roam_faults::RunFault;
 use roam_show::{push_number, push_numbered, run_show};
@@ -718,64 +718,84 @@ output -
 cursor 1 1 hidden
 output -";
 
-/// A screen's size, an input, and its output without the first bar and the last line feed.
+/// A name, a screen's size, an input, and its output without the first bar and the last line feed.
 #[derive(Clone, Copy)]
 struct Run<'a> {
+    name: &'a str,
     rows: u16,
     cols: u16,
     input: &'a [u8],
     inside: &'a str,
 }
 
-// Returns a run; its screen has no size if the text isn't one.
-fn run_of(block: &str) -> Run<'_> {
-    let (head, rest) = block.split_once('\n').unwrap_or((block, ""));
-    let (input, inside) = rest.split_once("\n|").unwrap_or((rest, ""));
-    let mut words = head.split(' ');
-    Run {
-        rows: words.next().unwrap_or("").parse::<u16>().unwrap_or(0),
-        cols: words.next().unwrap_or("").parse::<u16>().unwrap_or(0),
+// Returns a run; `None` if the text is malformed.
+fn run_of(block: &str) -> Option<Run<'_>> {
+    let (name, rest) = block.split_once('\n')?;
+    let (input, inside) = rest.split_once("\n|")?;
+    let mut words = name.split(' ');
+    Some(Run {
+        name,
+        rows: words.next()?.parse::<u16>().ok()?,
+        cols: words.next()?.parse::<u16>().ok()?,
         input: input.as_bytes(),
         inside,
-    }
+    })
 }
 
-fn is_printed(out: &[u8], inside: &str) -> bool {
-    matches!(out, [b'|', shown @ .., b'\n'] if shown == inside.as_bytes())
+// Returns the expected output of a run.
+fn wanted_of(alloc: Global, run: &Run<'_>) -> Result<String, AllocError> {
+    format!(in alloc; "|{}\n", run.inside)
 }
 
-// Returns true if a run prints its text, with its input in pieces of a size except the first.
-fn shows(alloc: Global, run: &Run<'_>, first: usize, later: usize) -> bool {
+// Returns the output of a run with its input in pieces of a size except the first, and then its error, if it has one.
+fn shown_by(
+    alloc: Global,
+    run: &Run<'_>,
+    first: usize,
+    later: usize,
+) -> Result<String, AllocError> {
     let mut out = Vec::new(alloc);
     let mut reader = Cut::new(run.input, first, later);
-    run_show(alloc, run.rows, run.cols, &mut reader, &mut out) == Ok(())
-        && is_printed(&out, run.inside)
+    let ran = run_show(alloc, run.rows, run.cols, &mut reader, &mut out);
+    told(alloc, &out, ran)
 }
 
-// Returns true if it prints it with its input whole, byte by byte, by twos and threes, and cut in two at each place.
-fn shows_however_cut(alloc: Global, run: &Run<'_>) -> bool {
+// Returns the first output that is not the expected one, or else the expected one, with the input cut in two at each place, byte by byte,
+// by twos and threes, and whole.
+fn first_shown(alloc: Global, run: &Run<'_>, wanted: &str) -> Result<String, AllocError> {
     for cut in 1..run.input.len() {
-        if !shows(alloc, run, cut, usize::MAX) {
-            return false;
+        let found = shown_by(alloc, run, cut, usize::MAX)?;
+        if found.as_str() != wanted {
+            return Ok(found);
         }
     }
-    for size in [1, 2, 3, usize::MAX] {
-        if !shows(alloc, run, size, size) {
-            return false;
+    for size in [1, 2, 3] {
+        let found = shown_by(alloc, run, size, size)?;
+        if found.as_str() != wanted {
+            return Ok(found);
         }
     }
-    true
+    shown_by(alloc, run, usize::MAX, usize::MAX)
 }
 
 #[test]
-fn rows_of_show(rt: HostRuntime) {
+fn rows_of_show(rt: HostRuntime) -> Result<(), Fail> {
     for block in ROWS.split("\n\n") {
-        assert!(rt; shows_however_cut(rt.alloc(), &run_of(block)), "{block:?}");
+        match run_of(block) {
+            Some(run) => {
+                let wanted = wanted_of(rt.alloc(), &run)?;
+                let found = first_shown(rt.alloc(), &run, wanted.as_str())?;
+                assert_eq!(rt; found, wanted, "{}", run.name);
+            }
+            None => panic!(rt; "malformed case: {block:?}"),
+        }
     }
+    Ok(())
 }
 
 // A broken character is U+FFFD, and the byte after it is read; and no input at all.
 const BROKEN: Run<'static> = Run {
+    name: "a broken character",
     rows: 2,
     cols: 8,
     input: b"\xE4\xB8\x41",
@@ -783,27 +803,35 @@ const BROKEN: Run<'static> = Run {
 };
 
 const NOTHING: Run<'static> = Run {
+    name: "no input",
     rows: 2,
     cols: 8,
     input: b"",
     inside: "        |\n|        |\ncursor 1 1 shown\noutput -",
 };
 
-fn push_both(text: &mut String) -> Result<(), AllocError> {
-    push_numbered(text, "state ", 18_446_744_073_709_551_615u64)?;
-    push_number(text, "view ", -1i16)
+#[test]
+fn broken_characters_and_none(rt: HostRuntime) -> Result<(), Fail> {
+    for run in [BROKEN, NOTHING] {
+        let wanted = wanted_of(rt.alloc(), &run)?;
+        let found = first_shown(rt.alloc(), &run, wanted.as_str())?;
+        assert_eq!(rt; found, wanted, "{}", run.name);
+    }
+    Ok(())
 }
 
-fn numbers_stand_behind_words(alloc: Global) -> bool {
+fn numbers_behind_words(alloc: Global) -> Result<String, AllocError> {
     let mut text = String::new(alloc);
-    push_both(&mut text).is_ok() && text.as_str() == "state 18446744073709551615\nview -1"
+    push_numbered(&mut text, "state ", 18_446_744_073_709_551_615u64)?;
+    push_number(&mut text, "view ", -1i16)?;
+    Ok(text)
 }
 
 #[test]
-fn broken_characters_and_none(rt: HostRuntime) {
-    assert!(rt; numbers_stand_behind_words(rt.alloc()));
-    assert!(rt; shows_however_cut(rt.alloc(), &BROKEN));
-    assert!(rt; shows_however_cut(rt.alloc(), &NOTHING));
+fn numbers_stand_behind_words(rt: HostRuntime) -> Result<(), Fail> {
+    let found = numbers_behind_words(rt.alloc())?;
+    assert_eq!(rt; found.as_str(), "state 18446744073709551615\nview -1");
+    Ok(())
 }
 
 fn numbered_lines(alloc: Global) -> Result<String, AllocError> {
@@ -814,15 +842,27 @@ fn numbered_lines(alloc: Global) -> Result<String, AllocError> {
     Ok(input)
 }
 
-fn is_scrolled(alloc: Global) -> Result<bool, AllocError> {
+// Returns the output of a run in pieces of a size, and the expected one.
+fn shown_and_wanted(
+    alloc: Global,
+    run: &Run<'_>,
+    size: usize,
+) -> Result<(String, String), AllocError> {
+    let wanted = wanted_of(alloc, run)?;
+    let found = shown_by(alloc, run, size, size)?;
+    Ok((found, wanted))
+}
+
+fn scrolled(alloc: Global) -> Result<(String, String), AllocError> {
     let input = numbered_lines(alloc)?;
     let run = Run {
+        name: "5,000 lines",
         rows: 3,
         cols: 8,
         input: input.as_bytes(),
         inside: "4999    |\n|5000    |\n|        |\ncursor 3 1 shown\noutput -",
     };
-    Ok(shows(alloc, &run, usize::MAX, usize::MAX))
+    shown_and_wanted(alloc, &run, usize::MAX)
 }
 
 fn push_times(text: &mut String, part: &str, times: u32) -> Result<(), AllocError> {
@@ -843,77 +883,95 @@ fn joined_text(alloc: Global) -> Result<String, AllocError> {
 }
 
 // 125,000 bytes in, 125,533 out.
-fn is_written_whole(alloc: Global) -> Result<bool, AllocError> {
+fn written_whole(alloc: Global) -> Result<(String, String), AllocError> {
     let mut input = String::new(alloc);
     push_times(&mut input, "a\u{301}\u{302}", 25_000)?;
     let text = joined_text(alloc)?;
     let rows = text.as_str().strip_suffix('|').unwrap_or("");
     let inside = format!(in alloc; "{rows}cursor 100 250 shown\noutput -")?;
     let run = Run {
+        name: "the largest screen",
         rows: 100,
         cols: 250,
         input: input.as_bytes(),
         inside: inside.as_str(),
     };
-    Ok(shows(alloc, &run, usize::MAX, usize::MAX))
+    shown_and_wanted(alloc, &run, usize::MAX)
 }
 
 #[test]
-fn many_lines_scroll_and_the_largest_screen_is_written_whole(rt: HostRuntime) {
-    assert!(rt; matches!(is_scrolled(rt.alloc()), Ok(true)));
-    assert!(rt; matches!(is_written_whole(rt.alloc()), Ok(true)));
+fn many_lines_scroll_and_the_largest_screen_is_written_whole(rt: HostRuntime) -> Result<(), Fail> {
+    let (found, wanted) = scrolled(rt.alloc())?;
+    assert_eq!(rt; found, wanted, "5,000 lines");
+    let (found, wanted) = written_whole(rt.alloc())?;
+    assert_eq!(rt; found, wanted, "the largest screen");
+    Ok(())
 }
 
-// Returns true if a million times one byte between two texts, in pieces of 1,024, prints this on 2 by 8.
-fn is_long_shown(
+// Returns the output for a million times one byte between two texts, in pieces of 1,024, on 2 by 8, and the expected one.
+fn long_shown(
     alloc: Global,
     first: &str,
     part: &str,
     last: &str,
     inside: &str,
-) -> Result<bool, AllocError> {
+) -> Result<(String, String), AllocError> {
     let mut input = String::from_str(alloc, first)?;
     push_times(&mut input, part, 1_000_000)?;
     input.push_str(last)?;
     let run = Run {
+        name: first,
         rows: 2,
         cols: 8,
         input: input.as_bytes(),
         inside,
     };
-    Ok(shows(alloc, &run, 1024, 1024))
+    shown_and_wanted(alloc, &run, 1024)
 }
 
 // A device control string shows nothing whatever its length, and the number of a control sequence stops at its limit.
 #[test]
-fn a_million_bytes(rt: HostRuntime) {
+fn a_million_bytes(rt: HostRuntime) -> Result<(), Fail> {
     let string = "z       |\n|        |\ncursor 1 2 shown\noutput -";
     let sequence = "        |\n|        |\ncursor 1 8 shown\noutput -";
-    assert!(rt; is_long_shown(rt.alloc(), "\x1BP", "A", "\x1B\\z", string) == Ok(true));
-    assert!(rt; is_long_shown(rt.alloc(), "\x1B[", "1", "C", sequence) == Ok(true));
+    let (found, wanted) = long_shown(rt.alloc(), "\x1BP", "A", "\x1B\\z", string)?;
+    assert_eq!(rt; found, wanted, "a device control string");
+    let (found, wanted) = long_shown(rt.alloc(), "\x1B[", "1", "C", sequence)?;
+    assert_eq!(rt; found, wanted, "a control sequence");
+    Ok(())
 }
 
-// How a run of three bytes ends that fails at a read, and that nothing is written.
-fn ends_at_read(alloc: Global, fails_at: u32) -> bool {
+// Returns how a run of three bytes ends that fails at a read, and how many bytes it writes.
+fn end_at_read(alloc: Global, fails_at: u32) -> (Result<(), RunFault>, usize) {
     let mut out = Vec::new(alloc);
     let mut reader = Cut::new(b"abc", 1, 1);
     reader.fails_at = fails_at;
-    run_show(alloc, 2, 8, &mut reader, &mut out) == Err(RunFault::Read) && out.is_empty()
+    let ran = run_show(alloc, 2, 8, &mut reader, &mut out);
+    (ran, out.len())
 }
 
-fn is_bad_size(alloc: Global, rows: u16, cols: u16) -> bool {
+// Returns how a run on a screen of a size ends, and how many bytes it writes.
+fn end_of_size(alloc: Global, rows: u16, cols: u16) -> (Result<(), RunFault>, usize) {
     let mut out = Vec::new(alloc);
     let ran = run_show(alloc, rows, cols, &mut b"abc".as_slice(), &mut out);
-    ran == Err(RunFault::Core(Fault::BadSize)) && out.is_empty()
+    (ran, out.len())
 }
 
 #[test]
 fn sizes_outside_the_limits_and_failed_reads_write_nothing(rt: HostRuntime) {
     for (rows, cols) in [(1, 8), (0, 8), (201, 8), (2, 3), (2, 501), (65535, 65535)] {
-        assert!(rt; is_bad_size(rt.alloc(), rows, cols), "{rows} by {cols}");
+        let (ran, written) = end_of_size(rt.alloc(), rows, cols);
+        assert_eq!(rt;
+            ran,
+            Err(RunFault::Core(Fault::BadSize)),
+            "{rows} by {cols}"
+        );
+        assert_eq!(rt; written, 0, "{rows} by {cols}");
     }
     for fails_at in 1..5u32 {
-        assert!(rt; ends_at_read(rt.alloc(), fails_at), "read {fails_at}");
+        let (ran, written) = end_at_read(rt.alloc(), fails_at);
+        assert_eq!(rt; ran, Err(RunFault::Read), "read {fails_at}");
+        assert_eq!(rt; written, 0, "read {fails_at}");
     }
 }
 
@@ -928,7 +986,7 @@ fn a_write_that_fails_is_told(rt: HostRuntime) {
         } else {
             Ok(())
         };
-        assert!(rt; ran == wanted, "call {fails_at}");
+        assert_eq!(rt; ran, wanted, "call {fails_at}");
     }
 }
 
@@ -938,6 +996,6 @@ fn a_reader_that_goes_on_is_given_up(rt: HostRuntime) {
     for (left, wanted) in [(16_777_215, Ok(())), (16_777_216, Err(RunFault::Read))] {
         let mut out = Vec::new(rt.alloc());
         let ran = run_show(rt.alloc(), 2, 8, &mut Drip { left }, &mut out);
-        assert!(rt; ran == wanted, "{left} bytes");
+        assert_eq!(rt; ran, wanted, "{left} bytes");
     }
 }

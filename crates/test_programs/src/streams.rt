@@ -1,6 +1,30 @@
-//! Readers and writers that work in pieces, and fail at a given call.
+//! Readers and writers that work in pieces, and fail at a given call; and what a run prints, as text.
+use std::alloc::{AllocError, Global};
+use std::fmt::Display;
 use std::io;
 use std::io::{Read, Write};
+use std::str::from_utf8;
+
+/// Returns bytes as text; bytes that are no text are listed as numbers.
+pub fn text_of(alloc: Global, bytes: &[u8]) -> Result<String, AllocError> {
+    match from_utf8(bytes) {
+        Ok(text) => String::from_str(alloc, text),
+        Err(_) => format!(in alloc; "{bytes:?}"),
+    }
+}
+
+/// Returns the output of a run, and then its error, if it has one.
+pub fn told<F: Display + Drop>(
+    alloc: Global,
+    out: &[u8],
+    ran: Result<(), F>,
+) -> Result<String, AllocError> {
+    let text = text_of(alloc, out)?;
+    match ran {
+        Ok(()) => Ok(text),
+        Err(fault) => format!(in alloc; "{}error: {fault}", text.as_str()),
+    }
+}
 
 /// Gives at most so many bytes at the next read, at most so many at each later one, and fails at the read with a number; 0 is none.
 #[derive(Drop)]

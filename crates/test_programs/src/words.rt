@@ -97,26 +97,38 @@ fn words_of<'a>(alloc: Global, line: &'a str) -> Result<Vec<&'a str>, AllocError
     Ok(words)
 }
 
-// Returns true if words get this text, with one more line feed, and this status.
-fn is_answered(alloc: Global, words: &[&str], status: &str, text: &str) -> bool {
-    let Err(Refusal::Clap(error)) = read_words(alloc, words) else {
-        return false;
-    };
-    status.parse::<i32>() == Ok(error.exit_code())
-        && matches!(error.to_string(alloc), Ok(told) if told.as_str().strip_suffix('\n') == Some(text))
+// Returns the status that words get, and below it their text; `None` if they have a request, or another refusal.
+fn told_of(alloc: Global, words: &[&str]) -> Result<Option<String>, AllocError> {
+    match read_words(alloc, words) {
+        Err(Refusal::Clap(error)) => {
+            let text = error.to_string(alloc)?;
+            Ok(Some(format!(in alloc; "{}\n{}", error.exit_code(), text.as_str())?))
+        }
+        _ => Ok(None),
+    }
 }
 
-fn is_told(alloc: Global, case: &str) -> bool {
-    let (line, text) = case.split_once('\n').unwrap_or((case, ""));
-    let (status, line) = line.split_once(' ').unwrap_or((line, ""));
-    matches!(words_of(alloc, line), Ok(words) if is_answered(alloc, &words, status, text))
+// Returns the status of a case, its words, and its text; `None` if it is malformed.
+fn case_of(case: &str) -> Option<(&str, &str, &str)> {
+    let (head, text) = case.split_once('\n')?;
+    let (status, line) = head.split_once(' ')?;
+    Some((status, line, text))
 }
 
 #[test]
-fn texts_of_words(rt: HostRuntime) {
+fn texts_of_words(rt: HostRuntime) -> Result<(), Fail> {
     for case in TOLD.split("\n> ") {
-        assert!(rt; is_told(rt.alloc(), case), "{case}");
+        match case_of(case) {
+            Some((status, line, text)) => {
+                let words = words_of(rt.alloc(), line)?;
+                let wanted = format!(in rt.alloc(); "{status}\n{text}\n")?;
+                let found = told_of(rt.alloc(), &words)?;
+                assert_eq!(rt; found, Some(wanted), "{line}");
+            }
+            None => panic!(rt; "malformed case: {case}"),
+        }
     }
+    Ok(())
 }
 
 // Words, and their request. For `serve`: the folder, the port, the session, the turns, and true if bytes are normalized. For `attach`: the
@@ -231,27 +243,31 @@ fn text_of(alloc: Global, request: &Request<'_>) -> Result<String, AllocError> {
     }
 }
 
-fn ask_for(alloc: Global, words: &[&str], text: &str) -> bool {
+// Returns the text of the request of words; `nothing` if they have none.
+fn asked_of(alloc: Global, words: &[&str]) -> Result<String, AllocError> {
     match read_words(alloc, words) {
-        Ok(request) => matches!(text_of(alloc, &request), Ok(told) if told.as_str() == text),
-        Err(_) => text == "nothing",
+        Ok(request) => text_of(alloc, &request),
+        Err(_) => String::from_str(alloc, "nothing"),
     }
-}
-
-fn is_asked(alloc: Global, line: &str) -> bool {
-    let (line, text) = line.split_once('|').unwrap_or((line, ""));
-    matches!(words_of(alloc, line), Ok(words) if ask_for(alloc, &words, text))
 }
 
 #[test]
-fn words_and_what_they_ask_for(rt: HostRuntime) {
-    for line in ASKED.lines() {
-        assert!(rt; is_asked(rt.alloc(), line), "{line}");
+fn words_and_what_they_ask_for(rt: HostRuntime) -> Result<(), Fail> {
+    for case in ASKED.lines() {
+        match case.split_once('|') {
+            Some((line, wanted)) => {
+                let words = words_of(rt.alloc(), line)?;
+                let found = asked_of(rt.alloc(), &words)?;
+                assert_eq!(rt; found.as_str(), wanted, "{line}");
+            }
+            None => panic!(rt; "malformed case: {case}"),
+        }
     }
+    Ok(())
 }
 
-// The words of `serve` with this id are refused for it.
-fn is_no_id(alloc: Global, id: &str) -> bool {
+// Returns the kind of refusal that the words of `serve` with this id get; `none` if they have a request.
+fn refusal_of_id(alloc: Global, id: &str) -> &'static str {
     let words = [
         "roam",
         "serve",
@@ -264,12 +280,18 @@ fn is_no_id(alloc: Global, id: &str) -> bool {
         "--turns",
         "1",
     ];
-    matches!(read_words(alloc, &words), Err(Refusal::BadId))
+    match read_words(alloc, &words) {
+        Ok(_) => "none",
+        Err(Refusal::Memory) => "memory",
+        Err(Refusal::NoText) => "no text",
+        Err(Refusal::BadId) => "bad id",
+        Err(Refusal::Clap(_)) => "clap",
+    }
 }
 
 #[test]
 fn ids_that_are_none(rt: HostRuntime) {
     for id in ["", "g", "0x1", "+1", "5e 55", "00000000000000001"] {
-        assert!(rt; is_no_id(rt.alloc(), id), "{id}");
+        assert_eq!(rt; refusal_of_id(rt.alloc(), id), "bad id", "{id:?}");
     }
 }

@@ -1,5 +1,5 @@
 //! The output of `roam world`: scripts with the answers of the rules, and the errors of a run.
-use crate::streams::{Cut, Narrow};
+use crate::streams::{Cut, Narrow, text_of, told};
 use roam_faults::RunFault;
 use roam_world_run::run_world;
 use std::alloc::{AllocError, Global};
@@ -352,29 +352,45 @@ impl Told {
         Ok(())
     }
 
-    // Returns true if the script, in pieces of this size, prints its text.
-    fn is_printed(&self, alloc: Global, size: usize) -> bool {
+    // Returns the output of the script in pieces of this size, and then its error, if it has one.
+    fn printed_by(&self, alloc: Global, size: usize) -> Result<String, AllocError> {
         let mut out = Vec::new(alloc);
         let mut pieces = Cut::new(self.script.as_bytes(), size, size);
-        run_world(alloc, &mut pieces, &mut out) == Ok(())
-            && out.as_slice() == self.printed.as_bytes()
+        let ran = run_world(alloc, &mut pieces, &mut out);
+        told(alloc, &out, ran)
+    }
+
+    // Returns the same of the first size of pieces for which it is not the expected output, or else the expected one.
+    fn first_printed(&self, alloc: Global) -> Result<String, AllocError> {
+        for size in [1024, 1] {
+            let found = self.printed_by(alloc, size)?;
+            if found.as_str() != self.printed.as_str() {
+                return Ok(found);
+            }
+        }
+        self.printed_by(alloc, 7)
     }
 }
 
-fn is_story(alloc: Global, story: &str) -> bool {
-    let (_, lines) = story.split_once('\n').unwrap_or((story, ""));
+fn story_of(alloc: Global, lines: &str) -> Result<Told, AllocError> {
     let mut told = Told::new(alloc);
-    told.add_times(lines, 1).is_ok()
-        && told.is_printed(alloc, 1024)
-        && told.is_printed(alloc, 1)
-        && told.is_printed(alloc, 7)
+    told.add_times(lines, 1)?;
+    Ok(told)
 }
 
 #[test]
-fn stories(rt: HostRuntime) {
-    for story in STORIES.split("\n\n") {
-        assert!(rt; is_story(rt.alloc(), story), "{story}");
+fn stories(rt: HostRuntime) -> Result<(), Fail> {
+    for case in STORIES.split("\n\n") {
+        match case.split_once('\n') {
+            Some((name, lines)) => {
+                let story = story_of(rt.alloc(), lines)?;
+                let found = story.first_printed(rt.alloc())?;
+                assert_eq!(rt; found.as_str(), story.printed.as_str(), "{name}");
+            }
+            None => panic!(rt; "malformed case: {case}"),
+        }
     }
+    Ok(())
 }
 
 // Lines after `session 1 4 8` that end a run, each by itself; a bar is behind each but the last.
@@ -436,44 +452,49 @@ line 1: bad event: session 10000000000000000 4 8\n|
 bad size: session 1 3 8\nface\n|
 bad size: session 1 4 501";
 
-fn has_text(alloc: Global, fault: &RunFault, wanted: &str) -> bool {
-    matches!(fault.to_string(alloc), Ok(text) if text.as_str() == wanted)
-}
-
-// Returns true if a script prints this much and has this error.
-fn fails(alloc: Global, script: &str, printed: &str, wanted: &str) -> bool {
+// Returns the output of a script, and then its error, if it has one.
+fn printed_of(alloc: Global, script: &str) -> Result<String, AllocError> {
     let mut out = Vec::new(alloc);
-    match run_world(alloc, &mut script.as_bytes(), &mut out) {
-        Ok(()) => false,
-        Err(fault) => has_text(alloc, &fault, wanted) && out.as_slice() == printed.as_bytes(),
-    }
+    let ran = run_world(alloc, &mut script.as_bytes(), &mut out);
+    told(alloc, &out, ran)
 }
 
-// Returns true if a line ends a run, in the second line and in the last.
-fn ends(alloc: Global, line: &str) -> Result<bool, AllocError> {
-    let first = format!(in alloc; "session 1 4 8\n{line}\nface\n")?;
-    let last = format!(in alloc; "session 1 4 8\n\n# two lines that are skipped\n{line}")?;
-    Ok(
-        fails(alloc, first.as_str(), "ok\n", "line 2: bad event")
-            && fails(alloc, last.as_str(), "ok\n", "line 4: bad event"),
-    )
+// Returns the same of a line that is the second of a script.
+fn printed_in_the_middle(alloc: Global, line: &str) -> Result<String, AllocError> {
+    let script = format!(in alloc; "session 1 4 8\n{line}\nface\n")?;
+    printed_of(alloc, script.as_str())
 }
 
-fn starts_badly(alloc: Global, case: &str) -> bool {
-    match case.rsplit_once(": ") {
-        Some((wanted, script)) => fails(alloc, script, "", wanted),
-        None => false,
-    }
+// Returns the same of a line that is the last of a script.
+fn printed_at_the_end(alloc: Global, line: &str) -> Result<String, AllocError> {
+    let script = format!(in alloc; "session 1 4 8\n\n# two lines that are skipped\n{line}")?;
+    printed_of(alloc, script.as_str())
 }
 
 #[test]
-fn bad_lines_end_a_run(rt: HostRuntime) {
+fn bad_lines_end_a_run(rt: HostRuntime) -> Result<(), Fail> {
     for line in BAD.split("|\n") {
-        assert!(rt; matches!(ends(rt.alloc(), line), Ok(true)), "{line:?}");
+        let found = printed_in_the_middle(rt.alloc(), line)?;
+        assert_eq!(rt; found.as_str(), "ok\nerror: line 2: bad event", "{line:?}");
+        let found = printed_at_the_end(rt.alloc(), line)?;
+        assert_eq!(rt; found.as_str(), "ok\nerror: line 4: bad event", "{line:?}");
     }
+    Ok(())
+}
+
+#[test]
+fn bad_starts_end_a_run(rt: HostRuntime) -> Result<(), Fail> {
     for case in STARTS.split("|\n") {
-        assert!(rt; starts_badly(rt.alloc(), case), "{case:?}");
+        match case.rsplit_once(": ") {
+            Some((error, script)) => {
+                let wanted = format!(in rt.alloc(); "error: {error}")?;
+                let found = printed_of(rt.alloc(), script)?;
+                assert_eq!(rt; found, wanted, "{script:?}");
+            }
+            None => panic!(rt; "malformed case: {case:?}"),
+        }
     }
+    Ok(())
 }
 
 // Appends a line with 341 requests for attributes and its output, so many times.
@@ -494,7 +515,7 @@ fn add_requests(
 
 // 20 pieces of 341 requests for attributes, each with an answer of 8 bytes, and 1,368 single ones leave 32 of 65,536 bytes free; a key of
 // F6 has 5 bytes.
-fn full_queue(alloc: Global) -> Result<bool, AllocError> {
+fn full_queue(alloc: Global) -> Result<Told, AllocError> {
     let mut told = Told::new(alloc);
     told.add_times("> session 1 4 8\nok", 1)?;
     add_requests(alloc, &mut told, "ok", 20)?;
@@ -503,7 +524,7 @@ fn full_queue(alloc: Global) -> Result<bool, AllocError> {
     told.add_times("> pane 1 1b5b63\nE7\n> start 0 a1\nok", 1)?;
     told.add_times("> type 0 key f6\nok", 10)?;
     told.add_times(AFTER_THE_QUEUE, 1)?;
-    Ok(told.is_printed(alloc, 1024))
+    Ok(told)
 }
 
 const AFTER_THE_QUEUE: &str =
@@ -518,20 +539,30 @@ fn add_start(alloc: Global, told: &mut Told, number: u32) -> Result<(), AllocErr
 }
 
 // 65 instances send to the server; the last is one too many, and the first is still known.
-fn many_starts(alloc: Global) -> Result<bool, AllocError> {
+fn many_starts(alloc: Global) -> Result<Told, AllocError> {
     let mut told = Told::new(alloc);
     told.add_times("> session 1 4 8\nok", 1)?;
     for number in 1..66u32 {
         add_start(alloc, &mut told, number)?;
     }
     told.add_times("> up 1 5001 0\nok 0", 1)?;
-    Ok(told.is_printed(alloc, 1024))
+    Ok(told)
 }
 
 #[test]
-fn a_full_queue_stops_at_an_act_and_a_65th_start_is_refused(rt: HostRuntime) {
-    assert!(rt; matches!(full_queue(rt.alloc()), Ok(true)));
-    assert!(rt; matches!(many_starts(rt.alloc()), Ok(true)));
+fn a_full_queue_stops_at_an_act(rt: HostRuntime) -> Result<(), Fail> {
+    let queue = full_queue(rt.alloc())?;
+    let found = queue.printed_by(rt.alloc(), 1024)?;
+    assert_eq!(rt; found.as_str(), queue.printed.as_str());
+    Ok(())
+}
+
+#[test]
+fn a_65th_start_is_refused(rt: HostRuntime) -> Result<(), Fail> {
+    let starts = many_starts(rt.alloc())?;
+    let found = starts.printed_by(rt.alloc(), 1024)?;
+    assert_eq!(rt; found.as_str(), starts.printed.as_str());
+    Ok(())
 }
 
 // The answer `ok` is one call and a flush.
@@ -545,19 +576,18 @@ fn a_write_that_fails_ends_a_script(rt: HostRuntime) {
         } else {
             Ok(())
         };
-        assert!(rt; ran == wanted, "call {fails_at}");
+        assert_eq!(rt; ran, wanted, "call {fails_at}");
     }
 }
 
-fn fails_at_the_second_read(alloc: Global) -> bool {
+#[test]
+fn a_read_that_fails_ends_a_script(rt: HostRuntime) -> Result<(), Fail> {
     let mut reader = Cut::new(b"session 1 4 8\nface\n", 14, 14);
     reader.fails_at = 2;
-    let mut out = Vec::new(alloc);
-    run_world(alloc, &mut reader, &mut out) == Err(RunFault::Read)
-        && out.as_slice() == b"ok\n".as_slice()
-}
-
-#[test]
-fn a_read_that_fails_ends_a_script(rt: HostRuntime) {
-    assert!(rt; fails_at_the_second_read(rt.alloc()));
+    let mut out = Vec::new(rt.alloc());
+    let ran = run_world(rt.alloc(), &mut reader, &mut out);
+    let found = text_of(rt.alloc(), &out)?;
+    assert_eq!(rt; ran, Err(RunFault::Read), "read 2");
+    assert_eq!(rt; found.as_str(), "ok\n", "read 2");
+    Ok(())
 }

@@ -16,7 +16,7 @@ pub fn laid_after(
 ) -> Result<Option<RowShot>, Fault> {
     let mut overlay = Overlay::new(alloc, false)?;
     overlay.typed(false, 1, acts, screen);
-    overlay.judge(alloc, number, &Shown::New(screen), 0, 0);
-    Ok(overlay.over(alloc, &Shown::New(screen), 0)) // none: an epoch begins hidden
+    overlay.judge(alloc, number, &Shown::New(screen), 0, 0)?;
+    overlay.over(alloc, &Shown::New(screen), 0) // none: an epoch begins hidden
 }
 // README: end

@@ -1,8 +1,10 @@
 //! Keys: the bytes of each kind under the modes of a terminal, and a full queue.
-use crate::term_trials::{Trial, stands};
+use crate::term_rows::{Other, malformed};
+use crate::term_trials::{Trial, other_tried};
 use roam_acts::{Act, Key, read_act};
 use roam_cells::Fault;
 use roam_term::Term;
+use std::alloc::Global;
 use std::test::*;
 
 // The input before, the act, and the bytes of its key then; a bar ends each.
@@ -24,42 +26,71 @@ const SENT: &str = "\
 |key backspace|\x7F|
 \x1B[20h\x1B=\x1B[?1h|char 4e2d|\u{4E2D}";
 
-fn is_waiting(term: &mut Term, sent: &str) -> bool {
+fn other_waiting(alloc: Global, term: &mut Term, sent: &str) -> Other {
     let mut out = [0; 8];
     let count = term.copy_output(&mut out);
-    &out[..count] == sent.as_bytes()
+    let found = &out[..count];
+    if found == sent.as_bytes() {
+        return Ok(None);
+    }
+    Ok(Some(format!(in alloc; "{:?} in place of {sent:?}", str::from_utf8(found).ok())?))
 }
 
-/// Returns true if a case is true of a terminal.
-pub fn sends(term: &mut Term, case: &str) -> bool {
-    let (before, rest) = case.split_once('|').unwrap_or((case, ""));
-    let (line, sent) = rest.split_once('|').unwrap_or((rest, ""));
+// The input before, the act, and the bytes of a case; `None` if it is malformed.
+fn parts_of(case: &str) -> Option<(&str, &str, &str)> {
+    let (before, rest) = case.split_once('|')?;
+    let (line, sent) = rest.split_once('|')?;
+    Some((before, line, sent))
+}
+
+/// Returns how a case is not true of a terminal.
+pub fn other_key(alloc: Global, term: &mut Term, case: &str) -> Other {
+    let Some((before, line, sent)) = parts_of(case) else {
+        return malformed(alloc);
+    };
     match read_act(line.as_bytes()) {
-        Ok(Act::Key(key)) => term.feed(before.as_bytes()).is_ok()
-            && term.key(&key).is_ok()
-            && is_waiting(term, sent),
-        _ => false,
+        Ok(Act::Key(key)) => {
+            term.feed(before.as_bytes())?;
+            term.key(&key)?;
+            other_waiting(alloc, term, sent)
+        }
+        _ => malformed(alloc),
     }
 }
 
-/// Returns true if a key that doesn't fit is refused: five bytes each, up to the last but one of the queue.
-pub fn is_filled(term: &mut Term) -> bool {
-    let mut taken = true;
+/// A key that doesn't fit is refused: five bytes each, up to the last but one of the queue.
+pub fn other_fill(alloc: Global, term: &mut Term) -> Other {
     for _ in 0..13_107 {
-        taken = taken && term.key(&Key::F20) == Ok(());
+        term.key(&Key::F20)?;
     }
-    taken
-        && term.output_len() == 65_535
-        && term.key(&Key::Up) == Err(Fault::Busy)
-        && term.key(&Key::Char('a')) == Ok(())
-        && term.key(&Key::Char('a')) == Err(Fault::Busy)
-        && term.output_len() == 65_536
+    let filled = term.output_len();
+    let up = term.key(&Key::Up);
+    let first = term.key(&Key::Char('a'));
+    let second = term.key(&Key::Char('a'));
+    let found = (filled, up, first, second);
+    let wanted = (65_535, Err(Fault::Busy), Ok(()), Err(Fault::Busy));
+    if found != wanted {
+        return Ok(Some(format!(in alloc; "{found:?} in place of {wanted:?}")?));
+    }
+    let full = term.output_len();
+    if full == 65_536 {
+        return Ok(None);
+    }
+    Ok(Some(format!(in alloc; "{full} bytes in place of 65,536")?))
 }
 
 #[test]
 fn keys_under_their_modes_and_in_a_full_queue(rt: HostRuntime) {
     for case in SENT.split("|\n") {
-        assert!(rt; stands(rt.alloc(), 2, 8, 0, Trial::Sent(case)), "{case:?}");
+        assert_eq!(rt;
+            other_tried(rt.alloc(), 2, 8, 0, Trial::Sent(case)),
+            Ok(None),
+            "{case:?}"
+        );
     }
-    assert!(rt; stands(rt.alloc(), 2, 8, 0, Trial::FullQueue));
+    assert_eq!(rt;
+        other_tried(rt.alloc(), 2, 8, 0, Trial::FullQueue),
+        Ok(None),
+        "full"
+    );
 }

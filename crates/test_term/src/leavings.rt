@@ -1,6 +1,6 @@
 //! The rows that leave a terminal, beside a history that keeps them all, and from which rows autowrap went on.
 use roam_cells::{Cell, Fault};
-use roam_scrollback::{LeftLines, RowSource, push_line};
+use roam_scrollback::{LeftLines, RowSource, Wrap, push_line};
 use roam_term::Term;
 use std::alloc::{AllocError, Global};
 use std::test::*;
@@ -64,14 +64,8 @@ fn feed_cut(source: &mut RowSource, bytes: &[u8], lines: &mut LeftLines, cut: u6
     }
 }
 
-// The line of the first row that a view of a terminal shows, which goes on or doesn't.
-fn push_first(
-    alloc: Global,
-    text: &mut Vec<u8>,
-    term: &Term,
-    view: u16,
-    goes_on: bool,
-) -> Result<(), Fault> {
+// Returns the line of the first row that a view of a terminal shows, which ends so.
+fn first_line(alloc: Global, term: &Term, view: u16, wrap: Wrap) -> Result<Vec<u8>, Fault> {
     let shot = term.shot(alloc, view)?;
     let mut cells = Vec::new(alloc);
     for col in 1..9 {
@@ -79,12 +73,25 @@ fn push_first(
             cells.push(cell)?;
         }
     }
-    push_line(text, goes_on, &cells)?;
-    Ok(())
+    let mut text = Vec::new(alloc);
+    push_line(&mut text, wrap, &cells)?;
+    Ok(text)
+}
+
+// The same for a row that ends as its line says: one that lacks the last column left it to a wide character.
+fn first_like(alloc: Global, term: &Term, view: u16, line: &[u8]) -> Result<Vec<u8>, Fault> {
+    if line.first() != Some(&b'+') {
+        return first_line(alloc, term, view, Wrap::Ends);
+    }
+    let full = first_line(alloc, term, view, Wrap::Full)?;
+    if full.len().saturating_sub(1) == line.len() {
+        return Ok(full);
+    }
+    first_line(alloc, term, view, Wrap::Early)
 }
 
 // Returns the lines of the last rows of a history, the oldest first, on the main screen: as many as there are lines, each of which says
-// whether its row goes on.
+// how its row ends.
 fn lines_of_history(alloc: Global, bytes: &[u8], lines: &LeftLines) -> Result<Vec<u8>, Fault> {
     let mut term = Term::new(alloc, 3, 8, 500)?;
     for piece in bytes.chunks(64) {
@@ -97,8 +104,8 @@ fn lines_of_history(alloc: Global, bytes: &[u8], lines: &LeftLines) -> Result<Ve
         if view == 0 {
             break;
         }
-        let goes_on = line.first() == Some(&b'+');
-        push_first(alloc, &mut text, &term, view.min(500) as u16, goes_on)?;
+        let row = first_like(alloc, &term, view.min(500) as u16, line)?;
+        text.extend_from_slice(&row)?;
         view -= 1;
     }
     Ok(text)

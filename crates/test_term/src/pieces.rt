@@ -1,9 +1,9 @@
 //! The terminal of a pane, fed by pieces: renditions, sizes, the queue of answers. The tests of `roam show` have the effect of text and
 //! moves on a screen.
-use crate::term_rows::shows;
-use crate::term_trials::{Trial, stands};
-use roam_cells::{Colour, Fault, Style};
-use roam_screens::Shot;
+use crate::scrollback::other_whole;
+use crate::term_rows::{Other, malformed, other_shown};
+use crate::term_trials::{Trial, other_tried};
+use roam_cells::{Cell, Colour, Fault, Style};
 use roam_term::{MOST_PIECE, Term};
 use std::alloc::Global;
 use std::test::*;
@@ -89,26 +89,70 @@ fn style_of(words: &str) -> Option<Style> {
     Some(style)
 }
 
-// A character in this style, unguarded.
-fn is_drawn(shot: &Shot, style: Style) -> bool {
+// Adds a word with a colour, if it is none of the default.
+fn push_colour(alloc: Global, words: &mut String, name: &str, colour: Colour) -> Result<(), Fault> {
+    let word = match colour {
+        Colour::Default => return Ok(()),
+        Colour::Index(index) => format!(in alloc; " {name}={index}")?,
+        Colour::Rgb(red, green, blue) => format!(in alloc; " {name}={red},{green},{blue}")?,
+    };
+    words.push_str(word.as_str())?;
+    Ok(())
+}
+
+// The words of a style, with a space before each.
+fn words_of(alloc: Global, style: Style) -> Result<String, Fault> {
+    let mut words = String::new(alloc);
+    for (is_on, word) in [
+        (style.bold, " bold"),
+        (style.faint, " faint"),
+        (style.italic, " italic"),
+        (style.underline, " underline"),
+        (style.blink, " blink"),
+        (style.reverse, " reverse"),
+        (style.conceal, " conceal"),
+        (style.strike, " strike"),
+    ] {
+        if is_on {
+            words.push_str(word)?;
+        }
+    }
+    push_colour(alloc, &mut words, "foreground", style.foreground)?;
+    push_colour(alloc, &mut words, "background", style.background)?;
+    Ok(words)
+}
+
+fn other_cell(alloc: Global, cell: Cell, style: Style) -> Other {
+    let points = cell.chars();
+    if points.as_slice() == ['a'].as_slice() && cell.style() == style && !cell.guard() {
+        return Ok(None);
+    }
+    let words = words_of(alloc, cell.style())?;
+    Ok(Some(format!(in alloc;
+        "{:?} in the style{}, guard {}",
+        points.as_slice(),
+        words.as_str(),
+        cell.guard()
+    )?))
+}
+
+/// Returns how a character has not a style, unguarded, after this input.
+pub fn other_drawn(alloc: Global, term: &mut Term, before: &str, style: Style) -> Other {
+    term.feed(before.as_bytes())?;
+    term.feed(b"a")?;
+    let shot = term.shot(alloc, 0)?;
     match shot.at(1, 1) {
-        Some(cell) => cell.chars().as_slice() == ['a'].as_slice()
-            && cell.style() == style
-            && !cell.guard(),
-        None => false,
+        Some(cell) => other_cell(alloc, cell, style),
+        None => Ok(Some(format!(in alloc; "no cell")?)),
     }
 }
 
-/// Returns true if a character has a style after this input.
-pub fn draws(alloc: Global, term: &mut Term, before: &str, style: Style) -> bool {
-    term.feed(before.as_bytes()).is_ok()
-        && term.feed(b"a").is_ok()
-        && matches!(term.shot(alloc, 0), Ok(shot) if is_drawn(&shot, style))
-}
-
-fn is_rendered(alloc: Global, line: &str) -> bool {
+fn other_rendered(alloc: Global, line: &str) -> Other {
     let (before, words) = line.split_once('|').unwrap_or((line, ""));
-    matches!(style_of(words), Some(style) if stands(alloc, 2, 8, 0, Trial::Rendition(before, style)))
+    match style_of(words) {
+        Some(style) => other_tried(alloc, 2, 8, 0, Trial::Rendition(before, style)),
+        None => malformed(alloc),
+    }
 }
 
 // Inputs, and whether they leave the first character in reverse: DECSCNM turns the reverse flag of each cell, twice the same as once.
@@ -119,28 +163,32 @@ const REVERSED: &str = "\
 \x1B[7m\x1B[?5ha|no
 \x1B[?5ha\x1B[?5l|no";
 
-fn has_reverse(shot: &Shot, reverse: bool) -> bool {
-    matches!(shot.at(1, 1), Some(cell) if cell.style().reverse == reverse)
+/// Returns how an input leaves the first character in reverse, or not, otherwise than expected.
+pub fn other_reverse(alloc: Global, term: &mut Term, input: &str, reverse: bool) -> Other {
+    term.feed(input.as_bytes())?;
+    let shot = term.shot(alloc, 0)?;
+    match shot.at(1, 1) {
+        Some(cell) if cell.style().reverse == reverse => Ok(None),
+        Some(_) => Ok(Some(format!(in alloc; "reverse {} in place of {reverse}", !reverse)?)),
+        None => Ok(Some(format!(in alloc; "no cell")?)),
+    }
 }
 
-/// Returns true if an input leaves the first character in reverse, or not, as expected.
-pub fn reverses(alloc: Global, term: &mut Term, input: &str, reverse: bool) -> bool {
-    term.feed(input.as_bytes()).is_ok()
-        && matches!(term.shot(alloc, 0), Ok(shot) if has_reverse(&shot, reverse))
-}
-
-fn is_reversed(alloc: Global, line: &str) -> bool {
-    let (input, answer) = line.split_once('|').unwrap_or((line, ""));
-    stands(alloc, 2, 8, 0, Trial::Reverse(input, answer == "yes"))
+fn other_reversed(alloc: Global, line: &str) -> Other {
+    match line.split_once('|') {
+        Some((input, "yes")) => other_tried(alloc, 2, 8, 0, Trial::Reverse(input, true)),
+        Some((input, "no")) => other_tried(alloc, 2, 8, 0, Trial::Reverse(input, false)),
+        _ => malformed(alloc),
+    }
 }
 
 #[test]
 fn renditions_and_a_reversed_screen(rt: HostRuntime) {
     for line in RENDERED.lines() {
-        assert!(rt; is_rendered(rt.alloc(), line), "{line:?}");
+        assert_eq!(rt; other_rendered(rt.alloc(), line), Ok(None), "{line:?}");
     }
     for line in REVERSED.lines() {
-        assert!(rt; is_reversed(rt.alloc(), line), "{line:?}");
+        assert_eq!(rt; other_reversed(rt.alloc(), line), Ok(None), "{line:?}");
     }
 }
 
@@ -149,14 +197,25 @@ fn feed_letters(term: &mut Term, count: usize) -> Result<(), Fault> {
     term.feed(&letters[..count.min(MOST_PIECE + 1)])
 }
 
-/// Returns true if a piece one letter too long is refused, and then one of the most letters fills the screen.
-pub fn takes_the_longest(alloc: Global, term: &mut Term) -> bool {
+/// A piece one letter too long is refused, and then one of the most letters fills the screen.
+pub fn other_longest(alloc: Global, term: &mut Term) -> Other {
+    let refused = feed_letters(term, MOST_PIECE + 1);
+    if refused != Err(Fault::TooLong) {
+        return Ok(Some(format!(in alloc; "{refused:?} for one letter too many")?));
+    }
+    match other_shown(alloc, term, 0, "        |        |1 1 shown")? {
+        None => other_filled(alloc, term),
+        other => Ok(other),
+    }
+}
+
+fn other_filled(alloc: Global, term: &mut Term) -> Other {
     let full = "aaaaaaaa|aaaaaaaa|2 8 shown";
-    feed_letters(term, MOST_PIECE + 1) == Err(Fault::TooLong)
-        && shows(alloc, term, 0, "        |        |1 1 shown")
-        && feed_letters(term, MOST_PIECE) == Ok(())
-        && shows(alloc, term, 0, full)
-        && shows(alloc, term, 500, full)
+    feed_letters(term, MOST_PIECE)?;
+    match other_shown(alloc, term, 0, full)? {
+        None => other_shown(alloc, term, 500, full),
+        other => Ok(other),
+    }
 }
 
 // The answers of a VT220 with selective erasure, one for each byte `c` of these.
@@ -167,14 +226,16 @@ fn takes(term: &mut Term, wanted: &[u8]) -> bool {
     &out[..count] == wanted
 }
 
-/// Returns true if a full queue refuses a piece and loses nothing.
-pub fn fills_and_empties(term: &mut Term) -> bool {
-    fills(term) && empties(term)
+/// A full queue refuses a piece and loses nothing.
+pub fn other_queue(alloc: Global, term: &mut Term) -> Other {
+    match other_fill(alloc, term)? {
+        None => other_emptied(alloc, term),
+        other => Ok(other),
+    }
 }
 
-// Each of these answers has 8 bytes. A piece needs 12 free bytes for each of its own.
-// It takes 8,188 questions and no more, and an answer's last bytes only in two pieces.
-fn fills(term: &mut Term) -> bool {
+// Returns how many questions a terminal takes, each a piece.
+fn count_taken(term: &mut Term) -> u32 {
     let mut answers = 0u32;
     for _ in 0..16_384 {
         if term.feed(b"\x1B[c").is_err() {
@@ -182,59 +243,89 @@ fn fills(term: &mut Term) -> bool {
         }
         answers = answers.saturating_add(1);
     }
-    answers == 8188
-        && term.output_len() == 65_504
-        && term.feed(b"\x1B[c") == Err(Fault::Busy)
-        && term.feed(b"\x1B[") == Ok(())
-        && term.feed(b"c") == Ok(())
+    answers
 }
 
-fn empties(term: &mut Term) -> bool {
-    let mut told = true;
-    for _ in 0..8189 {
-        told = told && takes(term, b"\x1B[?62;6c");
+// Each of these answers has 8 bytes. A piece needs 12 free bytes for each of its own.
+// It takes 8,188 questions and no more, and an answer's last bytes only in two pieces.
+fn other_fill(alloc: Global, term: &mut Term) -> Other {
+    let count = count_taken(term);
+    let found = (count, term.output_len());
+    let wanted = (8188, 65_504);
+    if found != wanted {
+        return Ok(Some(format!(in alloc; "questions and bytes {found:?} in place of {wanted:?}")?));
     }
-    told && term.output_len() == 0
+    let whole = term.feed(b"\x1B[c");
+    let first = term.feed(b"\x1B[");
+    let last = term.feed(b"c");
+    let found = (whole, first, last);
+    let wanted = (Err(Fault::Busy), Ok(()), Ok(()));
+    if found == wanted {
+        return Ok(None);
+    }
+    Ok(Some(format!(in alloc; "a question, and its two pieces: {found:?} in place of {wanted:?}")?))
 }
 
-/// Returns true if no bytes are queued.
-pub fn has_nothing(term: &mut Term) -> bool {
+fn other_emptied(alloc: Global, term: &mut Term) -> Other {
+    for answer in 0..8189u32 {
+        if !takes(term, b"\x1B[?62;6c") {
+            return Ok(Some(format!(in alloc; "another answer {answer}")?));
+        }
+    }
+    let left = term.output_len();
+    if left == 0 {
+        return Ok(None);
+    }
+    Ok(Some(format!(in alloc; "{left} bytes are left")?))
+}
+
+/// No bytes are queued.
+pub fn other_nothing(alloc: Global, term: &mut Term) -> Other {
     let waiting = term.output_len();
     let mut out = [7; 3];
     let count = term.copy_output(&mut out);
     term.take_output(0);
-    waiting == 0 && count == 0 && out == [7; 3] && term.output_len() == 0
+    let found = (waiting, count, out, term.output_len());
+    let wanted = (0, 0, [7; 3], 0);
+    if found == wanted {
+        return Ok(None);
+    }
+    Ok(Some(format!(in alloc; "{found:?} in place of {wanted:?}")?))
 }
 
-fn feed_any(term: &mut Term, state: &mut u32) -> bool {
+fn feed_any(term: &mut Term, state: &mut u32) -> Result<(), Fault> {
     let mut piece = [0; MOST_PIECE];
     for byte in piece.iter_mut() {
         *state = state.wrapping_mul(1664525).wrapping_add(1013904223);
         *byte = (*state >> 24) as u8;
     }
-    term.feed(&piece) == Ok(())
+    term.feed(&piece)
 }
 
-/// Returns true if any bytes are read.
-pub fn takes_any(term: &mut Term) -> bool {
+/// Any bytes are read, and leave the size.
+pub fn other_fed(alloc: Global, term: &mut Term) -> Other {
     let mut state: u32 = 1;
-    let mut fed = true;
     for _ in 0..200 {
-        fed = fed && feed_any(term, &mut state);
+        feed_any(term, &mut state)?;
     }
-    fed
+    other_whole(alloc, term, (24, 80), 0)
 }
 
-fn is_refused(alloc: Global, rows: u16, cols: u16, lines: u16) -> bool {
-    matches!(Term::new(alloc, rows, cols, lines), Err(Fault::BadSize))
+// Returns the answer to a new terminal.
+fn answer_to_new(alloc: Global, rows: u16, cols: u16, lines: u16) -> Result<(), Fault> {
+    match Term::new(alloc, rows, cols, lines) {
+        Ok(_) => Ok(()),
+        Err(fault) => Err(fault),
+    }
 }
 
 #[test]
 fn sizes_and_lines(rt: HostRuntime) {
     for (rows, cols, lines) in [(2, 4, 0), (200, 500, 500), (24, 80, 1)] {
-        assert!(rt;
-            stands(rt.alloc(), rows, cols, lines, Trial::Whole(rows, cols)),
-            "{rows}"
+        assert_eq!(rt;
+            other_tried(rt.alloc(), rows, cols, lines, Trial::Whole(rows, cols)),
+            Ok(None),
+            "{rows} by {cols}, {lines} lines"
         );
     }
     for (rows, cols, lines) in [
@@ -245,40 +336,77 @@ fn sizes_and_lines(rt: HostRuntime) {
         (2, 8, 501),
         (0, 0, 65535),
     ] {
-        assert!(rt; is_refused(rt.alloc(), rows, cols, lines), "{rows}");
+        assert_eq!(rt;
+            answer_to_new(rt.alloc(), rows, cols, lines),
+            Err(Fault::BadSize),
+            "{rows} by {cols}, {lines} lines"
+        );
     }
 }
 
-// The longest piece; a full queue refuses a piece and loses nothing; nothing waits at first; any bytes are read.
 #[test]
 fn pieces_and_the_queue(rt: HostRuntime) {
-    assert!(rt; stands(rt.alloc(), 2, 8, 0, Trial::LongestPiece), "piece");
-    assert!(rt; stands(rt.alloc(), 2, 8, 0, Trial::FullAnswers), "queue");
-    assert!(rt; stands(rt.alloc(), 2, 8, 0, Trial::NothingWaits), "nothing");
-    assert!(rt; stands(rt.alloc(), 24, 80, 0, Trial::AnyBytes), "bytes");
+    assert_eq!(rt;
+        other_tried(rt.alloc(), 2, 8, 0, Trial::LongestPiece),
+        Ok(None),
+        "piece"
+    );
+    assert_eq!(rt;
+        other_tried(rt.alloc(), 2, 8, 0, Trial::FullAnswers),
+        Ok(None),
+        "queue"
+    );
+    assert_eq!(rt;
+        other_tried(rt.alloc(), 2, 8, 0, Trial::NothingWaits),
+        Ok(None),
+        "nothing"
+    );
+    assert_eq!(rt;
+        other_tried(rt.alloc(), 24, 80, 0, Trial::AnyBytes),
+        Ok(None),
+        "bytes"
+    );
 }
 
-// Returns true if the cursor is behind two letters, or memory is refused.
-fn is_behind_two(alloc: Global, term: &Term) -> bool {
-    match term.shot(alloc, 0) {
-        Ok(shot) => shot.cursor() == (1, 3),
-        Err(fault) => fault == Fault::OutOfMemory,
-    }
+fn cursor_of(alloc: Global, term: &Term) -> Result<(u16, u16), Fault> {
+    let shot = term.shot(alloc, 0)?;
+    Ok(shot.cursor())
 }
 
-fn survives_refusals(alloc: Global, term: &mut Term) -> bool {
-    term.feed(b"ab") == Ok(()) && is_behind_two(alloc, term) && is_behind_two(alloc, term)
+// The answer to two letters, and the cursor then, as two calls find it.
+type Fed = (
+    Result<(), Fault>,
+    Result<(u16, u16), Fault>,
+    Result<(u16, u16), Fault>,
+);
+
+fn feed_two(alloc: Global, term: &mut Term) -> Fed {
+    let fed = term.feed(b"ab");
+    let first = cursor_of(alloc, term);
+    let second = cursor_of(alloc, term);
+    (fed, first, second)
 }
 
-fn survives(alloc: Global) -> bool {
-    match Term::new(alloc, 2, 8, 0) {
-        Ok(mut term) => survives_refusals(alloc, &mut term),
-        Err(fault) => fault == Fault::OutOfMemory,
-    }
+fn fed_two(alloc: Global) -> Result<Fed, Fault> {
+    let mut term = Term::new(alloc, 2, 8, 0)?;
+    Ok(feed_two(alloc, &mut term))
 }
 
 // A call after one that was refused memory finds the terminal as it was.
 #[test]
 fn refused_memory_changes_nothing(rt: HostRuntime) {
-    assert!(rt; survives(rt.alloc()));
+    match fed_two(rt.alloc()) {
+        Ok((fed, first, second)) => {
+            assert_eq!(rt; fed, Ok(()));
+            assert!(rt;
+                matches!(first, Ok((1, 3)) | Err(Fault::OutOfMemory)),
+                "first: {first:?}"
+            );
+            assert!(rt;
+                matches!(second, Ok((1, 3)) | Err(Fault::OutOfMemory)),
+                "second: {second:?}"
+            );
+        }
+        Err(fault) => assert_eq!(rt; fault, Fault::OutOfMemory),
+    }
 }

@@ -1,8 +1,7 @@
 //! The history, views and sizes: the rows that leave for the history, the rows of a view, and the effect of a size on both.
-use crate::term_rows::{pair, shown, shows};
-use crate::term_trials::{Trial, stands};
+use crate::term_rows::{Other, malformed, other_shown, pair};
+use crate::term_trials::{Trial, other_tried};
 use roam_cells::Fault;
-use roam_screens::Shot;
 use roam_term::Term;
 use std::alloc::Global;
 use std::test::*;
@@ -191,62 +190,78 @@ fn take(alloc: Global, term: &mut Term, steps: &str) -> Result<(), Fault> {
     Ok(())
 }
 
-/// Returns true if steps lead to the view in the last line.
-pub fn shows_after(alloc: Global, term: &mut Term, view: u16, text: &str) -> bool {
-    let (steps, wanted) = text.rsplit_once('\n').unwrap_or((text, ""));
-    take(alloc, term, steps).is_ok() && shows(alloc, term, view, wanted)
+/// Returns how steps do not lead to the view in the last line.
+pub fn other_after(alloc: Global, term: &mut Term, view: u16, text: &str) -> Other {
+    let Some((steps, wanted)) = text.rsplit_once('\n') else {
+        return malformed(alloc);
+    };
+    take(alloc, term, steps)?;
+    other_shown(alloc, term, view, wanted)
 }
 
-fn holds(alloc: Global, case: &str) -> bool {
-    let (_, rest) = case.split_once('\n').unwrap_or((case, ""));
-    let (line, rest) = rest.split_once('\n').unwrap_or((rest, ""));
-    let (setting, view) = line.split_once(", view ").unwrap_or((line, ""));
-    let (size, lines) = setting.rsplit_once(' ').unwrap_or((setting, ""));
-    match (pair(size), lines.parse::<u16>(), view.parse::<u16>()) {
-        (Some((rows, cols)), Ok(lines), Ok(view)) => stands(
+// The rows, the columns and the lines of a terminal, the view, and the steps with the rows of the view.
+type Parts<'a> = ((u16, u16), u16, u16, &'a str);
+
+// The parts of a case; `None` if it is malformed.
+fn parts_of(case: &str) -> Option<Parts<'_>> {
+    let (_, rest) = case.split_once('\n')?;
+    let (line, rest) = rest.split_once('\n')?;
+    let (setting, view) = line.split_once(", view ")?;
+    let (size, lines) = setting.rsplit_once(' ')?;
+    let size = pair(size)?;
+    match (lines.parse::<u16>(), view.parse::<u16>()) {
+        (Ok(lines), Ok(view)) => Some((size, lines, view, rest)),
+        _ => None,
+    }
+}
+
+fn other_of_case(alloc: Global, case: &str) -> Other {
+    match parts_of(case) {
+        Some(((rows, cols), lines, view, rest)) => other_tried(
             alloc,
             rows,
             cols,
             lines,
             Trial::Steps(view, rest),
         ),
-        _ => false,
+        None => malformed(alloc),
     }
 }
 
 #[test]
 fn rows_that_leave_and_sizes(rt: HostRuntime) {
     for case in CASES.split("\n\n") {
-        assert!(rt; holds(rt.alloc(), case), "{case:?}");
+        assert_eq!(rt; other_of_case(rt.alloc(), case), Ok(None), "{case:?}");
     }
 }
 
-/// Returns true if the first byte of a wide character, a size, and a bad byte leave a replacement character in the size.
-pub fn takes_a_size_inside(alloc: Global, term: &mut Term) -> bool {
-    term.feed(b"\xE4").is_ok()
-        && term.resize(alloc, 3, 8).is_ok()
-        && term.feed(b"\xB8A").is_ok()
-        && shows(
-            alloc,
-            term,
-            0,
-            "\u{FFFD}A      |        |        |1 3 shown",
-        )
+/// The first byte of a wide character, a size, and a bad byte leave a replacement character in the size.
+pub fn other_inside(alloc: Global, term: &mut Term) -> Other {
+    term.feed(b"\xE4")?;
+    term.resize(alloc, 3, 8)?;
+    term.feed(b"\xB8A")?;
+    other_shown(
+        alloc,
+        term,
+        0,
+        "\u{FFFD}A      |        |        |1 3 shown",
+    )
 }
 
-fn feed_number(alloc: Global, term: &mut Term, n: u16) -> bool {
-    matches!(format!(in alloc; "{n}\r\n"), Ok(line) if term.feed(line.as_bytes()).is_ok())
+fn feed_number(alloc: Global, term: &mut Term, n: u16) -> Result<(), Fault> {
+    let line = format!(in alloc; "{n}\r\n")?;
+    term.feed(line.as_bytes())
 }
 
-/// Returns true if of 501 rows that left the last 500 are kept.
-pub fn loses_the_oldest(alloc: Global, term: &mut Term) -> bool {
+/// Of 501 rows that left the last 500 are kept.
+pub fn other_oldest(alloc: Global, term: &mut Term) -> Other {
     for n in 1..=502u16 {
-        if !feed_number(alloc, term, n) {
-            return false;
-        }
+        feed_number(alloc, term, n)?;
     }
-    shows(alloc, term, 500, "2       |3       |2 1 hidden")
-        && shows(alloc, term, 1, "501     |502     |2 1 hidden")
+    match other_shown(alloc, term, 500, "2       |3       |2 1 hidden")? {
+        None => other_shown(alloc, term, 1, "501     |502     |2 1 hidden"),
+        other => Ok(other),
+    }
 }
 
 fn next(state: &mut u32) -> u32 {
@@ -254,110 +269,162 @@ fn next(state: &mut u32) -> u32 {
     *state >> 8
 }
 
-fn has_size(shot: &Shot, size: (u16, u16)) -> bool {
+/// Returns how a view has not a size, or not its cursor within.
+pub fn other_whole(alloc: Global, term: &Term, size: (u16, u16), view: u16) -> Other {
+    let shot = term.shot(alloc, view)?;
     let (row, col) = shot.cursor();
-    (shot.rows(), shot.cols()) == size && row <= size.0 && col <= size.1
-}
-
-/// Returns true if a view has a size, and its cursor within.
-pub fn is_whole(alloc: Global, term: &Term, size: (u16, u16), view: u16) -> bool {
-    matches!(term.shot(alloc, view), Ok(shot) if has_size(&shot, size))
+    let found = (shot.rows(), shot.cols());
+    if found == size && row <= size.0 && col <= size.1 {
+        return Ok(None);
+    }
+    Ok(Some(format!(in alloc; "view {view}: {found:?} in place of {size:?}, cursor {row} {col}")?))
 }
 
 // It takes some bytes, some wide and joined characters, and the size.
-fn stays_whole(alloc: Global, term: &mut Term, state: &mut u32, size: (u16, u16)) -> bool {
+fn other_at_size(alloc: Global, term: &mut Term, state: &mut u32, size: (u16, u16)) -> Other {
     let mut piece = [0; 64];
     for byte in piece.iter_mut() {
         *byte = (next(state) % 256) as u8;
     }
-    term.feed(&piece).is_ok()
-        && term
-            .feed("a\u{4E2D}b\u{301}\r\n\u{4E2D}\u{4E2D}".as_bytes())
-            .is_ok()
-        && term.resize(alloc, size.0, size.1).is_ok()
-        && is_whole(alloc, term, size, (next(state) % 50) as u16)
+    term.feed(&piece)?;
+    term.feed("a\u{4E2D}b\u{301}\r\n\u{4E2D}\u{4E2D}".as_bytes())?;
+    term.resize(alloc, size.0, size.1)?;
+    other_whole(alloc, term, size, (next(state) % 50) as u16)
 }
 
-/// Returns true if a fixed sequence of sizes with text between leaves a whole screen after each (`Shot` has no other).
-pub fn takes_a_thousand(alloc: Global, term: &mut Term) -> bool {
+/// A fixed sequence of sizes with text between leaves a whole screen after each (`Shot` has no other).
+pub fn other_thousand(alloc: Global, term: &mut Term) -> Other {
     let mut state = 7;
     for _ in 0..1000 {
         let size = (
             (2 + next(&mut state) % 9) as u16,
             (4 + next(&mut state) % 30) as u16,
         );
-        if !stays_whole(alloc, term, &mut state, size) {
-            return false;
+        if let Some(other) = other_at_size(alloc, term, &mut state, size)? {
+            return Ok(Some(other));
         }
     }
-    true
+    Ok(None)
 }
 
-fn refuses(alloc: Global, term: &mut Term, rows: u16, cols: u16) -> bool {
-    term.resize(alloc, rows, cols) == Err(Fault::BadSize)
-        && matches!(term.fit(alloc, rows, cols), Err(Fault::BadSize))
+// Returns the rows, the columns and the lines of memory made for a size, or the refusal.
+fn size_fitted(
+    alloc: Global,
+    term: &Term,
+    rows: u16,
+    cols: u16,
+) -> Result<(usize, usize, usize), Fault> {
+    let fitted = term.fit(alloc, rows, cols)?;
+    Ok((fitted.rows(), fitted.cols(), fitted.lines()))
 }
 
-fn refuses_all(alloc: Global, term: &mut Term) -> bool {
+fn other_refused(alloc: Global, term: &mut Term) -> Other {
     for (rows, cols) in [(1, 8), (201, 8), (2, 3), (2, 501), (0, 0)] {
-        if !refuses(alloc, term, rows, cols) {
-            return false;
+        let resized = term.resize(alloc, rows, cols);
+        let fitted = size_fitted(alloc, term, rows, cols);
+        if resized != Err(Fault::BadSize) || fitted != Err(Fault::BadSize) {
+            return Ok(Some(format!(in alloc; "{rows} by {cols}: {resized:?} and {fitted:?}")?));
         }
     }
-    true
+    Ok(None)
 }
 
-fn is_fitted(alloc: Global, term: &Term) -> bool {
-    matches!(term.fit(alloc, 3, 9), Ok(fitted) if (fitted.rows(), fitted.cols(), fitted.lines()) == (3, 9, 500))
+fn other_fitted(alloc: Global, term: &Term) -> Other {
+    let found = size_fitted(alloc, term, 3, 9)?;
+    if found == (3, 9, 500) {
+        return Ok(None);
+    }
+    Ok(Some(format!(in alloc; "fitted {found:?} in place of (3, 9, 500)")?))
 }
 
-/// Returns true if the same is shown after each refused size, and after a fit.
-pub fn keeps_its_size(alloc: Global, term: &mut Term) -> bool {
-    take(alloc, term, FOUR_IN_TWO).is_ok()
-        && refuses_all(alloc, term)
-        && shows(alloc, term, 1, ONE_BACK)
-        && is_fitted(alloc, term)
-        && shows(alloc, term, 1, ONE_BACK)
+fn other_one_back(alloc: Global, term: &Term) -> Other {
+    match other_shown(alloc, term, 1, ONE_BACK)? {
+        None => match other_fitted(alloc, term)? {
+            None => other_shown(alloc, term, 1, ONE_BACK),
+            other => Ok(other),
+        },
+        other => Ok(other),
+    }
+}
+
+/// The same is shown after each refused size, and after a fit.
+pub fn other_kept_size(alloc: Global, term: &mut Term) -> Other {
+    take(alloc, term, FOUR_IN_TWO)?;
+    match other_refused(alloc, term)? {
+        None => other_one_back(alloc, term),
+        other => Ok(other),
+    }
 }
 
 // A size inside a character acts at once; a full history loses the oldest; a thousand sizes; sizes outside the limits are refused.
 #[test]
 fn sizes_and_a_full_history(rt: HostRuntime) {
-    assert!(rt; stands(rt.alloc(), 2, 8, 500, Trial::SizeInside), "inside");
-    assert!(rt; stands(rt.alloc(), 2, 8, 500, Trial::FullHistory), "full");
-    assert!(rt;
-        stands(rt.alloc(), 2, 4, 40, Trial::ThousandSizes),
+    assert_eq!(rt;
+        other_tried(rt.alloc(), 2, 8, 500, Trial::SizeInside),
+        Ok(None),
+        "inside"
+    );
+    assert_eq!(rt;
+        other_tried(rt.alloc(), 2, 8, 500, Trial::FullHistory),
+        Ok(None),
+        "full"
+    );
+    assert_eq!(rt;
+        other_tried(rt.alloc(), 2, 4, 40, Trial::ThousandSizes),
+        Ok(None),
         "thousand"
     );
-    assert!(rt;
-        stands(rt.alloc(), 4, 8, 500, Trial::RefusedSizes),
+    assert_eq!(rt;
+        other_tried(rt.alloc(), 4, 8, 500, Trial::RefusedSizes),
+        Ok(None),
         "refused"
     );
 }
 
-// Returns true if a size refused for memory changes nothing, and the same size with memory has the result of one without a refusal.
-fn survives_a_refusal(alloc: Global, term: &mut Term) -> bool {
+// Returns true if a view shows one row back, or memory is refused.
+fn is_one_back(alloc: Global, term: &Term) -> bool {
+    matches!(other_shown(alloc, term, 1, ONE_BACK), Ok(None) | Err(_))
+}
+
+// A size refused for memory changes nothing, and the same size with memory has the result of one without a refusal. Returns what is wrong.
+fn wrong_after_refusal(alloc: Global, term: &mut Term) -> Option<&'static str> {
     if term.feed(b"1\r\n2\r\n3\r\n4") != Ok(()) {
-        return false;
+        return Some("the lines are refused");
     }
     let refused = term.resize(alloc, 2, 8);
     if refused.is_ok() {
-        return shown(alloc, term, 1, ONE_BACK) != Ok(false);
+        return if is_one_back(alloc, term) {
+            None
+        } else {
+            Some("another view after a size")
+        };
     }
-    refused == Err(Fault::OutOfMemory)
-        && is_whole(alloc, term, (4, 8), 0)
-        && term.resize(alloc, 2, 8) == Ok(())
-        && shown(alloc, term, 1, ONE_BACK) != Ok(false)
+    if refused != Err(Fault::OutOfMemory) {
+        return Some("the size is refused for another reason than memory");
+    }
+    if other_whole(alloc, term, (4, 8), 0) != Ok(None) {
+        return Some("another size after a refusal");
+    }
+    if term.resize(alloc, 2, 8) != Ok(()) {
+        return Some("the size is refused twice");
+    }
+    if is_one_back(alloc, term) {
+        None
+    } else {
+        Some("another view after a refusal")
+    }
 }
 
-fn survives(alloc: Global) -> bool {
-    match Term::new(alloc, 4, 8, 5) {
-        Ok(mut term) => survives_a_refusal(alloc, &mut term),
-        Err(fault) => fault == Fault::OutOfMemory,
-    }
+fn first_wrong(alloc: Global) -> Result<Option<&'static str>, Fault> {
+    let mut term = Term::new(alloc, 4, 8, 5)?;
+    Ok(wrong_after_refusal(alloc, &mut term))
 }
 
 #[test]
 fn a_size_without_memory_changes_nothing(rt: HostRuntime) {
-    assert!(rt; survives(rt.alloc()));
+    let found = first_wrong(rt.alloc());
+    assert!(rt;
+        matches!(found, Ok(None) | Err(Fault::OutOfMemory)),
+        "{found:?}"
+    );
 }

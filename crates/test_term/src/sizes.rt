@@ -1,5 +1,6 @@
 //! Sizes from each to each: the rows that leave, the cut parts, and the cursor, on the main and on the alternate screen.
-use crate::term_trials::{Trial, stands};
+use crate::term_rows::Other;
+use crate::term_trials::{Trial, other_tried};
 use roam_cells::Fault;
 use roam_screens::Shot;
 use roam_term::Term;
@@ -89,55 +90,85 @@ fn has(row: &[char], letter: u8) -> bool {
     row.first() == Some(&(letter as char)) && row.iter().skip(1).all(|c| *c == ' ')
 }
 
-// Returns true if a screen begins with this row of the old screen, and the others follow.
-fn has_rows(alloc: Global, shot: &Shot, case: Case, first: u16) -> bool {
+// Returns how a screen does not begin with this row of the old screen, with the others behind it.
+fn other_rows(alloc: Global, shot: &Shot, case: Case, first: u16) -> Other {
     for row in 0..shot.rows() {
         let letter = case.letter(first.saturating_add(row));
-        if !matches!(shot.row_text(alloc, row), Ok(text) if has(&text, letter)) {
-            return false;
+        let text = shot.row_text(alloc, row)?;
+        if !has(&text, letter) {
+            let wanted = letter as char;
+            return Ok(Some(format!(in alloc;
+                "row {row}: {:?} in place of {wanted:?}",
+                text.as_slice()
+            )?));
         }
     }
-    (shot.rows(), shot.cols()) == case.new
+    Ok(None)
 }
 
-fn shows(alloc: Global, term: &Term, case: Case, view: u16, first: u16) -> bool {
-    matches!(term.shot(alloc, view), Ok(shot) if has_rows(alloc, &shot, case, first))
+// Returns how a view has not the new size, or does not begin with this row of the old screen.
+fn other_view(alloc: Global, term: &Term, case: Case, view: u16, first: u16) -> Other {
+    let shot = term.shot(alloc, view)?;
+    let size = (shot.rows(), shot.cols());
+    if size != case.new {
+        return Ok(Some(format!(in alloc; "view {view}: {size:?}")?));
+    }
+    match other_rows(alloc, &shot, case, first)? {
+        None => Ok(None),
+        Some(other) => Ok(Some(format!(in alloc; "view {view}, {}", other.as_str())?)),
+    }
 }
 
-// The cursor's row, from 1, and whether it is visible.
-fn cursor_is(alloc: Global, term: &Term, view: u16, row: u16, visible: bool) -> bool {
-    matches!(term.shot(alloc, view), Ok(shot) if shot.cursor() == (row, 1) && shot.visible() == visible)
+// Returns how the cursor's row, from 1, and whether it is visible are not these.
+fn other_cursor(alloc: Global, term: &Term, view: u16, row: u16, visible: bool) -> Other {
+    let shot = term.shot(alloc, view)?;
+    let found = (shot.cursor(), shot.visible());
+    let wanted = ((row, 1), visible);
+    if found == wanted {
+        return Ok(None);
+    }
+    Ok(Some(format!(in alloc; "view {view}: cursor {found:?} in place of {wanted:?}")?))
 }
 
 // The screen after the new size, and its cursor.
-fn shows_the_screen(alloc: Global, term: &Term, case: Case) -> bool {
-    shows(alloc, term, case, 0, case.leaving()) && cursor_is(alloc, term, 0, case.place(), true)
+fn other_screen(alloc: Global, term: &Term, case: Case) -> Other {
+    match other_view(alloc, term, case, 0, case.leaving())? {
+        None => other_cursor(alloc, term, 0, case.place(), true),
+        other => Ok(other),
+    }
 }
 
 // A view of all that left, and of one row more.
-fn shows_what_left(alloc: Global, term: &Term, case: Case) -> bool {
+fn other_left(alloc: Global, term: &Term, case: Case) -> Other {
     let off = case.leaving();
     let first = off.saturating_sub(case.kept());
-    shows(alloc, term, case, off, first) && shows(alloc, term, case, off.saturating_add(1), first)
+    match other_view(alloc, term, case, off, first)? {
+        None => other_view(alloc, term, case, off.saturating_add(1), first),
+        other => Ok(other),
+    }
 }
 
 // The cursor in the view of all that left.
-fn moves_the_cursor(alloc: Global, term: &Term, case: Case) -> bool {
+fn other_moved(alloc: Global, term: &Term, case: Case) -> Other {
     let below = case.place().saturating_add(case.kept());
     let row = below.min(case.new.0);
-    cursor_is(alloc, term, case.leaving(), row, below <= case.new.0)
+    other_cursor(alloc, term, case.leaving(), row, below <= case.new.0)
 }
 
-/// Returns true if a filled terminal takes the size.
-pub fn takes_its_size(alloc: Global, term: &mut Term, case: Case) -> bool {
-    lay(alloc, term, case).is_ok()
-        && term.resize(alloc, case.new.0, case.new.1).is_ok()
-        && shows_the_screen(alloc, term, case)
-        && shows_what_left(alloc, term, case)
-        && moves_the_cursor(alloc, term, case)
+/// Returns how a filled terminal does not take the size.
+pub fn other_size(alloc: Global, term: &mut Term, case: Case) -> Other {
+    lay(alloc, term, case)?;
+    term.resize(alloc, case.new.0, case.new.1)?;
+    match other_screen(alloc, term, case)? {
+        None => match other_left(alloc, term, case)? {
+            None => other_moved(alloc, term, case),
+            other => Ok(other),
+        },
+        other => Ok(other),
+    }
 }
 
-fn each_row(alloc: Global, old: (u16, u16), new: (u16, u16), alternate: bool) -> bool {
+fn other_row(alloc: Global, old: (u16, u16), new: (u16, u16), alternate: bool) -> Other {
     for row in 0..old.0 {
         let case = Case {
             old,
@@ -145,25 +176,27 @@ fn each_row(alloc: Global, old: (u16, u16), new: (u16, u16), alternate: bool) ->
             row,
             alternate,
         };
-        if !stands(alloc, old.0, old.1, 500, Trial::Size(case)) {
-            return false;
+        if let Some(other) = other_tried(alloc, old.0, old.1, 500, Trial::Size(case))? {
+            return Ok(Some(format!(in alloc; "cursor in row {row}, {}", other.as_str())?));
         }
     }
-    true
-}
-
-fn each_from(alloc: Global, old: (u16, u16)) -> bool {
-    for new in SIZES.iter() {
-        if !each_row(alloc, old, *new, false) || !each_row(alloc, old, *new, true) {
-            return false;
-        }
-    }
-    true
+    Ok(None)
 }
 
 #[test]
 fn from_each_size_to_each(rt: HostRuntime) {
     for old in SIZES.iter() {
-        assert!(rt; each_from(rt.alloc(), *old));
+        for new in SIZES.iter() {
+            assert_eq!(rt;
+                other_row(rt.alloc(), *old, *new, false),
+                Ok(None),
+                "{old:?} to {new:?}"
+            );
+            assert_eq!(rt;
+                other_row(rt.alloc(), *old, *new, true),
+                Ok(None),
+                "{old:?} to {new:?}, alternate"
+            );
+        }
     }
 }

@@ -3,8 +3,9 @@
 //!
 //! A row has the bytes, then the three rows of the screen and its cursor. The screen of 3 by 8 was full of letters with the cursor at home.
 //! Control characters are written as their pictures (U+2400 to U+2421).
-use crate::term_rows::bytes_of;
-use crate::term_trials::{Trial, stands};
+use crate::term_rows::{Other, bytes_of, malformed};
+use crate::term_trials::{Trial, other_tried};
+use roam_cells::Fault;
 use roam_term::Term;
 use std::alloc::Global;
 use std::test::*;
@@ -137,45 +138,46 @@ z␛[5z␛[3b|zbcdefgh|ijklmnop|qrstuvwx|1 2 shown
 ␇␀␚␡|abcdefgh|ijklmnop|qrstuvwx|1 1 shown
 ␛[38;5mZ|Zbcdefgh|ijklmnop|qrstuvwx|1 2 shown"##;
 
-fn feed_pieces(term: &mut Term, bytes: &[u8], size: usize) -> bool {
+fn feed_pieces(term: &mut Term, bytes: &[u8], size: usize) -> Result<(), Fault> {
     for piece in bytes.chunks(size.max(1)) {
-        if term.feed(piece).is_err() {
-            return false;
-        }
+        term.feed(piece)?;
     }
-    true
+    Ok(())
 }
 
-/// Returns true if letters for every cell are accepted, and then bytes in two parts, each in pieces of a size.
-pub fn feeds(term: &mut Term, first: &[u8], rest: &[u8], size: usize) -> bool {
-    term.feed(b"abcdefghijklmnopqrstuvwx\x1B[H").is_ok()
-        && feed_pieces(term, first, size)
-        && feed_pieces(term, rest, size)
+/// Feeds letters for every cell, and then bytes in two parts, each in pieces of a size.
+pub fn feed_parts(term: &mut Term, first: &[u8], rest: &[u8], size: usize) -> Result<(), Fault> {
+    term.feed(b"abcdefghijklmnopqrstuvwx\x1B[H")?;
+    feed_pieces(term, first, size)?;
+    feed_pieces(term, rest, size)
 }
 
-fn leave_cut_at(alloc: Global, bytes: &[u8], place: usize, wanted: &str) -> bool {
+fn other_cut_at(alloc: Global, bytes: &[u8], place: usize, wanted: &str) -> Other {
     let (first, rest) = bytes.split_at(place.min(bytes.len()));
-    stands(alloc, 3, 8, 0, Trial::Pieces(first, rest, 1024, wanted))
+    other_tried(alloc, 3, 8, 0, Trial::Pieces(first, rest, 1024, wanted))
 }
 
-// Returns true if bytes lead to a screen, fed byte by byte, whole, and cut at each place.
-fn leave(alloc: Global, bytes: &[u8], wanted: &str) -> bool {
+// Returns how bytes do not lead to a screen, fed byte by byte, whole, and cut at each place.
+fn other_left(alloc: Global, bytes: &[u8], wanted: &str) -> Other {
     for place in 0..bytes.len() {
-        if !leave_cut_at(alloc, bytes, place, wanted) {
-            return false;
+        if let Some(other) = other_cut_at(alloc, bytes, place, wanted)? {
+            return Ok(Some(format!(in alloc; "cut at {place}, {}", other.as_str())?));
         }
     }
-    stands(alloc, 3, 8, 0, Trial::Pieces(bytes, b"", 1, wanted))
+    other_tried(alloc, 3, 8, 0, Trial::Pieces(bytes, b"", 1, wanted))
 }
 
-fn holds(alloc: Global, row: &str) -> bool {
-    let (spelled, wanted) = row.split_once('|').unwrap_or((row, ""));
-    matches!(bytes_of(alloc, spelled), Ok(bytes) if leave(alloc, bytes.as_bytes(), wanted))
+fn other_row(alloc: Global, row: &str) -> Other {
+    let Some((spelled, wanted)) = row.split_once('|') else {
+        return malformed(alloc);
+    };
+    let bytes = bytes_of(alloc, spelled)?;
+    other_left(alloc, bytes.as_bytes(), wanted)
 }
 
 #[test]
 fn rows_of_the_profile(rt: HostRuntime) {
     for row in ROWS.lines() {
-        assert!(rt; holds(rt.alloc(), row), "{row}");
+        assert_eq!(rt; other_row(rt.alloc(), row), Ok(None), "{row}");
     }
 }

@@ -16,6 +16,14 @@ fn character_of(c: char) -> char {
     }
 }
 
+/// How a case differs from what is expected of it; `None` if it does not.
+pub type Other = Result<Option<String>, Fault>;
+
+/// The difference of a case that is malformed.
+pub fn malformed(alloc: Global) -> Other {
+    Ok(Some(format!(in alloc; "malformed case")?))
+}
+
 /// The bytes of a text with pictures of control characters.
 pub fn bytes_of(alloc: Global, spelled: &str) -> Result<String, Fault> {
     let mut bytes = String::new(alloc);
@@ -34,22 +42,21 @@ pub fn pair(text: &str) -> Option<(u16, u16)> {
     }
 }
 
-// Returns true if the cursor is that of a text such as `2 8 shown`.
-fn is_cursor(shot: &Shot, text: &str) -> bool {
-    let (place, state) = text.rsplit_once(' ').unwrap_or((text, ""));
-    let wanted = if shot.visible() { "shown" } else { "hidden" };
-    pair(place) == Some(shot.cursor()) && state == wanted
-}
-
-// Returns true if a screen is that of a text: its rows, each with a bar behind it, and then its cursor.
-fn is_shown(alloc: Global, shot: &Shot, wanted: &str) -> Result<bool, Fault> {
-    let mut parts = wanted.split('|');
-    let mut same = true;
+// The text of a screen: its rows, each with a bar behind it, and then its cursor such as `2 8 shown`.
+fn text_of(alloc: Global, shot: &Shot) -> Result<String, Fault> {
+    let mut text = String::new(alloc);
     for row in 0..shot.rows() {
-        let text = shot.row_text(alloc, row)?;
-        same = same && text.iter().copied().eq(parts.next().unwrap_or("").chars());
+        let points = shot.row_text(alloc, row)?;
+        for point in points.iter() {
+            text.push(*point)?;
+        }
+        text.push('|')?;
     }
-    Ok(same && is_cursor(shot, parts.next().unwrap_or("")) && parts.next().is_none())
+    let (row, col) = shot.cursor();
+    let state = if shot.visible() { "shown" } else { "hidden" };
+    let cursor = format!(in alloc; "{row} {col} {state}")?;
+    text.push_str(cursor.as_str())?;
+    Ok(text)
 }
 
 // Returns true if the rows of a view one by one, and its cursor, are those of its screen.
@@ -64,18 +71,28 @@ fn is_row_by_row(alloc: Global, term: &Term, view: u16, shot: &Shot) -> Result<b
     Ok(are_same_cells(shot.cells(), &cells) && cursor == shot.cursor() && visible == shot.visible())
 }
 
-/// Returns true if a view shows the screen of a text, whole and row by row. `OutOfMemory`.
-pub fn shown(alloc: Global, term: &Term, view: u16, wanted: &str) -> Result<bool, Fault> {
+/// Returns how a view does not show the screen of a text, whole and row by row.
+pub fn other_shown(alloc: Global, term: &Term, view: u16, wanted: &str) -> Other {
     let shot = term.shot(alloc, view)?;
-    Ok(is_shown(alloc, &shot, wanted)? && is_row_by_row(alloc, term, view, &shot)?)
+    let found = text_of(alloc, &shot)?;
+    if found.as_str() != wanted {
+        return Ok(Some(format!(in alloc; "view {view}: {} in place of {wanted}", found.as_str())?));
+    }
+    if is_row_by_row(alloc, term, view, &shot)? {
+        return Ok(None);
+    }
+    Ok(Some(format!(in alloc; "view {view}: other rows one by one than at once")?))
 }
 
-/// Returns true if a view shows the screen of a text.
-pub fn shows(alloc: Global, term: &Term, view: u16, wanted: &str) -> bool {
-    shown(alloc, term, view, wanted) == Ok(true)
-}
-
-/// Returns true if the cursor is at a place such as `2 8`.
-pub fn is_at(alloc: Global, term: &Term, wanted: &str) -> bool {
-    matches!(term.shot(alloc, 0), Ok(shot) if pair(wanted) == Some(shot.cursor()))
+/// Returns how the cursor is not at a place such as `2 8`.
+pub fn other_cursor(alloc: Global, term: &Term, wanted: &str) -> Other {
+    let Some(wanted) = pair(wanted) else {
+        return malformed(alloc);
+    };
+    let shot = term.shot(alloc, 0)?;
+    let found = shot.cursor();
+    if found == wanted {
+        return Ok(None);
+    }
+    Ok(Some(format!(in alloc; "cursor {found:?} in place of {wanted:?}")?))
 }

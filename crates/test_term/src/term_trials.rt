@@ -1,15 +1,15 @@
 //! The trials of a terminal. It is made only here: a function that owns one is expensive to prove.
-use crate::keys::{is_filled, sends};
+use crate::keys::{other_fill, other_key};
 use crate::pieces::{
-    draws, fills_and_empties, has_nothing, reverses, takes_any, takes_the_longest,
+    other_drawn, other_fed, other_longest, other_nothing, other_queue, other_reverse,
 };
 use crate::scrollback::{
-    is_whole, keeps_its_size, loses_the_oldest, shows_after, takes_a_size_inside, takes_a_thousand,
+    other_after, other_inside, other_kept_size, other_oldest, other_thousand, other_whole,
 };
-use crate::sizes::{Case, takes_its_size};
-use crate::term_edges::feeds;
-use crate::term_rows::shows;
-use crate::wraps::leaves_cursor;
+use crate::sizes::{Case, other_size};
+use crate::term_edges::feed_parts;
+use crate::term_rows::{Other, malformed, other_shown};
+use crate::wraps::other_wrap;
 use roam_cells::Style;
 use roam_term::Term;
 use std::alloc::Global;
@@ -42,40 +42,40 @@ pub enum Trial<'a> {
     AnyBytes,
 }
 
-fn tries(alloc: Global, term: &mut Term, trial: Trial<'_>) -> bool {
+fn other_of_pieces(alloc: Global, term: &mut Term, trial: Trial<'_>) -> Other {
     match trial {
-        Trial::Pieces(first, rest, size, wanted) => feeds(term, first, rest, size)
-            && shows(alloc, term, 0, wanted),
-        Trial::Wrap(bytes, wanted) => leaves_cursor(alloc, term, bytes, wanted),
-        Trial::Steps(view, steps) => shows_after(alloc, term, view, steps),
-        Trial::SizeInside => takes_a_size_inside(alloc, term),
-        Trial::FullHistory => loses_the_oldest(alloc, term),
-        Trial::ThousandSizes => takes_a_thousand(alloc, term),
-        Trial::RefusedSizes => keeps_its_size(alloc, term),
-        Trial::Size(case) => takes_its_size(alloc, term, case),
-        _ => tries_pieces(alloc, term, trial),
+        Trial::Sent(case) => other_key(alloc, term, case),
+        Trial::FullQueue => other_fill(alloc, term),
+        Trial::Rendition(before, style) => other_drawn(alloc, term, before, style),
+        Trial::Reverse(input, reverse) => other_reverse(alloc, term, input, reverse),
+        Trial::Whole(rows, cols) => other_whole(alloc, term, (rows, cols), 0),
+        Trial::LongestPiece => other_longest(alloc, term),
+        Trial::FullAnswers => other_queue(alloc, term),
+        Trial::NothingWaits => other_nothing(alloc, term),
+        Trial::AnyBytes => other_fed(alloc, term),
+        _ => malformed(alloc),
     }
 }
 
-fn tries_pieces(alloc: Global, term: &mut Term, trial: Trial<'_>) -> bool {
+fn other_of(alloc: Global, term: &mut Term, trial: Trial<'_>) -> Other {
     match trial {
-        Trial::Sent(case) => sends(term, case),
-        Trial::FullQueue => is_filled(term),
-        Trial::Rendition(before, style) => draws(alloc, term, before, style),
-        Trial::Reverse(input, reverse) => reverses(alloc, term, input, reverse),
-        Trial::Whole(rows, cols) => is_whole(alloc, term, (rows, cols), 0),
-        Trial::LongestPiece => takes_the_longest(alloc, term),
-        Trial::FullAnswers => fills_and_empties(term),
-        Trial::NothingWaits => has_nothing(term),
-        Trial::AnyBytes => takes_any(term) && is_whole(alloc, term, (24, 80), 0),
-        _ => false,
+        Trial::Pieces(first, rest, size, wanted) => {
+            feed_parts(term, first, rest, size)?;
+            other_shown(alloc, term, 0, wanted)
+        }
+        Trial::Wrap(bytes, wanted) => other_wrap(alloc, term, bytes, wanted),
+        Trial::Steps(view, steps) => other_after(alloc, term, view, steps),
+        Trial::SizeInside => other_inside(alloc, term),
+        Trial::FullHistory => other_oldest(alloc, term),
+        Trial::ThousandSizes => other_thousand(alloc, term),
+        Trial::RefusedSizes => other_kept_size(alloc, term),
+        Trial::Size(case) => other_size(alloc, term, case),
+        _ => other_of_pieces(alloc, term, trial),
     }
 }
 
-/// Returns true if a new terminal of these rows, columns and lines passes the trial.
-pub fn stands(alloc: Global, rows: u16, cols: u16, lines: u16, trial: Trial<'_>) -> bool {
-    match Term::new(alloc, rows, cols, lines) {
-        Ok(mut term) => tries(alloc, &mut term, trial),
-        Err(_) => false,
-    }
+/// Returns how a new terminal of these rows, columns and lines does not pass the trial.
+pub fn other_tried(alloc: Global, rows: u16, cols: u16, lines: u16, trial: Trial<'_>) -> Other {
+    let mut term = Term::new(alloc, rows, cols, lines)?;
+    other_of(alloc, &mut term, trial)
 }

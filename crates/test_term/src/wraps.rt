@@ -2,8 +2,8 @@
 //!
 //! A row has bytes and the cursor that shows their effect. On a screen of 3 by 8 an X is written in the last column of the first row, then
 //! the bytes, then a Y. If the wrap is still pending, Y goes to the second row. Control characters are written as their pictures.
-use crate::term_rows::{bytes_of, is_at};
-use crate::term_trials::{Trial, stands};
+use crate::term_rows::{Other, bytes_of, malformed, other_cursor};
+use crate::term_trials::{Trial, other_tried};
 use roam_term::Term;
 use std::alloc::Global;
 use std::test::*;
@@ -101,25 +101,28 @@ const LEAVES: &str = r##"␀|2 2
 ␛X␛\|2 2
 ␛[b|2 3"##;
 
-/// Returns true if the cursor is there after an X in the last column, some bytes, and a Y.
-pub fn leaves_cursor(alloc: Global, term: &mut Term, bytes: &[u8], wanted: &str) -> bool {
-    term.feed(b"\x1B[1;8HX").is_ok()
-        && term.feed(bytes).is_ok()
-        && term.feed(b"Y").is_ok()
-        && is_at(alloc, term, wanted)
+/// Returns how the cursor is not there after an X in the last column, some bytes, and a Y.
+pub fn other_wrap(alloc: Global, term: &mut Term, bytes: &[u8], wanted: &str) -> Other {
+    term.feed(b"\x1B[1;8HX")?;
+    term.feed(bytes)?;
+    term.feed(b"Y")?;
+    other_cursor(alloc, term, wanted)
 }
 
-fn holds(alloc: Global, row: &str) -> bool {
-    let (spelled, wanted) = row.split_once('|').unwrap_or((row, ""));
-    matches!(bytes_of(alloc, spelled), Ok(bytes) if stands(alloc, 3, 8, 0, Trial::Wrap(bytes.as_bytes(), wanted)))
+fn other_row(alloc: Global, row: &str) -> Other {
+    let Some((spelled, wanted)) = row.split_once('|') else {
+        return malformed(alloc);
+    };
+    let bytes = bytes_of(alloc, spelled)?;
+    other_tried(alloc, 3, 8, 0, Trial::Wrap(bytes.as_bytes(), wanted))
 }
 
 #[test]
 fn what_clears_and_what_leaves_a_pending_wrap(rt: HostRuntime) {
     for row in CLEARS.lines() {
-        assert!(rt; holds(rt.alloc(), row), "{row}");
+        assert_eq!(rt; other_row(rt.alloc(), row), Ok(None), "{row}");
     }
     for row in LEAVES.lines() {
-        assert!(rt; holds(rt.alloc(), row), "{row}");
+        assert_eq!(rt; other_row(rt.alloc(), row), Ok(None), "{row}");
     }
 }
