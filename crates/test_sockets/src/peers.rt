@@ -2,6 +2,7 @@
 //!
 //! A line begins with its subject. `first` or `second` is one of the programs, with its action. `files` checks files. `pane` and a number
 //! take `generations N` or `goes`, `gives TEXT` or `gives nothing`, `takes TEXT` or `takes nothing of TEXT`.
+//! `fills`: its program takes bytes until it takes no more.
 //!
 //! `told` sends subscribers panes 1 and 2, each with its generation, its first row and its rows, or `none`; pane 2 has the focus if it is
 //! open. Behind them are the numbers of client instances that edit and that are read-only, if they are known. `beside` and a moment sends
@@ -30,6 +31,9 @@ const LONG: u64 = 20_000;
 
 const SHORT: u64 = 50;
 
+/// The pieces of a kilobyte that are more than a stream of the system holds.
+const MOST_FILLED: u32 = 4096;
+
 fn generations(ports: &mut ServerPorts<&HostRuntime>, pane: u8, generation: &str) -> bool {
     match generation.parse::<u64>() {
         Ok(generation) => {
@@ -55,6 +59,16 @@ fn takes(ports: &mut ServerPorts<&HostRuntime>, pane: u8, text: &str) -> bool {
     }
 }
 
+// Writes to the program of a pane until it takes nothing more, and then once again.
+fn fills(ports: &mut ServerPorts<&HostRuntime>, pane: u8) -> bool {
+    for _ in 0..MOST_FILLED {
+        if ports.pane_out(pane, &[b'.'; 1024]) == 0 {
+            return ports.pane_out(pane, b".") == 0;
+        }
+    }
+    false
+}
+
 fn is_pane(ports: &mut ServerPorts<&HostRuntime>, pane: u8, words: &str) -> bool {
     let (verb, rest) = words.split_once(' ').unwrap_or((words, ""));
     match verb {
@@ -65,6 +79,7 @@ fn is_pane(ports: &mut ServerPorts<&HostRuntime>, pane: u8, words: &str) -> bool
         "lives" => generations(ports, pane, rest),
         "gives" => gives(ports, pane, rest),
         "takes" => takes(ports, pane, rest),
+        "fills" => fills(ports, pane),
         _ => false,
     }
 }
@@ -323,6 +338,8 @@ fn first_wrong_of<'a>(rt: &HostRuntime, stories: &'a str) -> Result<Option<&'a s
 /// The program of pane 2. The pane isn't open, and the program gets nothing; the pane stays in its generation; another generation opens,
 /// and no output of the first program is read.
 ///
+/// A program that reads nothing: its socket is full, and once more is written. It stays, and what it writes then goes on.
+///
 /// One peer at a time: the end of the first program is read before the output of the second. Those that left before they were accepted are
 /// dropped at once.
 ///
@@ -461,6 +478,14 @@ files gone mends/p1
 mends mends at 240000
 files there mends/p1
 files are removed
+
+folder unread
+ports unread
+first connects unread/p1
+pane 1 lives 1
+pane 1 fills
+first writes on
+pane 1 gives on
 
 folder lives
 ports lives

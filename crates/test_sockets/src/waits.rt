@@ -1,4 +1,5 @@
-//! A wait ends on input: a client instance, its bytes, or a datagram; the wait of an instance on an answer, or on a reported source.
+//! A wait ends on input: a client instance, its bytes, or a datagram; the wait of an instance on an answer, or on a reported source. A wait
+//! without input lasts no longer than it should.
 use mio::net::UnixStream;
 use roam_attach::Connection;
 use roam_sockets::{Clients, Moments, Udp, Waits, listen, loopback};
@@ -77,10 +78,21 @@ fn ends_for_an_answer(rt: &HostRuntime) -> Result<bool, Fail> {
     Ok(is_written && lasts && answers && is_rested(rt, &mut connection, true)?)
 }
 
+// Returns true if a hundred waits of a millisecond end within three seconds. On a busy machine each may take ten.
+fn ends_in_time(rt: &HostRuntime) -> Result<bool, Fail> {
+    let mut waits = Waits::new(rt, rt.alloc())?;
+    let before = Instant::now(rt)?;
+    for _ in 0..100 {
+        waits.rest(1);
+    }
+    Ok(before.elapsed(rt)?.as_millis() < 3_000)
+}
+
 #[test]
 fn a_wait_ends_where_something_comes(rt: HostRuntime) -> Result<(), Fail> {
     assert!(rt; ends_for_a_start(&rt)?);
     assert!(rt; ends_for_a_datagram(&rt)?);
     assert!(rt; ends_for_an_answer(&rt)?);
+    assert!(rt; ends_in_time(&rt)?);
     Ok(())
 }
