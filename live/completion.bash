@@ -1,12 +1,12 @@
-# Completion of roam, mux, attach, pane_shells and relay for bash: source this file, or put it into a folder of bash-completion under
-# each of the names.
+# Completion for bash of roam, mux, attach, pane_shells and relay. Source this file, or install it into a directory of bash-completion under
+# each of these names.
 
-# The names of the sessions that run, by the mux whose words these are.
+# Print the names of the running sessions, by the `mux` of the command line.
 _roam_mux_names() {
     "$@" ls 2> /dev/null | while read -r name _; do echo "$name"; done
 }
 
-# The numbers of the windows of a session.
+# Print the numbers of a session's windows.
 _roam_mux_windows() {
     "${@:2}" list-windows "$1" 2> /dev/null | while read -r number _; do echo "$number"; done
 }
@@ -33,10 +33,10 @@ _roam_mux_options() {
 _roam_commands="bind bind-key choose-buffer choose-tree choose-window command-prompt copy-mode detach detach-client display display-message display-panes displayp kill-pane kill-window killp killw last last-pane last-window lastp list-keys lsk new-window neww next next-layout next-window nextl paste-buffer pasteb prev previous-window refresh refresh-client rename-window renamew resize-pane resizep run run-shell select-layout select-pane select-window selectl selectp selectw send send-keys send-prefix set set-option set-window-option setw source source-file split-window splitw suspend-client suspendc synchronize-panes toggle-mouse toggle-status unbind unbind-key"
 # Up to here.
 
-# Keys by their names, of which C- and M- begin more.
+# The names of keys. C- and M- may precede others.
 _roam_keys="Enter Escape Tab BTab Space BSpace Up Down Left Right Home End PPage NPage IC DC C-c C-d C-l C-u C-z $(printf 'F%s ' {1..12})"
 
-# The acts that a client types, a line each; a number, a size or a character is left to the person.
+# Print the acts that a client can type, one in each line. The user adds a number, a size or a character.
 _roam_acts() {
     printf '%s\n' 'char ' 'split right' 'split down' close next 'grow ' 'size ' 'view ' 'key return' 'key backspace'
     printf 'key %s\n' up down right left pf{1..4} find insert remove select prev next f{6..20}
@@ -44,7 +44,7 @@ _roam_acts() {
     printf 'focus %s\n' {1..9}
 }
 
-# Completes an act, which is one word for the shell: what has a space is quoted.
+# Complete an act, which is one word of the shell: an act with a space is quoted.
 _roam_act() {
     local word=${1#[\"\']} act
     word=${word//\\/}
@@ -55,7 +55,7 @@ _roam_act() {
     compopt -o filenames 2> /dev/null
 }
 
-# Completes a folder, or one of these words.
+# Complete a directory, or one of these words.
 _roam_folder() {
     mapfile -t COMPREPLY < <(compgen -d -- "$1"; compgen -W "$2" -- "$1")
     compopt -o filenames 2> /dev/null
@@ -65,7 +65,7 @@ _roam_mux() {
     local word=${COMP_WORDS[COMP_CWORD]} words= mux=("${COMP_WORDS[0]}") first=1
     [ "${COMP_WORDS[1]}" != mux ] || { mux+=(mux) first=2; }
     if [ "${COMP_WORDS[first]}" = send ] && [ "$COMP_CWORD" -gt "$((first + 1))" ]; then
-        # Behind -l or -a stands a session; words behind it are keys, and behind -a acts.
+        # A session follows -l or -a. The words after it are keys, or acts after -a.
         case ${COMP_WORDS[first + 1]}$COMP_CWORD in
         -[la]$((first + 2))) words=$(_roam_mux_names "${mux[@]}") ;;
         -l*) ;;
@@ -75,12 +75,12 @@ _roam_mux() {
         mapfile -t COMPREPLY < <(compgen -W "$words" -- "$word")
         return
     fi
-    # Behind cmd stand a session and a command.
+    # A session and a command follow cmd.
     if [ "${COMP_WORDS[first]}" = cmd ] && [ "$COMP_CWORD" -eq "$((first + 2))" ]; then
         mapfile -t COMPREPLY < <(compgen -W "$_roam_commands" -- "$word")
         return
     fi
-    # Behind buffer stand what is done, and a session.
+    # An action and a session follow buffer.
     if [ "${COMP_WORDS[first]}" = buffer ] && [ "$COMP_CWORD" -gt "$((first + 1))" ]; then
         [ "$COMP_CWORD" -gt "$((first + 2))" ] || words=$(_roam_mux_names "${mux[@]}")
         mapfile -t COMPREPLY < <(compgen -W "$words" -- "$word")
@@ -117,7 +117,7 @@ _roam_attach() {
 
 _roam_pane_shells() {
     local word=${COMP_WORDS[COMP_CWORD]} place
-    # Behind the folder stands a command.
+    # A command follows the directory.
     for ((place = 1; place < COMP_CWORD; place++)); do
         case ${COMP_WORDS[place]} in
         --server) place=$((place + 1)) ;;

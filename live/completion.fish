@@ -1,6 +1,6 @@
-# Completion of roam and roam-mux for fish: put it into a folder of completions. It is written by tools/completions.
+# Completion of roam and roam-mux for fish: install it into a directory of completions. tools/completions writes it.
 
-# The words behind mux that are typed already, without the one that is being completed.
+# Print the typed words after mux, without the one that is being completed.
 function __roam_words
     set -l words (commandline -opc)
     if string match -q '*roam-mux' -- $words[1]
@@ -10,20 +10,20 @@ function __roam_words
     end
 end
 
-# Whether a word of mux comes next.
+# Succeed if a command of mux comes next.
 function __roam_begins
     set -l words (commandline -opc)
     string match -q '*roam-mux' -- $words[1]; and test (count $words) = 1; and return
     test "$words[2]" = mux; and test (count $words) = 2
 end
 
-# Whether one of these words of mux is typed.
+# Succeed if one of these commands of mux was typed.
 function __roam_is
     set -l words (__roam_words)
     contains -- "$words[1]" $argv
 end
 
-# Whether so many arguments stand behind the word of mux, options left out.
+# Succeed if so many arguments follow the command of mux, without options.
 function __roam_has
     set -l words (__roam_words)
     set -l others (string match -v -- '-*' $words[2..-1])

@@ -1,5 +1,5 @@
 #compdef roam roam-mux
-# Completion of roam and roam-mux for zsh: put it as _roam into a folder of fpath. It is written by tools/completions.
+# Completion of roam and roam-mux for zsh: install it as _roam into a directory of fpath. tools/completions writes it.
 
 _roam_sessions() {
     local -a names expl

@@ -10,8 +10,27 @@ import gc
 import marshal
 import os
 import sys
-from _frozen_importlib_external import MAGIC_NUMBER
-from _signal import SIG_DFL, SIGINT, signal
+
+TYPE_CHECKING = False
+if TYPE_CHECKING:
+    import ast
+    from collections.abc import Iterable
+    from importlib.machinery import ModuleSpec
+    from importlib.util import MAGIC_NUMBER
+    from signal import SIG_DFL, SIGINT, signal
+    from types import CodeType, ModuleType
+
+    # The time and the size of a source.
+    Stamp = tuple[int, int]
+    # The modules of a bundle: the name, the source and its stamp; and the offset of the code.
+    Head = tuple[list[tuple[str, str, Stamp]], int]
+    # Modules by name: the source of each, its stamp, and its code.
+    Compiled = dict[str, tuple[str, Stamp, CodeType]]
+else:
+    from _frozen_importlib_external import MAGIC_NUMBER
+    from _signal import SIG_DFL, SIGINT, signal
+
+    ModuleType, ModuleSpec = type(sys), type(sys.__spec__)
 
 signal(SIGINT, SIG_DFL)
 
@@ -37,22 +56,23 @@ ROOTS = {
 # A bundle begins with the length of its head, in so many bytes; and the most bytes of a head.
 WORD, MOST_HEAD = 8, 1 << 20
 
-ModuleType, ModuleSpec = type(sys), type(sys.__spec__)
 
-
-def path_of(name):
+def path_of(name: str) -> str:
     """Return the path of a bundle. Each version of Python has its own."""
     return f"{FOLDER}/__pycache__/{name}.{sys.implementation.cache_tag}.bundle"
 
 
-def stamp_of(source):
+def stamp_of(source: str) -> "Stamp":
     """Return the time and size of a source, which identify its state."""
     found = os.stat(source)
     return found.st_mtime_ns, found.st_size
 
 
-def load(name):
-    """Load the missing modules of a bundle. Without a bundle of that name do nothing; the modules are then imported."""
+def load(name: str) -> None:
+    """Load the missing modules of a bundle. Without a bundle of that name do nothing; the modules are then imported.
+
+    A missing or stale bundle is written at the end of the process, so that no user waits for it.
+    """
     if name not in ROOTS or sys.dont_write_bytecode:
         return
     # The garbage collector can skip these modules, now and later: they stay.
@@ -66,10 +86,12 @@ def load(name):
         gc.freeze()
         gc.enable()
     if modules is None:
-        write(name)
+        import atexit
+
+        atexit.register(write_at_end, name)
 
 
-def modules_in(name):
+def modules_in(name: str) -> "list[tuple[str, str, CodeType]] | None":
     """Return the modules of a bundle: the name, source and code of each; None if it is not there, or a source has changed."""
     try:
         end = os.open(path_of(name), os.O_RDONLY | os.O_CLOEXEC)
@@ -81,7 +103,7 @@ def modules_in(name):
         return None
 
 
-def head_of(end):
+def head_of(end: int) -> "Head":
     """Return the names, sources and stamps of an open bundle, and the offset of the code; ValueError if a source has changed."""
     length = int.from_bytes(os.pread(end, WORD, 0), "big")
     magic, folder, modules = marshal.loads(os.pread(end, min(length, MOST_HEAD), WORD))
@@ -90,14 +112,14 @@ def head_of(end):
     return modules, WORD + length
 
 
-def with_codes(end, head):
+def with_codes(end: int, head: "Head") -> "list[tuple[str, str, CodeType]]":
     """Return the modules of an open bundle with their code."""
     modules, begin = head
     codes = marshal.loads(os.pread(end, os.fstat(end).st_size - begin, begin))
     return [(name, source, code) for (name, source, _), code in zip(modules, codes)]
 
 
-def opened(name):
+def opened(name: str) -> "tuple[int, Head] | None":
     """Return an open bundle and the result of `head_of`; None if there is none. It stays the same if its file is replaced."""
     if sys.dont_write_bytecode:
         return None
@@ -114,7 +136,7 @@ def opened(name):
     return None
 
 
-def begin(name, source, code):
+def begin(name: str, source: str, code: "CodeType") -> None:
     """Make a module, and run its code."""
     module = ModuleType(name)
     is_package = source.endswith("/__init__.py")
@@ -135,7 +157,13 @@ def begin(name, source, code):
 
 # ---- writing bundles
 
-def write(name):
+def write_at_end(name: str) -> None:
+    """Write a bundle when the process ends. An interrupt meanwhile ends it silently."""
+    signal(SIGINT, SIG_DFL)
+    write(name)
+
+
+def write(name: str) -> None:
     """Write a bundle for the next process, if this user may."""
     if not os.access(os.path.dirname(path_of(name)), os.W_OK):
         return
@@ -151,9 +179,9 @@ def write(name):
             os.unlink(made)
 
 
-def made_of(name):
+def made_of(name: str) -> "list[tuple[str, str, Stamp, CodeType]]":
     """Return the modules of a bundle, compiled: each after those that it imports."""
-    before = {}
+    before: Compiled = {}
     for one in ROOTS[name][0]:
         add_all(ROOTS[one][1], before)
     found = dict(before)
@@ -161,7 +189,7 @@ def made_of(name):
     return [(module, source, stamp, code) for module, (source, stamp, code) in found.items() if module not in before]
 
 
-def add_all(names, found):
+def add_all(names: "Iterable[str]", found: "Compiled") -> None:
     """Add missing modules, each after its packages and its imports."""
     import ast
 
@@ -177,17 +205,18 @@ def add_all(names, found):
         found[name] = source, stamp, compiled(tree, source)
 
 
-def compiled(tree, source):
+def compiled(tree: "ast.Module", source: str) -> "CodeType":
     """Return the code of a module, without docstrings. An import from `__future__` becomes a flag of the compiler, and loads no module at
     run time."""
     import ast
     import __future__
 
     tree.body = [node for node in tree.body if not (isinstance(node, ast.ImportFrom) and node.module == "__future__")]
-    return compile(tree, source, "exec", __future__.annotations.compiler_flag, dont_inherit=True, optimize=2)
+    code: CodeType = compile(tree, source, "exec", __future__.annotations.compiler_flag, dont_inherit=True, optimize=2)
+    return code
 
 
-def source_of(name):
+def source_of(name: str) -> "str | None":
     """Return the source of a module of this package; None if the name is none."""
     if name.partition(".")[0] != PACKAGE:
         return None
@@ -195,15 +224,15 @@ def source_of(name):
     return next((path for path in (f"{base}/__init__.py", f"{base}.py") if os.path.isfile(path)), None)
 
 
-def imports_of(tree):
+def imports_of(tree: "ast.Module") -> list[str]:
     """Return the names that a module imports at once: modules, or names in them."""
     import ast
 
-    names = []
+    names: list[str] = []
     for node in tree.body:
         if isinstance(node, ast.Import):
             names += [alias.name for alias in node.names]
-        elif isinstance(node, ast.ImportFrom):
+        elif isinstance(node, ast.ImportFrom) and node.module:
             names += [node.module, *(f"{node.module}.{alias.name}" for alias in node.names)]
     return names
 

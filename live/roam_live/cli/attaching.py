@@ -2,6 +2,7 @@
 from __future__ import annotations
 
 import os
+import time
 
 import roam_bundle
 
@@ -10,6 +11,7 @@ from roam_live.common.errors import Fault, say
 from roam_live.config.environment import chosen_history, chosen_prediction, chosen_prefix, sets_clipboard, wants_mouse
 from roam_live.config.user_file import OWN
 from roam_live.session.foreground import own_pane
+from roam_live.session.local import SessionEnded
 from roam_live.session.lookup import session_named, sweep
 from roam_live.session.names import check_name
 
@@ -20,6 +22,10 @@ if TYPE_CHECKING:
     from roam_live.cli.args import Asked
     from roam_live.protocol.panes import Places
     from roam_live.session.folder import SessionFolder
+
+
+# The end of a remote session may be reported so many seconds after an attach by the relay that exists.
+JUST_ENDED_SECONDS = 3.0
 
 
 def launched(session: SessionFolder) -> bool:
@@ -65,14 +71,16 @@ def demand_outside(session: SessionFolder) -> None:
         raise Fault(f"this is a pane of session {session.name}; a session cannot show itself")
 
 
-def enter(name: str, is_read_only: bool = False, prediction: str | None = None) -> int:
-    """Attach to a session, and start it if it isn't running."""
+def enter(name: str, is_read_only: bool = False, prediction: str | None = None, may_begin: bool = True) -> int:
+    """Attach to a session. If it isn't running, start it, or refuse unless that is wanted."""
     demand_terminal()
     target = target_of(name)
     session = session_of(target)
     demand_outside(session)
     with session.locked():
         was_there = launched(session)
+        if not was_there and not may_begin:
+            raise SessionEnded(f"session {session.name} has ended")
         if not was_there:
             begin(session)
         window = session.window(target.window)
@@ -81,11 +89,14 @@ def enter(name: str, is_read_only: bool = False, prediction: str | None = None) 
     return follow(window, is_read_only, prediction, lambda places: not was_there)
 
 
-def follow(session: SessionFolder, is_read_only: bool, prediction: str | None, is_new: Callable[[Places | None], bool]) -> int:
-    """Run the front end of a session, and return its status. Clean up if the session ended meanwhile."""
+def follow(session: SessionFolder, is_read_only: bool, prediction: str | None, is_new: Callable[[Places | None], bool],
+           ends_unmet: Callable[[], object] = lambda: None) -> int:
+    """Run the front end of a session, and return its status. Clean up if the session ended meanwhile, and call `ends_unmet` if it had ended
+    before this terminal met it.
+    """
     from roam_live.frontend import follow as frontend
 
-    status = frontend.follow(session, is_read_only, chosen_prefix(), chosen_prediction(prediction), is_new)
+    status = frontend.follow(session, is_read_only, chosen_prefix(), chosen_prediction(prediction), is_new, ends_unmet=ends_unmet)
     session.whole_session().await_end()
     sweep()
     return status
@@ -102,7 +113,7 @@ def attach(asked: Asked) -> int:
         stay = windows.detach_others(session.window(target_of(asked.name).window))
         if stay:
             say(f"session {session.name}: {stay} of its terminals did not detach; they may be stopped")
-    return enter(asked.name, prediction=asked.predict)
+    return enter(asked.name, prediction=asked.predict, may_begin=False)
 
 
 def demand_command(word: str) -> None:
@@ -128,10 +139,16 @@ def new(asked: Asked) -> int:
         begin(session, asked.command)
         if asked.is_detached:
             session.demand_ready()
-    if not asked.is_detached:
-        return follow(session.window(), False, asked.predict, lambda places: True)
-    sweep()
-    return 0
+    if asked.is_detached:
+        sweep()
+        return 0
+    try:
+        window = session.window()
+    except SessionEnded:
+        # Its command has ended already.
+        print("[the session has ended]")
+        return 0
+    return follow(window, False, asked.predict, lambda places: True)
 
 
 def refuse_detach(asked: Asked) -> int:
@@ -142,17 +159,26 @@ def refuse_detach(asked: Asked) -> int:
 def watch(asked: Asked) -> int:
     """Show a session read-only."""
     running(asked.name)
-    return enter(asked.name, True)
+    return enter(asked.name, True, may_begin=False)
 
 
 def enter_far(asked: Asked) -> int:
     """Attach to a remote session over ssh, by the existing relay and client process, or by new ones."""
-    from roam_live.cli import ssh
-
     target = target_of(asked.name)
     check_name(asked.name if target.pane else target.name)
     demand_terminal()
     asked.name = target.name
+    unmet: list[float] = []
+    begun = time.monotonic()
+    status = follow_far(asked, target.window, lambda: unmet.append(time.monotonic()))
+    # The existing relay led to a session that had just ended. The user wants the next one.
+    return follow_far(asked, target.window) if unmet and unmet[0] < begun + JUST_ENDED_SECONDS else status
+
+
+def follow_far(asked: Asked, number: int | None, ends_unmet: Callable[[], object] = lambda: None) -> int:
+    """Attach to a remote session once, and return the status. `ends_unmet` is called if an existing one had ended before."""
+    from roam_live.cli import ssh
+
     command = ssh.command_of(asked)
     session = ssh.near_session(asked, command)
     with session.locked():
@@ -162,10 +188,11 @@ def enter_far(asked: Asked) -> int:
             status = session.launch_relay(command, ssh.host_of(asked))
             if status:
                 return status
-            session.await_windows(target.window, ssh.TOLD_WAIT)
-        window = session.window(target.window)
+            session.await_windows(number, ssh.TOLD_WAIT)
+        window = session.window(number)
         window.demand_client()
-    return follow(window, False, asked.predict, lambda places: has_begun and ssh.is_first_client(places))
+    is_first: Callable[[Places | None], bool] = lambda places: has_begun and ssh.is_first_client(places)
+    return follow(window, False, asked.predict, is_first, (lambda: None) if has_begun else ends_unmet)
 
 
 def carry(asked: Asked) -> int:

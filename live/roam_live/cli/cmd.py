@@ -18,20 +18,70 @@ ACTS = {"split right": "split right", "split down": "split down", "close": "clos
 OWN = "it concerns one terminal; use a key or C-b : there"
 
 
+# The requests about a session's windows or terminals.
+WINDOW_WISHES = ("window new", "window name", "window shut", "leave others")
+
+
+class Target:
+    """The window of a command and its pane, 0 for the one in focus. A command that opens a window or a pane moves it."""
+
+    def __init__(self, window: SessionFolder, pane: int) -> None:
+        self.window, self.pane = window, pane
+
+
+def commands_in(words: list[str]) -> list[list[str]]:
+    """Return the commands between words `;`. A word that ends with `;` ends a command too; `\\;` there is the character."""
+    found: list[list[str]] = [[]]
+    for word in words:
+        ends = word.endswith(";") and not word.endswith("\\;")
+        text = word[:-1] if ends else word[:-2] + ";" if word.endswith("\\;") else word
+        if text or not ends:
+            found[-1].append(text)
+        if ends:
+            found.append([])
+    return [command for command in found if command]
+
+
 def run(window: SessionFolder, pane: int, words: list[str]) -> int:
-    """Run a command in a window, or for one of its panes, and return the status. Fault gives the reason of a failure."""
+    """Run commands in a window, or for one of its panes, and return the status of the last. Fault gives the reason of a failure.
+
+    Each is read before the first one runs. The first that fails ends the chain.
+    """
+    found = [read(command) for command in commands_in(words)]
+    if not found:
+        raise Fault("there is no command between the words `;`")
+    target, status = Target(window, pane), 0
+    for asked in found:
+        status = run_one(target, asked)
+        if status:
+            break
+    return status
+
+
+def read(words: list[str]) -> CommandWish:
+    """Return the request of a command; Fault if it is none, or if it needs a terminal."""
     try:
         asked = asked_by(words)
     except BadCommand as fault:
         raise Fault(str(fault)) from None
+    is_named = asked.wish != "window name" or asked.text
+    if asked.wish in ACTS or asked.acts or asked.wish in WINDOW_WISHES and is_named:
+        return asked
+    raise Fault(f"{words[0]}: {OWN}")
+
+
+def run_one(target: Target, asked: CommandWish) -> int:
+    """Run one command, and return its status."""
+    if asked.wish in WINDOW_WISHES:
+        return changed(target, asked)
+    window, pane = target.window, target.pane
+    if asked.wish.startswith("split") and not (asked.begins and asked.begins.is_aside):
+        target.pane = 0
     if asked.begins and asked.wish in ACTS:
         return split(window, pane, asked.wish, placed(asked.begins))
-    acts = [ACTS[asked.wish]] if asked.wish in ACTS else asked.acts
-    if acts:
-        from roam_live.cli import send
+    from roam_live.cli import send
 
-        return send.send(window, acts, pane)
-    return changed(window, asked, words[0])
+    return send.send(window, [ACTS[asked.wish]] if asked.wish in ACTS else asked.acts, pane)
 
 
 def placed(begins: Begins) -> Begins:
@@ -57,17 +107,19 @@ def split(window: SessionFolder, pane: int, act: str, begins: Begins) -> int:
     return status
 
 
-def changed(window: SessionFolder, asked: CommandWish, name: str) -> int:
+def changed(target: Target, asked: CommandWish) -> int:
     """Carry out a request about a session's windows or terminals."""
     from roam_live.cli import windows
 
+    window = target.window
     if asked.wish == "window new":
         begins = placed(asked.begins) if asked.begins else None
-        return windows.new_window(window, "", begins) if begins else windows.new_window(window, "")
-    if asked.wish == "window name" and asked.text:
+        number = windows.opened_window(window, "", begins)
+        if not (begins and begins.is_aside):
+            target.window, target.pane = window.window(number), 0
+        return 0
+    if asked.wish == "window name":
         return windows.rename(window, asked.text)
     if asked.wish == "window shut":
         return windows.shut(window)
-    if asked.wish == "leave others":
-        return windows.detach_others(window)
-    raise Fault(f"{name}: {OWN}")
+    return windows.detach_others(window)

@@ -31,7 +31,8 @@ ANSWERS = 10.0
 # The name of the first or last of all rows.
 OUTERMOST = "-"
 
-NOT_KEPT = "session {}: pane {} has no stored rows; ROAM_HISTORY may be 0"
+NOT_KEPT = "session {}: pane {} has no stored rows: {}"
+NO_REASON = "its pty host gave no reason"
 NO_BUFFERS = "session {}: the pty host did not list its buffers"
 
 # The start of a style, and the characters that it may contain.
@@ -96,8 +97,12 @@ class RowsAsked:
         number, generation = making_of(self.session, pane)
         found: Snapshot | None = self.answer(lambda told: self.link.snapshot(number, generation, told))
         if not found:
-            raise Fault(NOT_KEPT.format(self.session.name, number))
+            raise Fault(self.not_kept(number))
         return found
+
+    def not_kept(self, pane: int) -> str:
+        """Return the message that a pane has no rows, with the reason of the host's last answer."""
+        return NOT_KEPT.format(self.session.name, pane, printable(self.link.refusal) or NO_REASON)
 
     def rows(self, snapshot: Snapshot, first: int, end: int) -> list[bytes]:
         """Return the next rows of a snapshot in a range, possibly fewer than all."""
@@ -145,7 +150,7 @@ def log_rows(session: SessionFolder, pane: int, has_styles: bool, is_joined: boo
     # Without new rows there is no output, so check first if rows are stored at all.
     kept: tuple[int, int] | None = asked.answer(lambda told: asked.link.count(number, generation, told))
     if kept is None:
-        raise Fault(NOT_KEPT.format(session.name, number))
+        raise Fault(asked.not_kept(number))
     writer, following = RowWriter(sys.stdout.buffer.write, has_styles, is_joined), kept[1]
     asked.take(f"{LOG} {number} {generation} {following}", b"")
     while True:

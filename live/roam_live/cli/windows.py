@@ -166,7 +166,13 @@ def list_windows(session: SessionFolder) -> int:
 
 
 def new_window(session: SessionFolder, name: str, begins: Begins | None = None) -> int:
-    """Open a window of a session, of the requesting window's size, with start options, and print its number."""
+    """Open a window of a session, and return the status."""
+    opened_window(session, name, begins)
+    return 0
+
+
+def opened_window(session: SessionFolder, name: str, begins: Begins | None = None) -> int:
+    """Open a window of a session, of the requesting window's size, with start options, print its number, and return it."""
     check_title(name)
     places = session.places()
     asked = WindowsAsked(session)
@@ -181,7 +187,7 @@ def new_window(session: SessionFolder, name: str, begins: Begins | None = None) 
         asked.until(WINDOWS)
         asked.rename(number, name)
     print(f"{session.whole_session().name}:{number}")
-    return 0
+    return number
 
 
 def check_title(name: str) -> None:

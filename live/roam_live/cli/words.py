@@ -23,6 +23,7 @@ class PlainWords:
         self.__dict__.update(values)
 
     if TYPE_CHECKING:
+        name: str
 
         def __getattr__(self, name: str) -> Any:
             """Return the value of an argument."""

@@ -6,7 +6,7 @@ import os
 import select
 import sys
 
-from roam_live.common.files import make_room
+from roam_live.common.files import LogTurn
 from roam_live.common.signals import signal
 from roam_live.common.suppress import suppress
 from roam_live.common.text import one_line, printable
@@ -34,15 +34,13 @@ def tool_name() -> str:
 
 def say(line: str) -> None:
     """Print a line on standard error, which may be full or gone, or a log that has to stay small."""
-    make_room_in_logs(len(line))
-    with suppress(OSError, ValueError):
+    with log_turn(len(line)), suppress(OSError, ValueError):
         print(f"{tool_name()}: {printable(line)}", file=sys.stderr, flush=True)
 
 
-def make_room_in_logs(more: int) -> None:
-    """Keep the known logs small if so many bytes are added."""
-    for path in logs:
-        make_room(path, more)
+def log_turn(more: int) -> LogTurn:
+    """Return this process's turn at the log, if one is known, for so many more bytes."""
+    return LogTurn(logs[0] if logs else "", more)
 
 
 def reason(fault: BaseException) -> str:
@@ -59,9 +57,8 @@ def log_to(folder: str | os.PathLike[str]) -> None:
 def log_in_full(text: str) -> None:
     """Append several lines to the logs."""
     told = "\n".join(map(printable, text.split("\n")))
-    make_room_in_logs(len(told))
     for path in logs:
-        with suppress(OSError), open(path, "a", encoding="utf-8", errors="backslashreplace") as log:
+        with LogTurn(path, len(told)), suppress(OSError), open(path, "a", encoding="utf-8", errors="backslashreplace") as log:
             log.write(f"{tool_name()}, process {os.getpid()}:\n{told}")
 
 

@@ -275,10 +275,10 @@ class Loop:
 
     # ---- exceptions
 
-    def is_done(self, does: Does) -> bool:
-        """Call something, and return True if it raised nothing. Without a handler its exception propagates."""
+    def is_done(self, does: Callable[..., object], *values: object) -> bool:
+        """Call something with these values, and return True if it raised nothing. Without a handler its exception propagates."""
         try:
-            does()
+            does(*values)
         except Exception as fault:
             if not self.faults:
                 raise
@@ -293,7 +293,7 @@ class Loop:
         fails = source.fails
         if not fails:
             self.rest(number, source)
-        elif not self.is_done(lambda: fails(fault)) and self.sources.get(number) is source:
+        elif not self.is_done(fails, fault) and self.sources.get(number) is source:
             self.remove(number)
 
     def pause(self, end: End) -> None:

@@ -3,6 +3,7 @@ from __future__ import annotations
 
 import fcntl
 import os
+import time
 
 from roam_live.common.suppress import suppress
 
@@ -10,18 +11,87 @@ from roam_live.common.suppress import suppress
 LOG_LIMIT = 1 << 20
 KEPT = 1 << 19
 
+# Seconds that a writer waits for its turn at a file, and between its tries.
+TURN_SECONDS = 0.1
+ADD_SECONDS = 1.0
+TURN_STEP_SECONDS = 0.002
+
+
+class LogTurn:
+    """A writer's turn at a log, in a `with`: the other tools wait with their lines. It makes room for `more` bytes first.
+
+    A shortened log is read and written again, so a line that somebody appended meanwhile would be lost.
+    """
+
+    def __init__(self, path: str | os.PathLike[str], more: int = 0) -> None:
+        self.path, self.more = path, more
+        self.end: int | None = None
+
+    def __enter__(self) -> None:
+        with suppress(OSError):
+            self.end = os.open(self.path, os.O_RDWR | os.O_APPEND | os.O_CLOEXEC | os.O_NOFOLLOW)
+            # A writer that was stopped within its turn doesn't stop the others. Their log may then be larger for a while.
+            limit = LOG_LIMIT if locked_soon(self.end) else 2 * LOG_LIMIT
+            if os.fstat(self.end).st_size + self.more > limit:
+                shorten_log(self.end)
+
+    def __exit__(self, *fault: object) -> None:
+        if self.end is not None:
+            os.close(self.end)
+
+
+def locked_soon(end: int, kind: int = fcntl.LOCK_EX, seconds: float | None = None) -> bool:
+    """Lock an open file, and return False if another process keeps its lock for too long."""
+    until = time.monotonic() + (TURN_SECONDS if seconds is None else seconds)
+    while True:
+        try:
+            fcntl.flock(end, kind | fcntl.LOCK_NB)
+            return True
+        except BlockingIOError:
+            if time.monotonic() >= until:
+                return False
+        time.sleep(TURN_STEP_SECONDS)
+
+
+def shorten_log(end: int) -> None:
+    """Drop the oldest lines of a log that is open for appending. The program takes no turns: what it appends while this reads stays too."""
+    size = os.fstat(end).st_size
+    newest = os.pread(end, KEPT, max(0, size - KEPT))
+    newest = newest[newest.find(b"\n") + 1 :] + os.pread(end, KEPT, size)
+    os.ftruncate(end, 0)
+    while newest:
+        newest = newest[os.write(end, newest) :]
+
 
 def make_room(path: str | os.PathLike[str], more: int = 0) -> None:
     """Drop a log's oldest lines if `more` bytes would make it too large. Its writers append, so they continue at the end."""
-    with suppress(OSError):
-        if os.stat(path).st_size + more <= LOG_LIMIT:
+    with LogTurn(path, more):
+        pass
+
+
+def add_lines(path: str | os.PathLike[str], lines: list[str], most: int) -> None:
+    """Add lines to a small file of at most `most` lines, the newest last. Two processes that add at once both do."""
+    while True:
+        end = os.open(path, os.O_RDWR | os.O_CREAT | os.O_CLOEXEC | os.O_NOFOLLOW, 0o600)
+        try:
+            locked_soon(end, seconds=ADD_SECONDS)
+            # The file is replaced as a whole, so this may be an earlier one.
+            if not is_same_file(end, path):
+                continue
+            before = os.read(end, 1 << 14).decode("utf-8", "replace").splitlines()
+            after = [*(one for one in before if one not in lines), *lines][-most:]
+            replace_text(path, "".join(f"{line}\n" for line in after))
             return
-        with open(path, "r+b") as log:
-            log.seek(-min(KEPT, os.fstat(log.fileno()).st_size), os.SEEK_END)
-            newest = log.read(KEPT)
-            log.seek(0)
-            log.truncate()
-            log.write(newest[newest.find(b"\n") + 1 :])
+        finally:
+            os.close(end)
+
+
+def is_same_file(end: int, path: str | os.PathLike[str]) -> bool:
+    """Return True if a path still names an open file."""
+    try:
+        return os.path.samestat(os.fstat(end), os.lstat(path))
+    except OSError:
+        return False
 
 
 def replace_text(path: str | os.PathLike[str], text: str, new: str | None = None) -> None:

@@ -14,18 +14,25 @@ from roam_live.common.build_info import identity
 
 TYPE_CHECKING = False
 if TYPE_CHECKING:
+    from importlib.abc import Loader, MetaPathFinder
+    from importlib.machinery import ModuleSpec
     from types import CodeType, ModuleType
+
+    class ModuleImporter(MetaPathFinder, Loader):
+        """The two roles of a module's importer, which need no code."""
+else:
+    ModuleImporter, ModuleSpec = object, type(sys.__spec__)
 
 PACKAGE = "roam_live."
 BUNDLE = "late"
 
 
-class LateModules:
+class LateModules(ModuleImporter):
     """Imports them, from `begin` to `end`."""
 
     def __init__(self) -> None:
         self.build = identity()
-        self.bundle: tuple[int, tuple[list[tuple[str, str, object]], int]] | None = None
+        self.bundle: tuple[int, roam_bundle.Head] | None = None
         # The sources by module, and their code during an import; and the depth of nested imports.
         self.sources: dict[str, str] = {}
         self.codes: dict[str, CodeType] = {}
@@ -35,21 +42,21 @@ class LateModules:
         """Open the bundle, and handle each import from now on."""
         self.bundle = roam_bundle.opened(BUNDLE)
         self.sources = {name: source for name, source, _ in self.bundle[1][0]} if self.bundle else {}
-        sys.meta_path.insert(0, self)  # type: ignore[arg-type]
+        sys.meta_path.insert(0, self)
 
     def end(self) -> None:
         """Handle no more imports."""
         if self in sys.meta_path:
-            sys.meta_path.remove(self)  # type: ignore[arg-type]
+            sys.meta_path.remove(self)
         if self.bundle:
             os.close(self.bundle[0])
             self.bundle = None
 
-    def find_spec(self, name: str, path: object = None, target: object = None) -> object:
+    def find_spec(self, name: str, path: object = None, target: object = None) -> ModuleSpec | None:
         """Return the location of a module, None if it is not one of these; ImportError if it belongs to another build."""
         source = self.sources.get(name) if self.bundle else None
         if source:
-            return roam_bundle.ModuleSpec(name, self, origin=source, is_package=source.endswith("/__init__.py"))
+            return ModuleSpec(name, self, origin=source, is_package=source.endswith("/__init__.py"))
         if name.startswith(PACKAGE) and identity() != self.build:
             raise ImportError(f"{name} is of another build of roam than this process")
         return None

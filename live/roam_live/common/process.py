@@ -5,9 +5,12 @@ import os
 
 from roam_live.common.errors import Fault, is_absent, reason
 from roam_live.common.file_path import FilePath
-from roam_live.common.files import replace_text
+from roam_live.common.files import add_lines
 from roam_live.common.signals import signal
 from roam_live.common.suppress import suppress
+
+# The most intended ends that are recorded.
+MOST_ENDED = 128
 
 TOOLS = FilePath(os.path.realpath(__file__)).parent.parent.parent
 
@@ -21,7 +24,11 @@ def program() -> str:
     for path in [FilePath(named)] if named else PLACES:
         if path.is_file() and os.access(path, os.X_OK):
             return str(path)
-    raise Fault(f"{named or PLACES[0]} does not exist; `make` builds it")
+    if named:
+        raise Fault(f"{named} is no program; the variable ROAM names it")
+    if os.path.exists(TOOLS.parent / "crates.txt"):
+        raise Fault(f"{PLACES[0]} does not exist; `make` builds it")
+    raise Fault("the program roam was removed or moved; install roam again")
 
 
 def read_stat(process: int) -> list[str]:
@@ -89,10 +96,16 @@ def end_words(process: int, moment: int | None) -> str:
     return f"{process} {moment}"
 
 
+def note_ends(folder: str | os.PathLike[str], lines: list[str]) -> None:
+    """Record in a session's folder that processes are about to be ended on purpose. Nobody then reports a failure."""
+    if lines:
+        with suppress(OSError):
+            add_lines(os.path.join(folder, "ended"), lines, MOST_ENDED)
+
+
 def note_end(folder: str | os.PathLike[str], process: int, moment: int | None) -> None:
-    """Record in a session's folder that its serving process is about to be ended on purpose. Nobody then reports a failure."""
-    with suppress(OSError):
-        replace_text(os.path.join(folder, "ended"), f"{end_words(process, moment)}\n")
+    """Record the same of one process."""
+    note_ends(folder, [end_words(process, moment)])
 
 
 def opened_process(process: int) -> int:

@@ -37,6 +37,11 @@ class UnixSocket(SocketBase):
     def __init__(self, descriptor: int | None = None) -> None:
         super().__init__(AF_UNIX, SOCK_STREAM, 0, descriptor)
 
+    if TYPE_CHECKING:
+
+        def _accept(self) -> tuple[int, object]:
+            """Accept a connection, and return its descriptor and its address."""
+
     def accept(self) -> tuple[UnixSocket, object]:
         """Accept a connection, and return it and its address."""
         descriptor, address = self._accept()
@@ -88,6 +93,20 @@ def connected_now(path: str | os.PathLike[str]) -> UnixSocket:
     return peer
 
 
+def is_anybody(process: int) -> bool:
+    """Return True: any process of this user may listen."""
+    return True
+
+
+def connected_to(path: str | os.PathLike[str], is_peer: Callable[[int], bool]) -> UnixSocket:
+    """Connect like `connected_now`, to a process that a call accepts. Another one is refused: another session may have the folder by now."""
+    peer = connected_now(path)
+    if is_peer(SocketPeer.of(peer).process):
+        return peer
+    peer.close()
+    raise ConnectionRefusedError(errno.ECONNREFUSED, "a process of another session listens there", str(path))
+
+
 def connected_in(path: str | os.PathLike[str], seconds: float) -> UnixSocket:
     """Connect like `connected_now`, but retry a busy listener for so many seconds."""
     end = time.monotonic() + seconds
@@ -95,7 +114,7 @@ def connected_in(path: str | os.PathLike[str], seconds: float) -> UnixSocket:
         try:
             return connected_now(path)
         except BlockingIOError:
-            if time.monotonic() > end:
+            if time.monotonic() >= end:
                 raise
         time.sleep(0.01)
 

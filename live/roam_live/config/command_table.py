@@ -120,6 +120,13 @@ def folder_of(text: str) -> str:
     return "" if text == HERE else text
 
 
+def listed(flags: Flags) -> CommandWish:
+    """Read the list of windows. There is none of sessions."""
+    if flags.has("s"):
+        raise BadCommand("-s: there is no list of sessions here; `mux ls` prints one")
+    return wish("window list")(flags)
+
+
 def window_of(flags: Flags) -> CommandWish:
     """Read the target window: a number, or another one in order."""
     flags.demand_words(0 if "t" in flags.found else 1)
@@ -200,7 +207,7 @@ TABLE = (
     NamedCommand(("previous-window", "prev"), "", wish("go previous"), "go to the previous window"),
     NamedCommand(("last-window", "last"), "", wish("go last"), "go to the last window"),
     NamedCommand(("select-window", "selectw"), "t:npl", window_of, "go to a window, by its number"),
-    NamedCommand(("choose-window", "choose-tree"), "swZG", wish("window list"), "choose a window from a list"),
+    NamedCommand(("choose-window", "choose-tree"), "swZG", listed, "choose a window from a list"),
     NamedCommand(("split-window", "splitw"), "hvc:d", begun({"h": "split right", "v": "split down"}, "split down"),
                  "split the pane, with a command and a directory (-c) if given"),
     NamedCommand(("kill-pane", "killp"), "", wish("close"), "close the pane"),

@@ -84,6 +84,15 @@ class FileSettings:
         finally:
             self.open.pop()
 
+    def why_unread(self, path: str) -> str:
+        """Return the reason that a file can't be read; nothing if it can."""
+        try:
+            self.text_of(path)
+        except BadWord as fault:
+            return str(fault).removeprefix("not read: ")
+        self.open.pop()
+        return ""
+
     def text_of(self, path: str) -> str:
         """Return the text of a file that the user or root owns and nobody else may write. The file then counts as open."""
         if len(self.open) >= DEEPEST:

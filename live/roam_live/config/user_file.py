@@ -3,6 +3,7 @@ from __future__ import annotations
 
 import os
 
+from roam_live.common.errors import Fault
 from roam_live.config.environment import BY_FILE, choose_by_file, text_of
 
 TYPE_CHECKING = False
@@ -75,11 +76,15 @@ class OwnSettings:
         self.found, self.is_typed = read_settings(), False
 
     def add(self, path: str) -> None:
-        """Read another file, and apply it too."""
+        """Read another file, and apply it too. Fault gives the reason if it can't be read; nothing changes then."""
+        path = os.path.expanduser(path)
+        why = no_settings().why_unread(path)
+        if why:
+            raise Fault(f"{path}: {why}")
         found = no_settings()
         found.values.update(BY_FILE)
         found.bindings.update(self.found.bindings if self.found else {})
-        take(found, os.path.expanduser(path))
+        take(found, path)
         self.found = found
 
     def bind(self, words: list[str]) -> None:

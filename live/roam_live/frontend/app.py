@@ -52,6 +52,8 @@ class FrontEnd:
         self.left: str | None = None
         self.left_at: float | None = None
         self.status = 0
+        # True once something was typed, and once the session has ended.
+        self.has_typed = self.has_ended = False
         self.command_runner: CommandRunner | None = None
         self.wakeup, self.display = first.wakeup, first.display
         self.late = LateModules()
@@ -61,7 +63,8 @@ class FrontEnd:
         self.name = session.name.removesuffix(f":{session.number}")
         status_row = StatusRow(self.display, self.loop, self.values, self.name if session.number else "")
         self.settings = FrontSettings(self.keyboard, status_row, prefix, prediction)
-        self.host_link = HostLink(session.common, self.loop, self.display.outer.size, is_read_only)
+        self.host_link = HostLink(session.common, self.loop, self.display.outer.size, is_read_only,
+                                  lambda process: session.is_peer("host", process))
         self.host_link.environment = environment_lines(session, is_read_only)
         maker = ViewMaker(self.keyboard, self.settings, self.host_link, self.leave, is_read_only, first.is_whole,
                           has_clips and not is_read_only)
@@ -105,7 +108,12 @@ class FrontEnd:
         view.watch_no_more(self.loop)
         # For a remote session the relay is the server, which all windows share.
         if view.session.served == "relay" or not (view.number and self.windows.leave(view.number)):
+            self.has_ended = True
             self.leave(*view.session.ending())
+
+    def has_ended_unmet(self) -> bool:
+        """Return True if the session ended as intended before its host reported anything here, and before anything was typed."""
+        return self.has_ended and not (self.status or self.has_typed or self.host_link.host_name)
 
     def join(self) -> None:
         """Add signals, input, and the terminal's output to the loop."""
@@ -171,6 +179,8 @@ class FrontEnd:
         view, outer = self.views.view, self.display.outer
         if view.panes.has_application_keypad != outer.is_application:
             outer.set_keypad(view.panes.has_application_keypad)
+        if view.panes.wants_focus != outer.outer_modes.has_focus:
+            outer.ask_focus(view.panes.wants_focus and not view.link.is_read_only)
         if view.link.waiting and view.link.peer:
             self.connection.send()
         if outer.waiting or outer.clip.newest:
@@ -183,6 +193,7 @@ class FrontEnd:
         chunk = read(0)
         if chunk == b"":
             self.leave("", 1)
+        self.has_typed = self.has_typed or bool(chunk)
         self.keyboard.fed(chunk or b"")
         self.watchdog.typed()
 
@@ -225,7 +236,6 @@ class FrontEnd:
             self.loop.later("late", LATE, self.begin_late)
             self.ask_colours()
             self.settings.tell(advice(self.settings.prefix))
-            self.settings.run_file()
             self.connection.begin(self.first.records)
             if self.views.view.server is None:
                 self.loop.later("probe", PROBES, self.connection.probe)

@@ -41,7 +41,7 @@ C-b and then:
   arrows   go to the pane in that direction; q and a digit: by its number
   C-arrows move one of its borders; again within half a second without C-b
   z        zoom the pane, until z or another pane is active. The session
-           grows meanwhile; later, lines may be cut on the screens
+           grows meanwhile; lines wrap at each new size
   [ PgUp / enter copy mode; one page up; with a search. Space or C-Space
            selects, Return or M-w copies, q leaves
   ] =      paste the newest buffer; choose a buffer to paste
@@ -49,8 +49,8 @@ C-b and then:
            wheel scrolls, dragging copies text or moves a border
   d D      detach this terminal; all others. The session keeps running
   C-z      suspend the front end; `fg` continues it
-  r        resize the session to this terminal, and repaint. If that is
-           smaller, longer lines are cut
+  r        resize the session to this terminal, and repaint. Lines wrap
+           at the new size
   t Space  hide the last row, or show it; divide the space evenly
   ? R :    list the keys; read the settings file again; ask for a command
   C-b      type C-b itself"""

@@ -4,7 +4,7 @@ from __future__ import annotations
 import os
 from collections import deque
 
-from roam_live.common.errors import reason
+from roam_live.common.errors import Fault, reason
 from roam_live.common.event_loop import Loop
 from roam_live.common.io import read
 from roam_live.common.text import printable
@@ -27,6 +27,8 @@ if TYPE_CHECKING:
 SAID = 4.0
 MOST_LINES, LONGEST_LINE = 100, 1000
 MOST_RUNS, MOST_HEARD = 8, 1 << 16
+# Looks for the end of a program that closed its output, and seconds between them.
+MOST_LOOKS, LOOKS_SECONDS = 50, 0.02
 ELSEWHERE = "this session has one window"
 
 
@@ -69,7 +71,7 @@ class ShellRun:
         import subprocess
 
         self.loop, self.command, self.shows = loop, command, shows
-        self.heard = b""
+        self.heard, self.looks = b"", 0
         self.process = subprocess.Popen(["/bin/sh", "-c", command], stdin=subprocess.DEVNULL, stdout=subprocess.PIPE,
                                         stderr=subprocess.STDOUT, start_new_session=True)
         assert self.process.stdout is not None
@@ -86,8 +88,18 @@ class ShellRun:
             self.loop.remove(self.end)
             if self.process.stdout:
                 self.process.stdout.close()
-            lines = self.heard.decode("utf-8", "replace").rstrip().splitlines()
-            self.shows([printable(line.expandtabs()) for line in lines])
+            self.finish()
+
+    def finish(self) -> None:
+        """Show its output, and its status if that is a failure, once it has ended. It may have closed its output before."""
+        status = self.process.poll()
+        if status is None and self.looks < MOST_LOOKS:
+            self.looks += 1
+            self.loop.later(f"run {self.process.pid}", LOOKS_SECONDS, self.finish)
+            return
+        lines = [printable(line.expandtabs()) for line in self.heard.decode("utf-8", "replace").rstrip().splitlines()]
+        ends = "" if not status else f"returned {status}" if status > 0 else f"terminated by signal {-status}"
+        self.shows(lines + [f"'{printable(self.command)[:80]}' {ends}"] * bool(ends))
 
     def has_ended(self) -> bool:
         """Return True if its shell has ended."""
@@ -101,9 +113,12 @@ class CommandRunner:
         self.keyboard, self.settings, self.loop = keyboard, settings, keyboard.loop
         self.lines: deque[str] = deque(maxlen=MOST_LINES)
         self.runs: list[ShellRun] = []
+        # The last message of a command.
+        self.said = ""
 
     def tell(self, text: str) -> None:
         """Show a message in the last row."""
+        self.said = text or self.said
         if text:
             self.keyboard.commands().display.row.tell(text, SAID)
 
@@ -113,14 +128,22 @@ class CommandRunner:
             self.tell(lines[-1].strip() if lines else "")
 
     def run_all(self, commands: list[list[str]]) -> None:
-        """Run commands in sequence, up to the first that fails, and report its error."""
+        """Run commands in sequence, up to the first that fails, and report its error. A message of earlier commands ends."""
+        row = self.keyboard.commands().display.row
+        if self.said and row.told == self.said:
+            row.end_told()
+        self.said = ""
+        self.run_rest(commands)
+
+    def run_rest(self, commands: list[list[str]]) -> None:
+        """Run the rest of such commands."""
         try:
             for place, words in enumerate(commands):
                 asked = asked_by(words)
                 if asked.begins:
                     # The rest applies to the pane that is focused then.
                     rest = commands[place + 1 :]
-                    self.keyboard.commands().handing.begin(asked.wish, asked.begins, lambda: self.run_all(rest))
+                    self.keyboard.commands().handing.begin(asked.wish, asked.begins, lambda: self.run_rest(rest))
                     return
                 self.do(asked)
         except BadCommand as fault:
@@ -136,9 +159,9 @@ class CommandRunner:
             commands.type_key(asked.acts)
             commands.synchronizing.settle()
         elif asked.wish == "set":
-            self.set_option(asked.words)
+            self.set_option([*asked.words])
         elif asked.wish == "bind":
-            self.bind(asked.words)
+            self.bind([*asked.words])
         elif asked.wish == "run":
             self.run_shell(asked.text, asked.words[1:2] == ["-b"])
         elif asked.wish in does:
@@ -197,7 +220,10 @@ class CommandRunner:
 
     def read_settings(self, text: str) -> None:
         """Reload the settings file, or read a named file too."""
-        self.settings.read(text)
+        try:
+            self.settings.read(text)
+        except Fault as fault:
+            raise BadCommand(str(fault)) from None
 
     def name_window(self, text: str) -> None:
         """Name the window, or ask for a name."""

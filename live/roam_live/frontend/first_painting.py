@@ -34,7 +34,7 @@ class FirstPainting:
 
     def __init__(self, session: AnySession, is_read_only: bool, prefix: str, prediction: str, is_whole: bool = False,
                  loop: Loop | None = None) -> None:
-        self.loop, self.is_whole = loop or Loop(), is_whole
+        self.session, self.loop, self.is_whole = session, loop or Loop(), is_whole
         # Signals are queued from here on, since the terminal has to be restored.
         self.wakeup = woken(signal.SIGWINCH, signal.SIGCONT, signal.SIGTSTP, *LEAVING)
         self.link = ClientLink(session.terminals, is_read_only, prediction)
@@ -50,7 +50,7 @@ class FirstPainting:
         self.display.outer.enter()
         self.display.outer.put()
         try:
-            self.link.connect()
+            self.link.connect(lambda process: self.session.is_peer("terminals", process))
         except OSError:
             # The front end retries, and reports the reason of a failure.
             return

@@ -20,11 +20,12 @@ PAINTS = 0.05
 
 
 def follow(session: AnySession, is_read_only: bool, prefix: str, prediction: str,
-           is_new: Callable[[Places | None], bool] = lambda places: False, is_whole: bool = False) -> int:
+           is_new: Callable[[Places | None], bool] = lambda places: False, is_whole: bool = False,
+           ends_unmet: Callable[[], object] = lambda: None) -> int:
     """Let a user follow a session at this terminal, and return the status. Predictions are shown always, adaptively, or never.
 
     A new session, which may be known a moment later, takes this terminal's size, whatever it is. It may be shown whole, if its own status
-    row fits.
+    row fits. `ends_unmet` is called if the session had ended before this terminal met it.
     """
     try:
         has_mouse, has_clips = wants_mouse(), sets_clipboard()
@@ -41,6 +42,9 @@ def follow(session: AnySession, is_read_only: bool, prefix: str, prediction: str
             except BaseException:
                 first.leave()
                 raise
-            return front.run()
+            status = front.run()
+            if front.has_ended_unmet():
+                ends_unmet()
+            return status
     finally:
         session.close()

@@ -17,7 +17,7 @@ from roam_live.frontend.modes import (GOES, CopyKeysMode, CopyPasteMode, HelpMod
                                       PickingMode, PrefixMode, leaves_paused, under_notice, while_paused)
 from roam_live.input.extended_keys import ANSWERED
 from roam_live.input.keys import Key, Keys
-from roam_live.input.mouse_reports import MOUSE
+from roam_live.input.mouse_reports import FOCUSED, MOUSE
 from roam_live.protocol.colours import COLOUR
 from roam_live.protocol.panes import BESIDE
 from roam_live.protocol.presence import LEAVE_OTHERS
@@ -30,7 +30,7 @@ if TYPE_CHECKING:
     from roam_live.frontend.interfaces import OtherWindows
 
 # Events among the keys that are reports of the terminal.
-REPORTED = (COLOUR, ANSWERED, MOUSE)
+REPORTED = (COLOUR, ANSWERED, MOUSE, FOCUSED)
 
 # Seconds for other terminals to detach, and for the message with their number.
 LEAVES_IN = 2.0
@@ -164,11 +164,13 @@ class Interpreter:
             self.commands().tell_replaced()
 
     def reported(self, key: Key) -> None:
-        """Take a report of the terminal: a mouse event, or a colour."""
+        """Take a report of the terminal: a mouse event, an answer, a colour, or its focus."""
         if key.name == MOUSE:
             self.commands().pointing.take(key.text)
         elif key.name == ANSWERED:
             self.display.outer.outer_modes.take_answer(key.text)
+        elif key.name == FOCUSED:
+            self.commands().acts.report_focus(key)
         else:
             self.commands().acts.host.tell_colour(key.text)
 

@@ -25,6 +25,9 @@ TITLE_KEPT, TITLE_BACK = b"\x1b[22;2t", b"\x1b[23;2t"
 # The start and end of the sequence that sets a terminal's clipboard, around the text in base64 (OSC 52).
 CLIP_BEGIN, CLIP_END = b"\x1b]52;c;", b"\x07"
 
+# The sequences that request reports of the terminal's focus, and stop them (xterm, 1004).
+FOCUS_ASKED, FOCUS_OFF = b"\x1b[?1004h", b"\x1b[?1004l"
+
 # The most characters of a title.
 MOST_TITLE = 200
 
@@ -79,8 +82,8 @@ class OuterModes:
         self.title = ""
         self.has_kept = False
         self.shape = 0
-        # The requested mouse reports: none, `drags` or `motion`.
-        self.reports = ""
+        # The requested mouse reports: none, `drags` or `motion`. True if focus reports are requested too.
+        self.reports, self.has_focus = "", False
         # True if extended keys were requested; and the terminal's previous setting, if it answered.
         self.has_keys = False
         self.keys_before, self.has_answered = 0, False
@@ -109,6 +112,13 @@ class OuterModes:
         self.reports = reports
         return ASKED[reports]
 
+    def focus_asked(self, is_on: bool) -> bytes:
+        """Return the sequence that requests focus reports, or stops them; nothing if that is so already."""
+        if not self.is_able or is_on == self.has_focus:
+            return b""
+        self.has_focus = is_on
+        return FOCUS_ASKED if is_on else FOCUS_OFF
+
     def keys_asked(self, is_first: bool = False) -> bytes:
         """Return the request for extended keys, the first time with a query of the previous setting.
 
@@ -124,8 +134,9 @@ class OuterModes:
             self.keys_before, self.has_answered = before, True
 
     def taken_back(self) -> bytes:
-        """Return the sequences that restore the terminal: title, cursor shape, mouse reports and extended keys. Nothing is set then."""
-        text = (OFF if self.reports else b"") + (TITLE_BACK if self.has_kept else b"") + (shaped(0) if self.shape else b"")
+        """Return the sequences that restore the terminal: title, cursor shape, reports and extended keys. Nothing is set then."""
+        text = self.focus_asked(False) + (OFF if self.reports else b"")
+        text += (TITLE_BACK if self.has_kept else b"") + (shaped(0) if self.shape else b"")
         text += given_back(self.keys_before) if self.has_keys else b""
         self.has_keys = False
         self.title, self.has_kept, self.shape, self.reports = "", False, 0, ""
@@ -182,8 +193,8 @@ class OuterTerminal:
         self.is_taken = True
         self.write(self.outer_modes.keys_asked() + tty.ENTERED)
         self.is_application = False
-        # Another process may have changed its mouse reports.
-        self.outer_modes.reports = ""
+        # Another process may have changed its reports.
+        self.outer_modes.reports, self.outer_modes.has_focus = "", False
 
     def set_title_and_shape(self, title: str, shape: int) -> None:
         """Set its title and cursor shape until it is restored."""
@@ -192,6 +203,10 @@ class OuterTerminal:
     def ask(self, reports: str) -> None:
         """Request mouse reports: none, `drags`, or all `motion`."""
         self.write(self.outer_modes.asked(reports))
+
+    def ask_focus(self, is_on: bool) -> None:
+        """Request reports of its focus, or no more of them."""
+        self.write(self.outer_modes.focus_asked(is_on))
 
     def ask_colours(self) -> None:
         """Query its colours. Answers arrive among the input, if at all."""

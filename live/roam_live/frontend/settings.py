@@ -6,9 +6,10 @@ import time
 
 from roam_live.common.errors import Fault
 from roam_live.common.event_loop import Loop
+from roam_live.common.text import printable
 from roam_live.config.environment import BY_FILE, STATUS_INTERVAL, chosen_prediction, chosen_prefix, number_of, text_of, wants_mouse
 from roam_live.config.styled_text import ROW_STYLE, Styled
-from roam_live.config.user_file import OWN
+from roam_live.config.user_file import NAME, OWN
 from roam_live.frontend.commands import Commands
 from roam_live.frontend.display import Display
 from roam_live.frontend.interpreter import Interpreter
@@ -106,7 +107,7 @@ class StatusRow:
 TOLD = 3.0
 
 # The message after the settings are reloaded.
-READ = "roam.conf was read"
+READ = "{} was read"
 
 
 class FrontSettings:
@@ -126,12 +127,14 @@ class FrontSettings:
         self.keyboard.modes.keymap.own = OWN.found.bindings if OWN.found else {}
 
     def read(self, path: str = "") -> None:
-        """Apply the settings file in its current state, and another file if named."""
+        """Apply the settings file in its current state, or another file too if named, and run its shell commands. Fault gives the reason if
+        that can't be read.
+        """
         if path:
             OWN.add(path)
         else:
             OWN.read()
-        self.go_by(READ)
+        self.go_by(READ.format(printable(os.path.basename(path)) if path else NAME))
         self.run_file()
 
     def filled(self, text: str) -> str:

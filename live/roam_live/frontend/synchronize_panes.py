@@ -45,9 +45,9 @@ ALONE = "pasted into the active pane only: {}"
 UNTOLD = "keys go to the active pane: the server does not report its panes"
 
 
-def part(acts: list[str], pane: int) -> list[str]:
-    """Return the same acts for any pane."""
-    return acts
+def same_in_each(acts: list[str]) -> Typed:
+    """Return a key that types the same acts in any pane."""
+    return lambda pane: acts
 
 
 def packed(groups: list[list[str]], back: str) -> list[list[str]]:
@@ -154,7 +154,7 @@ class Synchronizing:
     def add(self, acts: list[str]) -> None:
         """Add the acts of a key, or of many."""
         for begin in range(0, len(acts), MOST_OF_KEY):
-            self.keys.append(lambda pane, some=acts[begin : begin + MOST_OF_KEY]: part(some, pane))
+            self.keys.append(same_in_each(acts[begin : begin + MOST_OF_KEY]))
 
     def settle(self, is_last: bool = False) -> None:
         """Type the waiting keys. While the focus is unreported they wait, unless this is the last time."""

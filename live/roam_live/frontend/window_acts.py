@@ -8,6 +8,7 @@ from roam_live.frontend.effects import Effect
 from roam_live.frontend.line_editor import AskedLine
 from roam_live.frontend.modes import ConfirmMode, CopyPasteMode, LineMode, ModeStack, PastingMode, ScrollMode
 from roam_live.frontend.paste import PasteIntake, Pastes
+from roam_live.input.keys import Key, acts_of
 from roam_live.protocol.client_link import TYPES, ClientLink
 from roam_live.protocol.host_client import HostClient
 from roam_live.protocol.panes import MOVES, Places
@@ -76,6 +77,11 @@ class WindowActs:
         self.settles()
         self.pastes.type_together(*acts)
         self.note_moves(*acts)
+
+    def report_focus(self, key: Key) -> None:
+        """Hand a focus report of the terminal to the focused program, if it wants them."""
+        if self.panes.wants_focus and not self.paused:
+            self.act_together(*acts_of(key))
 
     def unpasted(self) -> str:
         """Return the reason that nothing is pasted now, "" if pastes work."""

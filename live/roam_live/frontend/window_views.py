@@ -27,9 +27,12 @@ if TYPE_CHECKING:
 # Seconds for which a message about lost input is shown.
 LOSS_TOLD = 3.0
 
+# The timer for the end of a server that had ended before it could be watched.
+ENDED_BEFORE = "server has ended"
+
 
 def opened_server(session: AnySession) -> int | None:
-    """Return a pidfd of the process whose end is a window's; None if it is unknown. Fault gives the reason of a failure."""
+    """Return a pidfd of the process whose end is a window's; None if it has ended, or is unknown. Fault gives the reason of a failure."""
     process = session.process(session.served)
     return opened_process(process) if process else None
 
@@ -48,13 +51,16 @@ class WindowView:
     # ---- the server
 
     def watch(self, loop: Loop, server: int | None, ends: Callable[[], object]) -> None:
-        """Watch for the end of the window's server, by its pidfd."""
+        """Watch for the end of the window's server, by its pidfd. An end before this call counts as one now."""
         self.server = server
         if server is not None:
             loop.add(server, ends)
+        elif self.session.has_met():
+            loop.later(ENDED_BEFORE, 0.0, ends)
 
     def watch_no_more(self, loop: Loop) -> None:
         """Stop watching for that end."""
+        loop.drop(ENDED_BEFORE)
         if self.server is not None:
             loop.remove(self.server)
             os.close(self.server)
@@ -186,7 +192,8 @@ class ViewMaker:
 
     def followed(self, session: AnySession) -> PanesSubscriber:
         """Return the subscription to a window's panes."""
-        panes = PanesSubscriber(session.folder, self.loop, lambda: self.here().panes_changed(), self.untold)
+        panes = PanesSubscriber(session.folder, self.loop, lambda: self.here().panes_changed(), self.untold,
+                                lambda process: session.is_peer("panes", process))
         panes.rings = lambda pane: self.here().panes.ring(pane)
         if self.has_clips:
             panes.follow_clips(lambda text, making: self.here().acts.set_clip(text, making))

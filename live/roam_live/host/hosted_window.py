@@ -45,7 +45,10 @@ class HostedWindow:
     """A window: its processes, its panes once they are followed, and a call for its opening."""
 
     def __init__(self, processes: WindowProcesses, told: Callable[[int, str], object]) -> None:
-        self.number, self.state, self.processes, self.told = processes.number, processes.state, processes, told
+        self.number: int = processes.number
+        self.state: WindowState = processes.state
+        self.processes: WindowProcesses = processes
+        self.told = told
         self.stage = OPENING
         processes.read_name()
         self.host: WindowHost | None = None

@@ -35,7 +35,7 @@ class Placeholders:
         if not self.rest and b"\xc2" not in typed:
             return [typed]
         text, self.rest = self.rest + typed, b""
-        parts = PLACEHOLDER.split(text)
+        parts: list[bytes] = PLACEHOLDER.split(text)
         begun = BEGUN.search(parts[-1], max(0, len(parts[-1]) - LONGEST_BEGUN))
         if begun:
             self.rest, parts[-1] = begun[0], parts[-1][: begun.start()]

@@ -12,8 +12,7 @@ from roam_live.common.errors import Fault, log_to, reason
 from roam_live.common.files import replace_text
 from roam_live.common.process import begun
 from roam_live.host.window import MENDED, UNMENDED
-from roam_live.session.environment import begin_agent
-from roam_live.session.names import BUILD, WINDOWS_VERSION, window_folder, windows_folder
+from roam_live.session.names import BUILD, WINDOWS_VERSION, windows_folder
 from roam_live.session.roles import ROLES
 
 TYPE_CHECKING = False
@@ -22,16 +21,8 @@ if TYPE_CHECKING:
     from roam_live.host.windows import Windows
     from roam_live.session.local import LocalSession
 
-# Suffixes of a session whose name was taken run from 2 to LAST_NUMBER. LONGEST_NAME is the limit of a session's name.
-LAST_NUMBER = 999
-LONGEST_NAME = 32
-
-RENAMED = "the session's folder was removed and another session has its name; this session is now called {}"
-
-
-def names_beside(name: str) -> list[str]:
-    """Return the names to try for a session whose name is taken."""
-    return [f"{name[: LONGEST_NAME - len(str(number)) - 1]}-{number}" for number in range(2, LAST_NUMBER + 1)]
+# The reason that nothing is restored.
+TAKEN = "another session has this session's name by now; `mux kill {}` ends that one"
 
 
 def renew_log(folder: str) -> None:
@@ -85,11 +76,10 @@ class Mending:
             self.windows.common.tell(words)
 
     def mend(self, session: LocalSession) -> None:
-        """Restore everything, under a new name if another session has this one. The caller has the session's lock."""
-        common, told = self.windows.asked.common, MENDED
+        """Restore everything, unless another session has the name. The caller has the session's lock."""
+        common = self.windows.asked.common
         if self.is_taken(session):
-            common = self.move()
-            told = RENAMED.format(os.path.basename(common))
+            raise Fault(TAKEN.format(os.path.basename(common)))
         renew_log(common)
         self.note(common)
         for window in self.there():
@@ -100,41 +90,25 @@ class Mending:
             if window.host and window.processes.folder == window.host.asked.dir:
                 window.host.lasting.own = window.host.lasting.found()
         self.windows.common.socket.listen_again(common)
-        self.windows.common.tell(told)
+        self.windows.common.tell(MENDED)
 
     @staticmethod
     def is_taken(session: LocalSession) -> bool:
         """Return True if another session has the name by now."""
-        found = (session.process(session.served), session.listener(ROLES[session.served].socket))
+        # The host's loop waits for nobody: one that accepts no connection now counts as another session.
+        found = (session.process(session.served), session.listener(ROLES[session.served].socket, 0.0))
         return any(process not in (None, os.getpid()) for process in found)
-
-    def move(self) -> str:
-        """Give the session another name, and return its new folder."""
-        windows, before = self.windows, self.windows.asked.common
-        for name in names_beside(os.path.basename(before)):
-            common = os.path.join(os.path.dirname(before), name)
-            try:
-                os.mkdir(common, 0o700)
-            except FileExistsError:
-                continue
-            break
-        else:
-            raise Fault("no name is free for this session")
-        windows.asked.common, windows.folder = common, windows_folder(common)
-        for window in self.there():
-            window.processes.common, window.processes.folder = common, window_folder(common, window.number)
-            if window.host:
-                window.host.asked.common = common
-        begin_agent(common)
-        windows.begin_lasting()
-        return common
 
     def note(self, common: str) -> None:
         """Write the note of this process, and the window used last."""
         asked = self.windows.asked
         command = [] if asked.instead else asked.command
-        state = {"version": WINDOWS_VERSION, "command": command, BUILD: self.build, "host": [os.getpid(), begun(os.getpid())]}
+        own = {"host": [os.getpid(), begun(os.getpid())]}
         import json
+
+        from roam_live.session.start_limits import current_limits
+
+        state = {"version": WINDOWS_VERSION, "command": command, BUILD: self.build, **current_limits(), **own}
 
         replace_text(os.path.join(common, "state.json"), json.dumps(state))
         os.makedirs(windows_folder(common), 0o700, exist_ok=True)

@@ -8,7 +8,7 @@ from collections import deque
 
 from roam_live.common.errors import Fault, reason
 from roam_live.common.event_loop import Loop
-from roam_live.common.process import program
+from roam_live.common.process import is_stopped, program
 from roam_live.common.retry import Retry
 from roam_live.common.suppress import suppress
 from roam_live.config.environment import DEFAULT_ROWS, chosen_history
@@ -55,6 +55,14 @@ BEHIND = "scrollback rows were lost: the scrollback process is too slow"
 ENDED = "scrollback rows were lost: the scrollback process ended: {}; it is restarted"
 SHORT = "scrollback rows were dropped: memory is low"
 NOT_RUN = "no scrollback is stored: {}; tried again"
+
+# Reasons that a screen, or any row, is missing. The row of the first kind stands in place of the screen.
+NO_SCREEN = " [the screen is missing here: {}]\n"
+OFF = "no rows are stored, since ROAM_HISTORY is 0"
+NO_PANE = "it has no such pane any more"
+RESTARTS = "the scrollback process ended, and is restarted soon"
+STOPPED = "the scrollback process is stopped"
+SILENT = "the scrollback process does not answer"
 
 
 # A window has nine panes at most, so multiples of this keep the numbers of windows apart.
@@ -394,11 +402,11 @@ class Scrollback:
         if record.word == ROWS:
             self.add_rows(pane.rows, record)
         elif record.word == LOST:
-            pane.rows.lose(record.count)
+            pane.rows.lose(record.rows)
         elif record.word == CLEARED:
             pane.rows.clear()
         elif record.word == BACK:
-            self.take_back(pane, record.count)
+            self.take_back(pane, record.rows)
         elif record.word in ANSWERS:
             self.take_answer(pane, record)
         elif pane.terminal == record.terminal:
@@ -421,15 +429,15 @@ class Scrollback:
         """Answer the oldest request for the screen of a pane."""
         told = pane.awaited.popleft() if pane.awaited and not pane.is_gone else None
         if told:
-            told(self.room.snapshot(pane.rows, record.count, record.data))
+            told(self.room.snapshot(pane.rows, record.rows, record.data))
 
     def add_rows(self, rows: PaneRows, record: ScrollbackRecord) -> None:
         """Store rows. If memory is short, older ones are dropped and these are lost."""
         try:
-            rows.add(record.count, record.data)
+            rows.add(record.rows, record.data)
         except MemoryError:
             self.shed()
-            rows.lose(record.count)
+            rows.lose(record.rows)
 
     # ---- requests
 
@@ -443,12 +451,36 @@ class Scrollback:
         return pane
 
     def ask_snapshot(self, number: int, generation: int, told: Told) -> None:
-        """Request a snapshot. It comes once the scrollback process has reported the screen; None if that fails."""
-        pane = self.pane(number, generation)
-        if pane and self.has_room() and len(pane.awaited) < MOST_AWAITED:
-            self.ask_screen(pane, told)
-        else:
+        """Request a snapshot. It comes once the scrollback process has reported the screen.
+
+        If that fails, a row with the reason stands in place of the screen; None if no rows are stored either.
+        """
+        found = self.pane(number, generation)
+        if not found:
             told(None)
+            return
+        pane: PaneScrollback = found
+        if self.has_room() and len(pane.awaited) < MOST_AWAITED and self.why_silent() != STOPPED:
+            self.ask_screen(pane, lambda snapshot: told(snapshot or self.stored(pane)))
+        else:
+            told(self.stored(pane))
+
+    def stored(self, pane: PaneScrollback) -> Snapshot | None:
+        """Return a snapshot of the stored rows alone, with the reason in place of the screen; None if there are none."""
+        rows = pane.rows.range()
+        if pane.is_gone or rows.first == rows.end:
+            return None
+        return self.room.snapshot(pane.rows, 1, NO_SCREEN.format(self.why_silent()).encode())
+
+    def why_silent(self) -> str:
+        """Return the reason that the scrollback process reports no screen."""
+        if not self.process or not self.process.is_there:
+            return RESTARTS
+        return STOPPED if is_stopped(self.process.process) else SILENT
+
+    def why_none(self, number: int, generation: int) -> str:
+        """Return the reason that a pane has no rows for a peer."""
+        return OFF if self.is_off else self.why_silent() if self.pane(number, generation) else NO_PANE
 
     def ask_screen(self, pane: PaneScrollback, told: Told) -> None:
         """Request a screen from the scrollback process, which has room."""

@@ -36,7 +36,7 @@ WITH_ROWS, ANSWERS = (ROWS, SCREEN), (TEXT, LATER, OTHER, NONE)
 MOST_RECORD = 1 << 24
 LONGEST_LINE = 64
 
-# This much of its last message is reported.
+# The most bytes of its newest messages that are kept, and reported at its end.
 MOST_SAID = 200
 
 # Output goes to it in batches of this size, after so many seconds, or before a request, since each record has a cost.
@@ -62,7 +62,7 @@ class ScrollbackRecord(NamedFields):
 
     word: str
     terminal: int
-    count: int
+    rows: int
     data: bytes
 
 
@@ -132,7 +132,7 @@ class ScrollbackRecords:
     def made(self, data: bytes) -> ScrollbackRecord:
         """Return a record with its bytes, which have as many rows as it claims."""
         record = ScrollbackRecord(*self.head, data)
-        if record.word in WITH_ROWS and (data.count(b"\n") != record.count or data[-1:] not in (b"", b"\n")):
+        if record.word in WITH_ROWS and (data.count(b"\n") != record.rows or data[-1:] not in (b"", b"\n")):
             raise BadRecord("it printed a wrong number of rows")
         return record
 
@@ -181,11 +181,15 @@ class ScrollbackProcess:
         self.chunks_size = 0
         # True if the queue is to be sent now.
         self.is_due = False
+        # The newest bytes of its messages.
+        self.said = b""
         # True while it accepts and prints records; the reason for its end.
         self.is_there = True
         self.why = ""
         loop.add(self.input, None, self.write, has_more=self.has_batch, fails=self.fail, is_told=True)
         loop.add(self.output, self.hear, hears=reads, fails=self.fail)
+        # A full pipe would stop it for good.
+        loop.add(self.error, self.hear_error)
 
     def size(self) -> int:
         """Return the number of bytes that wait for it."""
@@ -271,6 +275,13 @@ class ScrollbackProcess:
             self.sheds()
             return self.records.fed(chunk)
 
+    def hear_error(self) -> None:
+        """Read its messages, of which the newest are kept."""
+        chunk = read(self.error)
+        self.said = (self.said + (chunk or b""))[-MOST_SAID:]
+        if chunk == b"":
+            self.loop.remove(self.error)
+
     # ---- its end
 
     def end(self, why: str) -> None:
@@ -312,9 +323,10 @@ class ScrollbackProcess:
         if not process:
             self.loop.later(f"reap rows {self.process}", REAPS, self.reap)
             return
-        said = read(self.error) or b""
+        self.hear_error()
+        self.loop.remove(self.error)
         os.close(self.error)
         self.loop.drop(f"end rows {self.process}")
         self.process = 0
-        why = one_line(said.decode("utf-8", "replace"))[:MOST_SAID] or self.why
+        why = one_line(self.said.decode("utf-8", "replace")) or self.why
         self.ended(why, None if status < 0 else os.waitstatus_to_exitcode(status))

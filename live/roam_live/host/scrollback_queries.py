@@ -18,6 +18,9 @@ if TYPE_CHECKING:
 SEARCHES = 0.01
 TELLS_MORE = 0.5
 
+# The reason that a peer's snapshot has no rows.
+DROPPED = "the snapshot took too much memory and was dropped"
+
 # The directions of a search.
 WAYS = {BACK: True, ON: False}
 
@@ -99,7 +102,13 @@ class RowAsker:
     def count(self, pane: int, generation: int) -> None:
         """Send the numbers of the rows."""
         among = self.range(pane, generation)
-        self.say(f"{COUNT} {pane} {generation} {among.first} {among.end}" if among else f"{COUNT} {pane} {generation} {NONE}")
+        self.say(f"{COUNT} {pane} {generation} {among.first} {among.end}" if among else self.refusal(COUNT, pane, generation))
+
+    def refusal(self, word: str, pane: int, generation: int) -> str:
+        """Return the answer that there are no rows, with the reason."""
+        held = self.snapshot
+        is_lost = held and held.is_lost and (held.pane, held.generation) == (self.key(pane), generation)
+        return f"{word} {pane} {generation} {NONE} {DROPPED if is_lost else self.scrollback.why_none(self.key(pane), generation)}"
 
     def rows(self, pane: int, generation: int, first: int, count: int) -> None:
         """Send rows."""
@@ -148,7 +157,7 @@ class RowAsker:
             self.say(f"{SNAPSHOT} {pane} {generation} {snapshot.first} {snapshot.scrollback_end} {screen.count} {len(screen.data)}",
                      screen.data)
         else:
-            self.say(f"{SNAPSHOT} {pane} {generation} {NONE}")
+            self.say(self.refusal(SNAPSHOT, pane, generation))
         if not self.is_asking:
             self.goes_on()
 

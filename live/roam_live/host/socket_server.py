@@ -127,7 +127,7 @@ class HostSocket:
     def add(self, channel: WindowChannel) -> None:
         """Add a window, with the terminals that already announced themselves there."""
         self.channels[channel.window] = channel
-        for peer in self.peers:
+        for peer in list(self.peers):
             if peer.channel is None and peer.at is not None and self.channel(peer.at) is channel:
                 channel.take_up(peer)
 
@@ -271,13 +271,13 @@ class HostSocket:
 
     def tell_logged(self, rows: PaneRows) -> None:
         """Send the log readers of a pane its new rows."""
-        for peer in self.peers:
+        for peer in list(self.peers):
             if peer.asker and peer.asker.logged and peer.asker.logged.rows is rows and not peer.is_full():
                 peer.asker.tell_logged()
 
     def skip_logged(self, rows: PaneRows, end: int, withdrawn: list[bytes]) -> None:
         """Have the log readers of a pane skip rows that are withdrawn from a number on, once they leave again."""
-        for peer in self.peers:
+        for peer in list(self.peers):
             if peer.asker and peer.asker.logged and peer.asker.logged.rows is rows:
                 peer.asker.skip_logged(end, withdrawn)
 

@@ -253,6 +253,8 @@ class SessionState(StateRecord):
     # Waiting texts by name, and the fate of the last finished ones.
     pastes: dict[str, PendingPaste] = field(map_of(NAMED, record_of(PendingPaste), MOST_TEXTS), dict)
     spent_pastes: dict[str, str] = field(map_of(NAMED, one_of(INSERTED, LOST), MOST_SPENT), dict)
+    # True once the shell commands of the settings file were run.
+    has_run_settings: bool = field(flag, bool)
 
     def window(self, number: int) -> WindowState:
         """Return the window of a number, and create it if necessary."""

@@ -187,8 +187,9 @@ class WindowHost:
                 self.resizers[number].resize((rect.rows, rect.cols))
 
     def has_begun(self) -> bool:
-        """Return True if a pane's command runs, or the pane shows the reason of a failure."""
-        return any(pane.is_connected and (pane.runs() or pane.is_again or pane.to_pane or pane.written) for pane in self.panes.values())
+        """Return True if a pane's command was run, even if it has ended, or the pane shows the reason of a failure."""
+        return any(pane.is_connected and (pane.state.process is not None or pane.is_again or pane.to_pane or pane.written)
+                   for pane in self.panes.values())
 
     def folder_of_new(self) -> str:
         """Return the folder of a new pane's command: that of the focused pane's foreground program, else the server's."""

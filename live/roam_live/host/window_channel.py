@@ -29,7 +29,7 @@ class WindowChannel:
         self.state = socket.state.window(window)
         self.peers: list[HostPeer] = []
         # Start options for new panes.
-        self.handed = HandedCommands(self.loop, lambda peer, line: socket.send(peer, [line], SESSION))
+        self.handed: HandedCommands = HandedCommands(self.loop, lambda peer, line: socket.send(peer, [line], SESSION))
         # The notice that each new terminal gets.
         self.standing = ""
         self.zoom = self.state.zoom

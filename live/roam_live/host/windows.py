@@ -6,10 +6,12 @@ import os
 
 from roam_live.common.errors import Fault, reason, say
 from roam_live.common.files import replace_text
+from roam_live.common.process import note_ends
 from roam_live.common.signals import signal
 from roam_live.common.suppress import suppress
 from roam_live.common.tty import LEAST
 from roam_live.common.unix_socket import connected_now
+from roam_live.config.user_file import OWN
 from roam_live.host.common import Common
 from roam_live.host.hosted_window import ENDING, OPENING, OPENS, THERE, HostedWindow, SizeAct, WindowProcesses
 from roam_live.host.options import Options
@@ -20,7 +22,7 @@ from roam_live.host.window import WindowHost
 from roam_live.host.window_commands import WindowLines
 from roam_live.protocol.window_lines import ACTIVITY, BELL, GONE, MOST_WINDOWS, RUNS
 from roam_live.session.foreground import working_folder
-from roam_live.session.names import note_ends, numbers_in, windows_folder
+from roam_live.session.names import numbers_in, windows_folder
 from roam_live.session.roles import CLIENT, SERVER
 from roam_live.session.tmp_keepalive import Lasting
 
@@ -71,11 +73,6 @@ class Windows:
         else:
             self.take_over()
 
-    def begin_lasting(self) -> None:
-        """Lock the folder that the session has from now on, and release the previous one."""
-        self.lasting.let_go()
-        self.lasting = Lasting(self.asked.common)
-
     # ---- requests
 
     def named(self) -> dict[int, str]:
@@ -116,6 +113,7 @@ class Windows:
             return
         spare = WindowProcesses(self.asked.common, WindowState(number=number))
         try:
+            self.lasting.demand()
             spare.make_folder()
             spare.mark_spare(True)
             self.common.hung.append(spare.spawn_server())
@@ -226,6 +224,7 @@ class Windows:
     def begin(self, window: HostedWindow) -> None:
         """Open a window with its server."""
         try:
+            self.lasting.demand()
             window.processes.make_folder()
             if not window.processes.runs(SERVER):
                 self.common.hung.append(window.processes.spawn_server())
@@ -246,7 +245,7 @@ class Windows:
         processes = window.processes
         if window.is_given:
             processes.read()
-            window.is_given = not processes.runs(SERVER)
+            window.is_given = SERVER not in processes.noted
         try:
             is_there = self.follow(window) and (window.is_again or self.has_come(window))
         except (OSError, Fault) as fault:
@@ -273,13 +272,13 @@ class Windows:
             return False
         if not window.is_again and not os.path.exists(processes.path("session")):
             return False
+        if window.has_client and not self.has_client(processes):
+            return False
         try:
             peer = connected_now(processes.path("panes"))
         except SOON_THERE:
             return False
         try:
-            if window.has_client and not processes.runs(CLIENT):
-                self.common.hung.append(processes.spawn_client())
             asked = self.asked.of_window(window.number, processes.folder, processes.server(), window.is_again)
             size = (window.size[0] - 1, window.size[1]) if window.size else None
             window.host = WindowHost(asked, self.common, peer, size, window.begins_in, window.begins)
@@ -287,6 +286,27 @@ class Windows:
         except BaseException:
             peer.close()
             raise
+        return True
+
+    def has_client(self, processes: WindowProcesses) -> bool:
+        """Return True if a window's client process runs. It is spawned under the session's lock, since `mux attach` may do that too."""
+        if processes.runs(CLIENT):
+            return True
+        try:
+            from roam_live.session.local import LocalSession
+
+            lock = LocalSession(self.asked.common).taken_lock(may_wait=False)
+        except BlockingIOError:
+            return False
+        except ImportError:
+            # The files of roam were removed: no other process starts one either.
+            lock = -1
+        try:
+            if not processes.runs(CLIENT):
+                self.common.hung.append(processes.spawn_client())
+        finally:
+            if lock >= 0:
+                os.close(lock)
         return True
 
     def has_come(self, window: HostedWindow) -> bool:
@@ -415,6 +435,7 @@ class Windows:
         try:
             if not self.windows:
                 self.open(None, 0, self.first)
+            self.run_settings()
             while not self.common.is_over:
                 self.loop.turn()
             self.end_all()
@@ -423,6 +444,14 @@ class Windows:
         if self.refusal:
             raise Fault(f"cannot open a window: {self.refusal}")
         return 0
+
+    def run_settings(self) -> None:
+        """Run the shell commands of the settings file, once in a session's life."""
+        is_new, self.state.has_run_settings = self.asked.is_first and not self.state.has_run_settings, True
+        if is_new and OWN.found and OWN.found.runs:
+            from roam_live.host.start_commands import StartCommands
+
+            StartCommands(self.loop, OWN.found.runs, self.common.tell)
 
     def first(self, number: int, why: str) -> None:
         """Handle the first window, without which there is no session."""

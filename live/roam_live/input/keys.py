@@ -6,7 +6,7 @@ import codecs
 from roam_live.common.named_fields import NamedFields
 from roam_live.common.patterns import LazyPattern
 from roam_live.input.extended_keys import ANSWERED, BEGIN as BEGINS_ANSWER, META, ExtendedKey, answered, extended_key
-from roam_live.input.mouse_reports import BEGIN, MOUSE
+from roam_live.input.mouse_reports import BEGIN, FOCUS_REPORTS, FOCUSED, MOUSE
 from roam_live.protocol.colours import BEGINS, COLOUR, FORM, begun_at
 
 
@@ -137,6 +137,8 @@ def name_of(text: str) -> str:
         return COLOUR
     if text.startswith(BEGINS_ANSWER) and answered(text) is not None:
         return ANSWERED
+    if text in FOCUS_REPORTS:
+        return FOCUSED
     return text if len(text) == 1 else SPELLINGS.get(text, "unknown")
 
 

@@ -7,6 +7,10 @@ from roam_live.common.patterns import LazyPattern
 # The name of a report among the keys; its start, which no key shares; and a whole report: button and flags, column, row, and press or
 # release.
 MOUSE = "mouse"
+
+# The name of a focus report, and the two reports of a terminal: it has the focus, or has lost it (xterm, 1004).
+FOCUSED = "focused"
+FOCUS_REPORTS = ("\x1b[I", "\x1b[O")
 BEGIN = "\x1b[<"
 REPORT = LazyPattern(r"(?a)\x1b\[<(\d{1,3});(\d{1,5});(\d{1,5})([Mm])")
 

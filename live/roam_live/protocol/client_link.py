@@ -9,7 +9,7 @@ from roam_live.common.event_loop import READ, WRITE, ready
 from roam_live.common.files import is_disk_full
 from roam_live.common.io import read
 from roam_live.common.retry import Retry
-from roam_live.common.unix_socket import SHUT_WR, SocketPeer, connected_now
+from roam_live.common.unix_socket import SHUT_WR, SocketPeer, connected_to, is_anybody
 from roam_live.protocol.display_records import NoRecord, Records
 
 TYPE_CHECKING = False
@@ -47,6 +47,7 @@ PASTED = "paste ; "
 # The reason of a lost link.
 LOST = "the client process ended; the last keys may be lost"
 NO_MORE = "at most 16 terminals may attach"
+REPLACED = "another session has the name of this one by now"
 LET_GO = "this terminal was disconnected; the last keys may be lost"
 NO_RECORDS = "the client process there sends no display records"
 REFUSED = "the client process refused a line"
@@ -100,9 +101,9 @@ class ClientLink:
             raise ValueError("a link that isn't connected was asked for its connection")
         return self.peer
 
-    def connect(self) -> None:
-        """Connect to the client."""
-        self.peer = connected_now(self.path)
+    def connect(self, is_peer: Callable[[int], bool] = is_anybody) -> None:
+        """Connect to the client, unless a call refuses the process there."""
+        self.peer = connected_to(self.path, is_peer)
         self.process = SocketPeer.of(self.peer).process
         self.since, self.sent = time.monotonic(), 0
         self.acts = 0
@@ -307,7 +308,7 @@ class Reconnector:
     def connect(self) -> tuple[float, str] | None:
         """Connect if possible now. Otherwise return the seconds until the next try, and a reason for the user if there is one."""
         try:
-            self.link.connect()
+            self.link.connect(lambda process: self.session.is_peer("terminals", process))
             return None
         except PermissionError as fault:
             return self.failed(f"{self.link.path}: {reason(fault)}")
@@ -326,6 +327,8 @@ class Reconnector:
 
     def begin(self, now: float) -> tuple[float, str]:
         """Spawn a client, whose socket comes soon."""
+        if self.session.is_replaced():
+            return self.failed(REPLACED)
         try:
             self.session.revive()
         except (Fault, OSError) as fault:

@@ -4,21 +4,16 @@ from __future__ import annotations
 import socket
 
 from roam_live.common.io import read, write
+from roam_live.protocol.datagram_layout import INDEX_PLACES, LETTERS, LONGEST, SHORTEST
 
-# A datagram has a header of 42 bytes, which begins with these letters, and 1 to 1,200 bytes after it.
-LETTERS = b"RM"
-SHORTEST, LONGEST = 43, 1242
-
-# These bytes of a datagram contain its index in its instruction, from 0. An instruction is queued whole while less than this waits;
-# otherwise it is dropped whole.
-INDEX = slice(36, 38)
+# An instruction is queued whole while less than this waits; otherwise it is dropped whole.
 LITTLE = 1 << 16
 MOST = LITTLE + (1 << 22)
 
 
 def is_datagram(text: bytes) -> bool:
     """Return True if this may be a datagram of roam."""
-    return SHORTEST <= len(text) <= LONGEST and text[:2] == LETTERS
+    return SHORTEST <= len(text) <= LONGEST and text[: len(LETTERS)] == LETTERS
 
 
 class Carrier:
@@ -53,7 +48,7 @@ class Carrier:
 
     def send(self, datagram: bytes) -> None:
         """Queue a datagram: all of an instruction or none."""
-        if datagram[INDEX] == b"\0\0":
+        if datagram[INDEX_PLACES] == b"\0\0":
             self.takes = len(self.going) <= LITTLE
         self.takes = self.takes and len(self.going) <= MOST
         if self.takes:

@@ -5,7 +5,7 @@ import os
 
 from roam_live.common.event_loop import Loop
 from roam_live.common.io import read
-from roam_live.common.unix_socket import connected_now
+from roam_live.common.unix_socket import connected_to, is_anybody
 from roam_live.protocol.colours import COLOUR, Colours, told_in
 from roam_live.protocol.host_lines import SESSION, led
 from roam_live.protocol.panes_client import LET_GO, Subscription
@@ -51,9 +51,10 @@ class HostLink(Subscription):
 
     again = "follow host"
 
-    def __init__(self, folder: str | os.PathLike[str] | None, loop: Loop, size: Callable[[], Size], is_read_only: bool) -> None:
+    def __init__(self, folder: str | os.PathLike[str] | None, loop: Loop, size: Callable[[], Size], is_read_only: bool,
+                 is_peer: Callable[[int], bool] = is_anybody) -> None:
         path = self.path = os.path.join(folder, "host") if folder else ""
-        super().__init__(lambda: connected_now(path), loop, lambda lines: None, self.forget)
+        super().__init__(lambda: connected_to(path, is_peer), loop, lambda lines: None, self.forget)
         self.begun = loop.clock()
         self.name, self.size, self.kind = terminal_name(), size, "read-only" if is_read_only else "read-write"
         # The views of each window that the user has visited, and of the current one.

@@ -7,9 +7,9 @@ from roam_live.common.errors import reason, say
 from roam_live.common.event_loop import Loop
 from roam_live.common.io import LineReader, write
 from roam_live.common.retry import Retry
-from roam_live.common.unix_socket import SocketPeer, connected, connected_now
+from roam_live.common.unix_socket import SocketPeer, connected, connected_now, connected_to, is_anybody
 from roam_live.protocol.host_lines import BAD_LINE
-from roam_live.protocol.panes import BRACKETED, CLIPBOARD, KEYPAD, LONGEST_LINE, METADATA, PanesState, Places
+from roam_live.protocol.panes import BRACKETED, CLIPBOARD, FOCUS, KEYPAD, LONGEST_LINE, METADATA, PanesState, Places
 from roam_live.protocol.queries import QUERIES
 
 TYPE_CHECKING = False
@@ -213,7 +213,8 @@ class PanesSubscriber:
     One call takes changes; another takes the reason for missing reports, which the user sees once.
     """
 
-    def __init__(self, folder: FilePath | None, loop: Loop, changed: Callable[[], object], tells: Callable[[str], object]) -> None:
+    def __init__(self, folder: FilePath | None, loop: Loop, changed: Callable[[], object], tells: Callable[[str], object],
+                 is_peer: Callable[[int], bool] = is_anybody) -> None:
         self.folder, self.loop, self.changed, self.tells = folder, loop, changed, tells
         self.told = PanesState()
         self.places: Places | None = None
@@ -222,6 +223,8 @@ class PanesSubscriber:
         self.focus_modes: list[str] = []
         # True if that program requested the keypad's application codes.
         self.has_application_keypad = False
+        # True if it wants reports of the terminal's focus.
+        self.wants_focus = False
         # Called with a clipboard text that the focused program set, and the generation of its pane.
         self.clipped: Callable[[str, str], object] = lambda text, making: None
         # Called with each pane whose bell rang.
@@ -231,7 +234,7 @@ class PanesSubscriber:
         self.probes: list[Callable[[], object]] = []
         self.awaited_until = loop.clock() + AWAITED if folder else 0.0
         path = os.path.join(folder, "panes") if folder else ""
-        self.subscription = Subscription(lambda: connected_now(path), loop, self.hear, self.lose)
+        self.subscription = Subscription(lambda: connected_to(path, is_peer), loop, self.hear, self.lose)
         self.subscription.want(METADATA)
         if folder:
             self.subscription.connect()
@@ -294,7 +297,7 @@ class PanesSubscriber:
         before, self.places = (self.places, self.title_and_shape, self.focus_modes), self.told.places()
         self.title_and_shape = self.told.title_and_shape(self.places.focus) if self.places else ("", 0)
         self.focus_modes = self.modes(self.places.focus) if self.places else []
-        self.has_application_keypad = KEYPAD in self.focus_modes
+        self.has_application_keypad, self.wants_focus = KEYPAD in self.focus_modes, FOCUS in self.focus_modes
         self.was_told = self.was_told or self.places is not None
         if (self.places, self.title_and_shape, self.focus_modes) != before:
             self.changed()
@@ -309,7 +312,7 @@ class PanesSubscriber:
         subscription, was_told = self.subscription, self.places is not None
         self.probes.clear()
         self.told, self.places, self.title_and_shape, self.focus_modes = PanesState(), None, ("", 0), []
-        self.has_application_keypad = False
+        self.has_application_keypad = self.wants_focus = False
         self.loop.drop("panes stand")
         if was_told:
             # A relay that changes its transport cuts forwarded connections, and they are back in a moment.

@@ -47,7 +47,8 @@ FULL = (TOO_MANY, TOO_LONG)
 def cleaned(text: str, keeps_escape: bool = False) -> str:
     """Return the part of a text to paste: LF and CR LF become CR, other control characters but TAB go. ESC may stay."""
     dropped = DROPPED_BUT_ESCAPE if keeps_escape else DROPPED
-    return dropped.sub("", text.replace("\r\n", "\r").replace("\n", "\r"))
+    clean: str = dropped.sub("", text.replace("\r\n", "\r").replace("\n", "\r"))
+    return clean
 
 
 def without_brackets(text: bytes) -> bytes:

@@ -129,7 +129,7 @@ class AnswerReader:
         if number is None:
             raise BadAnswer(line[:80])
         words = line.split(" ")
-        if len(words) == self.LENGTHS.get(words[0]) or words[:2] == [BUFFER, SHOW] and words[3:] != [NONE]:
+        if len(words) == self.LENGTHS.get(words[0]) and words[3] != NONE or words[:2] == [BUFFER, SHOW] and words[3:] != [NONE]:
             self.missing = number_at(words, len(words) - 1)
         elif words[0] == BUFFERS:
             self.lines_missing = number_at(words, 1)
@@ -146,6 +146,8 @@ class ScrollbackClient:
         self.on_more: Callable[[int, int, int], object] = lambda pane, generation, count: None
         # The open requests in the order of their answers: the answer's word, and the call.
         self.asked: list[tuple[str, Told]] = []
+        # The reason in the last answer without rows.
+        self.refusal = ""
 
     # ---- requests
 
@@ -220,7 +222,9 @@ class ScrollbackClient:
         word, told = self.asked.pop(0)
         if not is_refusal and word != words[0]:
             raise BadAnswer(f"{words[0]} is not the answer to the request")
-        told(None if is_refusal or NONE in words[2:4] else answer)
+        is_none = NONE in words[2:4]
+        self.refusal = " ".join(words[4:]) if is_none else ""
+        told(None if is_refusal or is_none else answer)
         return True
 
     def forget(self) -> None:

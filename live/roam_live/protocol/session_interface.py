@@ -21,6 +21,9 @@ class HostedSession(Protocol):
     def process(self, role: str) -> int | None:
         """Return the process of a role such as `server`, `host` or `client`; None if none runs or is known."""
 
+    def owns_host(self) -> bool:
+        """Return True if a front end of this session restarts its pty host."""
+
     def revive_host(self) -> bool:
         """Restart the pty host if it has ended and this process may, and return True if it runs."""
 
@@ -46,6 +49,15 @@ class AnySession(HostedSession, Protocol):
 
     def runs(self, role: str | None = None) -> bool:
         """Return True if the process of a role is known to run; by default that of the role `served`."""
+
+    def is_replaced(self) -> bool:
+        """Return True if its folder is another session's by now."""
+
+    def is_peer(self, name: str, process: int) -> bool:
+        """Return True if the process at one of its sockets is its own, or unknown."""
+
+    def has_met(self) -> bool:
+        """Return True if the process of the role `served` was seen to run."""
 
     def is_served(self) -> bool:
         """Return True if a server answers at its address."""

@@ -16,6 +16,8 @@ import zlib
 from collections import namedtuple
 from collections.abc import Sequence
 
+from roam_live.protocol.datagram_layout import (ACT_COUNT_PLACES, BARE_BYTES, CURSOR_END, HEADER_BYTES, KIND_PLACE, NUMBERS_END,
+                                                TO_CLIENT)
 from roam_live.protocol.datagram_stream import is_datagram
 
 TYPE_CHECKING = False
@@ -65,13 +67,6 @@ OVERHEAD = 64
 # The most peers known each way, the limit of a relay's clients; further ones lose only a base.
 MOST_PEERS = 257
 
-# The length of a datagram's header, and the position of its kind. Then the positions of acts in a client's instruction; of the end of the
-# numbers in a server's, and of the size and the cursor after them. The last one is the most bytes of a change without cells.
-HEADER, KIND = 42, 3
-TO_CLIENT = 1
-NO_ACTS = slice(16, 18)
-NUMBERS, PLACES, LEAST_CHANGE = 32, 41, 48
-
 # A longer text is always sent with acknowledgement, and recognized by its hash.
 MOST_ONCE = 1000
 
@@ -96,17 +91,17 @@ def haste(texts: Sequence[bytes], before: bytes) -> str:
     said = saying(texts)
     if not before or len(said) > MOST_ONCE:
         return NOW
-    if texts[0][KIND] != TO_CLIENT:
-        return NOW if said[NO_ACTS] != b"\0\0" else ONCE
+    if texts[0][KIND_PLACE] != TO_CLIENT:
+        return NOW if said[ACT_COUNT_PLACES] != b"\0\0" else ONCE
     if said == before:
         return ONCE
-    is_bare = len(said) <= LEAST_CHANGE and not any(said[PLACES:])
-    return SOON if is_bare and said[NUMBERS:PLACES] == before[NUMBERS:PLACES] else NOW
+    is_bare = len(said) <= BARE_BYTES and not any(said[CURSOR_END:])
+    return SOON if is_bare and said[NUMBERS_END:CURSOR_END] == before[NUMBERS_END:CURSOR_END] else NOW
 
 
 def saying(texts: Sequence[bytes]) -> bytes:
     """Return the contents of an instruction without its numbers; for a long one its beginning and its hash."""
-    said = b"".join(text[HEADER:] for text in texts)
+    said = b"".join(text[HEADER_BYTES:] for text in texts)
     return said if len(said) <= MOST_ONCE else said[:MOST_ONCE] + hashlib.blake2b(said).digest()
 
 

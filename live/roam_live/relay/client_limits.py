@@ -11,10 +11,10 @@ from __future__ import annotations
 import contextlib
 import fcntl
 import os
-import struct
 from collections import namedtuple
 from collections.abc import Callable, Iterator
 
+from roam_live.protocol.datagram_layout import ADDRESS_LAYOUT, READ_ONLY, READ_WRITE
 from roam_live.protocol.panes import MOST_CLIENTS, MOST_WATCHERS, asked_places
 from roam_live.protocol.server_address import is_id
 from roam_live.session.names import REMOTE_CLIENTS
@@ -33,10 +33,7 @@ ASKED = 0.25
 # The placeholder for a server whose session is unknown. There no datagram counts as another session's.
 UNKNOWN = 0
 
-# A datagram's version, kind, session and client process. Then the kinds that a client sends, and for each how many a server accepts and how
-# many other machines leave.
-HEAD = struct.Struct(">2xBBQQ")
-READ_WRITE, READ_ONLY = 2, 3
+# For each kind that a client sends, how many a server accepts, and how many other machines leave.
 LIMITS = {READ_WRITE: (MOST_CLIENTS, 16), READ_ONLY: (MOST_WATCHERS, 4)}
 
 
@@ -91,7 +88,7 @@ class ClientLimit:
 
     def passes(self, datagram: bytes) -> bool:
         """Return True if a datagram may go to the server, even one that the server refuses without using memory."""
-        version, kind, session, name = HEAD.unpack_from(datagram)
+        version, kind, session, name = ADDRESS_LAYOUT.unpack_from(datagram)
         if version not in (1, 2) or kind not in LIMITS or (session, kind, name) in self.known:
             return True
         own = self.session()

@@ -12,6 +12,7 @@ from roam_live.common.errors import Fault, log_to
 from roam_live.common.event_loop import Loop, is_taken
 from roam_live.common.files import is_own_folder
 from roam_live.common.process import opened_process
+from roam_live.common.suppress import suppress
 from roam_live.common.unix_socket import connected_now
 from roam_live.protocol.datagram_stream import Carrier, is_datagram
 from roam_live.relay.aead_packets import PORTS, udp_end
@@ -162,11 +163,13 @@ class Far:
         process = heir.process("server") if heir else None
         self.loop.remove(self.server)
         os.close(self.server)
-        if heir and process:
-            self.place = heir
-            self.follow_server(process)
-        else:
-            self.tell_end()
+        # An heir that ends just now is none.
+        with suppress(Fault):
+            if heir and process:
+                self.follow_server(process)
+                self.place = heir
+                return
+        self.tell_end()
 
     def tell_end(self) -> None:
         """Report the session's end, or that its server was killed, and end."""

@@ -21,7 +21,8 @@ from collections.abc import Callable, Iterator
 
 from roam_live.common.errors import Fault
 from roam_live.common.io import read, write
-from roam_live.protocol.datagram_stream import LETTERS, LONGEST, SHORTEST, is_datagram
+from roam_live.protocol.datagram_layout import (FRAGMENT_BYTES, FRAGMENT_LAYOUT, INSTRUCTION_PLACES, LETTERS, LONGEST, SHORTEST)
+from roam_live.protocol.datagram_stream import is_datagram
 from roam_live.relay.batches import LARGE, LONGEST_TEXT, has_lzma, joined, pack_large, parted, saying, unpack_large
 from roam_live.relay.forwarding import BYTES, FORWARDS, PipeStreams
 
@@ -68,12 +69,6 @@ NOISE_LIMIT = 1 << 16
 # The most seconds between two messages of an end; and seconds for the rest of a large instruction to arrive, so that it is packed whole.
 HEARTBEAT = 3.0
 REST = 0.1
-
-# These bytes of a datagram identify its instruction; its index and the count follow. Each datagram but the last contains so many bytes of
-# it.
-INSTRUCTION = slice(28, 36)
-PLACE = struct.Struct(">36xHH")
-FRAGMENT = 1200
 
 
 class BadWords(Fault):
@@ -125,12 +120,12 @@ def demand_told(text: bytes) -> None:
 
 def instruction_of(datagram: bytes) -> bytes:
     """Return the common bytes of an instruction's fragments; nothing if this is no datagram of roam."""
-    return bytes(datagram[INSTRUCTION]) if datagram[:2] == LETTERS else b""
+    return bytes(datagram[INSTRUCTION_PLACES]) if datagram[: len(LETTERS)] == LETTERS else b""
 
 
 def is_last(datagram: bytes) -> bool:
     """Return True if a datagram is the last of its instruction."""
-    index, count = PLACE.unpack_from(datagram)
+    index, count = FRAGMENT_LAYOUT.unpack_from(datagram)
     return bool(index + 1 == count)
 
 
@@ -176,7 +171,7 @@ class Waiting:
             return 0, []
         peer, datagram = self.datagrams[0]
         first = instruction_of(datagram)
-        if not first or PLACE.unpack_from(datagram)[0]:
+        if not first or FRAGMENT_LAYOUT.unpack_from(datagram)[0]:
             return 0, []
         if is_last(datagram):
             return peer, [datagram]
@@ -191,8 +186,8 @@ class Waiting:
         first = instruction_of(datagram)
         if not first or self.newest.get(peer) != first:
             return None
-        index, count = PLACE.unpack_from(datagram)
-        return (peer, first) if index == 0 and (count - 1) * FRAGMENT > LARGE else None
+        index, count = FRAGMENT_LAYOUT.unpack_from(datagram)
+        return (peer, first) if index == 0 and (count - 1) * FRAGMENT_BYTES > LARGE else None
 
     def drop_first(self) -> None:
         """Drop the oldest datagram's instruction."""

@@ -220,7 +220,7 @@ class Near:
             replace_text(os.path.join(self.asked.dir, "session"), f"{self.session}\n")
         print(f"port {self.port.getsockname()[1] if self.port else '-'} session {self.session}", flush=True)
         if self.asked.log:
-            logs[:] = [pathlib.Path(self.asked.log)]
+            logs[:] = [self.asked.log]
             with open(self.asked.log, "ab") as log:
                 os.dup2(log.fileno(), 2)
 

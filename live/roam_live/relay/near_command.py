@@ -8,7 +8,7 @@ import subprocess
 import time
 from collections.abc import Callable, Iterator
 
-from roam_live.common.errors import make_room_in_logs
+from roam_live.common.errors import log_turn
 from roam_live.common.event_loop import Loop
 from roam_live.common.io import read
 from roam_live.common.text import Said
@@ -50,11 +50,17 @@ class Peers:
         if address not in self.numbers:
             while len(self.numbers) >= PEER_LIMIT:
                 self.drop(min(self.moments, key=self.moments.__getitem__))
-            number = next(self.free(window))
+            number = next(self.free(window), 0) or self.longest_silent(window)
             self.last[window] = number
             self.numbers[address], self.addresses[number] = number, address
         number = self.numbers[address]
         self.moments[number] = time.monotonic()
+        return number
+
+    def longest_silent(self, window: int) -> int:
+        """Forget the peer of a full window that was silent for longest, and return its number."""
+        number = min((one for one in self.moments if one >> WINDOW_SHIFT == window), key=self.moments.__getitem__)
+        self.drop(number)
         return number
 
     def free(self, window: int) -> Iterator[int]:
@@ -144,8 +150,7 @@ class RunningCommand:
             self.errors = None
         text = self.said.fed(chunk or b"")
         if text:
-            make_room_in_logs(len(text.encode()))
-            with contextlib.suppress(OSError):
+            with log_turn(len(text.encode())), contextlib.suppress(OSError):
                 os.write(2, text.encode())
 
     def end(self) -> None:

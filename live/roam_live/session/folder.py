@@ -8,14 +8,14 @@ from roam_live.common.build_info import identity
 from roam_live.common.errors import Fault
 from roam_live.common.file_path import FilePath
 from roam_live.common.files import is_locked, is_own_folder
-from roam_live.common.process import age_of, begun, end_words, is_stopped
+from roam_live.common.process import age_of, begun, end_words, is_stopped, note_ends
 from roam_live.common.suppress import suppress
 from roam_live.common.text import printable
 from roam_live.common.unix_socket import is_listened
 from roam_live.protocol.panes import ASKED, MOST_CLIENTS, asked_places
 from roam_live.session.environment import LINK
 from roam_live.session.front_end_lock import FRONT_ENDS, has_front_ends
-from roam_live.session.names import BUILD, LONGEST_PATH, REMOTE_CLIENTS, WINDOWS_VERSION, note_ends
+from roam_live.session.names import BUILD, LONGEST_PATH, REMOTE_CLIENTS, WINDOWS_VERSION
 from roam_live.session.processes import START_WAIT, Processes
 from roam_live.session.roles import ROLES, client_words
 
@@ -218,6 +218,10 @@ class SessionFolder(Processes):
         with suppress(BlockingIOError), self.locked(may_wait=False):
             if not self.has_client():
                 self.spawn_client()
+
+    def owns_host(self) -> bool:
+        """Return True if its pty host is restarted here."""
+        return False
 
     def revive_host(self) -> bool:
         """Restart the pty host if it has ended and belongs here, and return True if it runs."""

@@ -8,11 +8,14 @@ import fcntl
 import os
 
 from roam_live.common.errors import Fault, log_to, reason, say
-from roam_live.common.files import is_own_folder
+from roam_live.common.files import is_own_folder, is_same_file, locked_soon
 from roam_live.common.suppress import suppress
 
 # The locked file in a session's folder.
 FRONT_ENDS = "front_ends"
+
+# A front end opens the file so often, since another process may remove the rest of an ended session at the same time.
+MOST_TRIES = 8
 
 
 class FrontEndLock:
@@ -23,10 +26,20 @@ class FrontEndLock:
         self.end: int | None = None
 
     def __enter__(self) -> None:
-        self.end = opened(self.folder) if self.folder else None
-        if self.end is not None:
-            with suppress(OSError):
-                fcntl.flock(self.end, fcntl.LOCK_SH | fcntl.LOCK_NB)
+        for _ in range(MOST_TRIES if self.folder else 0):
+            assert self.folder is not None
+            self.end = opened(self.folder)
+            if self.end is None or self.is_kept(os.path.join(self.folder, FRONT_ENDS)):
+                break
+            os.close(self.end)
+            self.end = None
+
+    def is_kept(self, path: str) -> bool:
+        """Lock the file, and return False if somebody removed it before. Others lock it only for a moment, to look."""
+        assert self.end is not None
+        with suppress(OSError):
+            locked_soon(self.end, fcntl.LOCK_SH)
+        return is_same_file(self.end, path)
 
     def __exit__(self, *fault: object) -> None:
         if self.end is not None:

@@ -34,13 +34,22 @@ class HostWatchdog:
         self.retry = Retry(PAUSES)
         self.follow()
 
-    def follow(self) -> None:
-        """Watch the current process."""
+    def follow(self) -> bool:
+        """Watch the current process, and return True. Without one, schedule a restart if the host belongs here."""
         process = self.session.process("host")
-        if process:
-            self.file = opened_process(process)
-            self.loop.add(self.file, self.ended)
         self.retry.begins(time.monotonic())
+        if not process:
+            if self.session.owns_host():
+                self.wait()
+            return False
+        try:
+            self.file = opened_process(process)
+        except Fault:
+            # It ended just now.
+            self.wait()
+            return False
+        self.loop.add(self.file, self.ended)
+        return True
 
     def wait(self) -> float:
         """Schedule a retry after a pause that grows with each failure, and return that pause."""
@@ -69,8 +78,8 @@ class HostWatchdog:
         """Restart the pty host."""
         try:
             if self.session.revive_host():
-                self.follow()
-                self.tells("the pty host was restarted: the shells are new, and input typed in between was dropped")
+                if self.follow():
+                    self.tells("the pty host was restarted: the shells are new, and input typed in between was dropped")
                 return
         except (Fault, OSError) as fault:
             why = reason(fault).removeprefix(f"session {self.session.name}: ")

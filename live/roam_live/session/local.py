@@ -7,14 +7,14 @@ import time
 from roam_live.common.build_info import identity
 from roam_live.common.errors import Fault
 from roam_live.common.file_path import FilePath
-from roam_live.common.process import begun, end_words, holder_of
+from roam_live.common.process import begun, end_words, holder_of, note_ends
 from roam_live.common.suppress import suppress
 from roam_live.common.unix_socket import is_listened
 from roam_live.protocol.window_lines import MOST_WINDOWS, name_in
 from roam_live.session.folder import SessionFolder
-from roam_live.session.names import (BUILD, JOINED, LONGEST_PATH, SPARE, WINDOWS, WINDOWS_VERSION, base, check_name, is_spare_server, note_ends,
+from roam_live.session.names import (BUILD, JOINED, LONGEST_PATH, SPARE, WINDOWS, WINDOWS_VERSION, base, check_name, is_spare_server,
                                      numbers_in)
-from roam_live.session.processes import end_left
+from roam_live.session.processes import end_left, noted_in
 from roam_live.session.roles import ROLES, host_words, server_words
 
 TYPE_CHECKING = False
@@ -24,8 +24,17 @@ if TYPE_CHECKING:
 # The first window of a session.
 FIRST = 1
 
+# The name of the pty host's program.
+HOST_TOOL = b"pane_shells"
+# The interpreter and its options precede it, in fewer words.
+MOST_WORDS = 8
+
 # Seconds to wait for the pty host once it has nothing left to serve.
 END_SOON = 1.0
+
+
+class SessionEnded(Fault):
+    """A session has no window any more."""
 
 
 class LocalSession(SessionFolder):
@@ -62,18 +71,32 @@ class LocalSession(SessionFolder):
 
     def window(self, number: int | None = None) -> SessionFolder:
         """Return a window by its number, else the one used last; Fault if it does not exist."""
+        self.demand_same()
         if number is not None:
             named = self.window_of(number) if number in numbers_in(str(self.folder_of_windows)) else None
             if not named or not named.find() or named.is_spare():
                 raise Fault(f"session {self.name} has no window {number}")
             return named
+        if not self.windows():
+            # It may be ending, or beginning.
+            self.await_end()
         there = self.windows()
+        if not there and self.runs(self.served) and is_listened(self.folder / "host"):
+            raise Fault(f"session {self.name} has no window: it is starting or ending; try again")
         if not there and self.runs(self.served):
             raise Fault(f"session {self.name} runs, but its files were removed; its pty host restores them within a minute")
         if not there:
-            raise Fault(f"session {self.name} has ended")
+            raise SessionEnded(f"session {self.name} has ended")
         last = self.last()
         return next((window for window in there if window.number == last), there[0])
+
+    def demand_same(self) -> None:
+        """Raise Fault if the folder is another session's by now."""
+        state = None
+        with suppress(OSError):
+            state = noted_in(self.note)
+        if self.is_of_other(state):
+            raise Fault(f"session {self.name}: its files were removed, and another session has its name; `mux kill {self.name}` ends that one")
 
     def last(self) -> int:
         """Return the number of the window used last, as far as it is recorded."""
@@ -106,8 +129,8 @@ class LocalSession(SessionFolder):
         return bool(self.windows())
 
     def holder(self) -> int | None:
-        """Return the pty host from the lock on its folder."""
-        return holder_of(self.folder)
+        """Return the pty host from the lock on its folder, or by its command if the folder was removed."""
+        return holder_of(self.folder) or host_of(self.folder)
 
     def is_ready(self) -> bool:
         """Return True if a window and the pty host run."""
@@ -117,8 +140,10 @@ class LocalSession(SessionFolder):
 
     def launch(self, command: Iterable[str] = ()) -> None:
         """Start the pty host, and the first window's server, with a command in place of each shell; all or nothing."""
+        from roam_live.session.start_limits import current_limits
+
         self.clean()
-        self.state = {"version": WINDOWS_VERSION, "command": list(command)}
+        self.state = {"version": WINDOWS_VERSION, "command": list(command), **current_limits()}
         window = self.window_of(FIRST)
         window.name = self.name
         with self.whole():
@@ -132,9 +157,16 @@ class LocalSession(SessionFolder):
         self.wait_for("host", self.logged(), lambda: self.is_ready() or self.own["host"].poll() == 0)
 
     def spawn_host(self, more: Iterable[str] = ()) -> None:
-        """Spawn the pty host."""
-        self.state = {**(self.state or {"version": WINDOWS_VERSION, "command": []}), BUILD: identity()}
-        self.spawned("host", host_words(self.folder, self.state.get("command", ()), more))
+        """Spawn the pty host, with the umask and the limits of the session's first start."""
+        from roam_live.session.start_limits import set_limits
+
+        state = self.state = {**(self.state or {"version": WINDOWS_VERSION, "command": []}), BUILD: identity()}
+
+        def begin() -> None:
+            os.setsid()
+            set_limits(state)
+
+        self.spawned("host", host_words(self.folder, state.get("command", ()), more), begin)
 
     def demand_host(self) -> None:
         """Check that the pty host runs, and that there is a window."""
@@ -144,9 +176,20 @@ class LocalSession(SessionFolder):
             self.wait_for("host", before, self.is_ready)
 
     def demand_client(self) -> None:
-        """Check that the client process of the window used last runs, if there is a window."""
-        if self.windows():
-            self.window().demand_client()
+        """Check that the client process of the window used last runs, if there is a window that doesn't end meanwhile."""
+        if not self.windows():
+            return
+        with suppress(SessionEnded):
+            window = self.window()
+            try:
+                window.demand_client()
+            except Fault:
+                if window.runs():
+                    raise
+
+    def owns_host(self) -> bool:
+        """Return True: its pty host is restarted here."""
+        return True
 
     def revive_host(self) -> bool:
         """Restart the pty host if it has ended, and return True if it runs. It adopts the windows."""
@@ -314,6 +357,10 @@ class Window(SessionFolder):
             self.session.read()
             self.session.demand_host()
 
+    def owns_host(self) -> bool:
+        """Return True if it has a session, whose pty host is restarted here."""
+        return self.session is not None
+
     def revive_host(self) -> bool:
         """Restart the pty host if it has ended, and return True if it runs."""
         return self.session is not None and self.session.revive_host()
@@ -333,6 +380,28 @@ class Window(SessionFolder):
         for folder in (self.folder / "relays", self.folder):
             with suppress(OSError):
                 folder.rmdir()
+
+
+def host_of(folder: FilePath) -> int | None:
+    """Return the pty host of this user whose command names a folder; None if there is none."""
+    user = os.getuid()
+    for name in os.listdir("/proc"):
+        with suppress(OSError):
+            if name.isdigit() and os.stat(f"/proc/{name}").st_uid == user and is_host_of(int(name), os.fsencode(folder)):
+                return int(name)
+    return None
+
+
+def is_host_of(process: int, folder: bytes) -> bool:
+    """Return True if a process is the pty host of a folder's session, by its command: `pane_shells --windows [--first] FOLDER ..`."""
+    # The name is read first: the words of a busy process may be slow to read.
+    name = FilePath(f"/proc/{process}/comm").read_bytes().strip()
+    if name != HOST_TOOL and not name.startswith(b"python"):
+        return False
+    words = FilePath(f"/proc/{process}/cmdline").read_bytes().split(b"\0")
+    at = words.index(b"--windows") if b"--windows" in words[:MOST_WORDS] else -1
+    is_host = at > 0 and os.path.basename(words[at - 1]) == HOST_TOOL
+    return is_host and folder in words[at + 1 : at + 3] and begun(process) is not None
 
 
 def command_of(host: int | None, folder: FilePath) -> list[str]:

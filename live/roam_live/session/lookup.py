@@ -25,9 +25,15 @@ def session_named(name: str) -> SessionFolder:
             raise Fault(f"{session.folder} belongs to a server that was started by hand; `roam-attach {session.folder}` attaches to it")
         return session
     near = RemoteSession(base() / name, name)
-    if not near.folder.is_dir():
+    if near.folder.is_dir():
+        return near
+    # `mux ssh` with options adds a number to the name.
+    others = [path for path in base().iterdir() if path.name.startswith(f"{name}:") and is_near_name(path.name)]
+    if len(others) > 1:
+        raise Fault(f"{name} may be {' or '.join(sorted(path.name for path in others))}; name one of them")
+    if not others:
         raise Fault(f"no session named {name}; `mux ls` lists sessions")
-    return near
+    return RemoteSession(others[0], others[0].name)
 
 
 def is_by_hand(folder: FilePath) -> bool:

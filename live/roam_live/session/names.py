@@ -6,7 +6,6 @@ import stat
 
 from roam_live.common.errors import Fault, is_absent, reason, say
 from roam_live.common.file_path import FilePath
-from roam_live.common.files import replace_text
 from roam_live.common.patterns import LazyPattern
 from roam_live.common.suppress import suppress
 from roam_live.common.text import decimal_in
@@ -105,9 +104,6 @@ WINDOWS_VERSION = 4
 WINDOWS = "w"
 HIGHEST_NUMBER = 99
 
-# The most intended ends that are recorded.
-MOST_ENDED = 128
-
 
 def windows_folder(common: str) -> str:
     """Return the folder that contains the folders of a session's windows."""
@@ -140,16 +136,3 @@ def is_spare_server(server: int | None) -> bool:
         with open(f"/proc/{server}/environ", "rb") as words:
             return f"{SPARE_VARIABLE}=1".encode() in words.read().split(b"\0")
     return False
-
-
-def note_ends(common: str, lines: list[str]) -> None:
-    """Record in a session's folder that processes are about to be ended on purpose, up to the limit."""
-    if not lines:
-        return
-    path = os.path.join(common, "ended")
-    before: list[str] = []
-    with suppress(OSError, ValueError):
-        with open(path, encoding="utf-8") as file:
-            before = file.read(1 << 14).splitlines()
-    with suppress(OSError):
-        replace_text(path, "".join(f"{line}\n" for line in [*(one for one in before if one not in lines), *lines][-MOST_ENDED:]))

@@ -52,6 +52,18 @@ class PortSession:
         """Return True if the process of a role runs."""
         return self.process(role or self.served) is not None
 
+    def has_met(self) -> bool:
+        """Return False: the server's process is unknown here."""
+        return False
+
+    def is_replaced(self) -> bool:
+        """Return False: nothing is known of it."""
+        return False
+
+    def is_peer(self, name: str, process: int) -> bool:
+        """Return True: its processes are unknown here."""
+        return True
+
     def is_served(self) -> bool:
         """Return True if a process has the port. Without one the client is useless, which it does not notice itself."""
         is_there = self.home.is_served()
@@ -62,6 +74,10 @@ class PortSession:
     def busy(self) -> dict[int, str] | None:
         """Return None: the programs in its panes are unknown here."""
         return None
+
+    def owns_host(self) -> bool:
+        """Return False: the pty host is unknown here."""
+        return False
 
     def revive_host(self) -> bool:
         """Return False: the pty host is unknown here, and nothing is spawned."""

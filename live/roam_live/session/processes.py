@@ -36,6 +36,9 @@ LEFT_WAIT = 0.5
 # Seconds for the listener of a socket to accept the connection that identifies it.
 ASK_WAIT = 0.5
 
+# The roles of the processes at sockets. In a remote session the relay stands in for the server and the host.
+PEERS = {"terminals": "client", "panes": "server", "host": "host"}
+
 # A note has fewer characters: it contains the panes' command, whose length the system limits.
 MOST_NOTE = 1 << 24
 
@@ -174,6 +177,8 @@ class Processes:
         own = self.own.get(role)
         if own:
             own.poll()
+        if self.is_replaced():
+            return self.met[0] if self.met and role == self.served else None
         noted = (self.state or {}).get(role)
         if not noted:
             return None
@@ -184,15 +189,39 @@ class Processes:
             self.met = process, noted[1]
         return process
 
+    def is_replaced(self) -> bool:
+        """Return True if the folder is another session's by now: its note names another serving process, and both run."""
+        return self.is_of_other(self.state)
+
+    def is_of_other(self, state: State | None) -> bool:
+        """Return True if a note is that of another session."""
+        noted = (state or {}).get(self.served)
+        return bool(noted and self.met and tuple(noted) != self.met and is_running(*noted) and is_running(*self.met))
+
+    def is_peer(self, name: str, process: int) -> bool:
+        """Return True if a process at one of its sockets is its own, or if it is unknown."""
+        self.read()
+        role = PEERS.get(name, self.served)
+        known = self.process(role if role in self.roles_known() else self.served)
+        return process == known if known is not None else not self.is_replaced()
+
+    def roles_known(self) -> tuple[str, ...]:
+        """Return the roles of the processes that listen on this machine."""
+        return tuple(ROLES)
+
+    def has_met(self) -> bool:
+        """Return True if the serving process was seen to run."""
+        return self.met is not None
+
     def runs(self, role: str | None = None) -> bool:
         """Return True if the process of a role runs; by default the serving one."""
         return self.process(role or self.served) is not None
 
-    def listener(self, name: str) -> int | None:
-        """Return the process that listens at a socket of the folder; None if nobody of this user does."""
+    def listener(self, name: str, seconds: float = ASK_WAIT) -> int | None:
+        """Return the process that listens at a socket of the folder, and accepts in so many seconds; None if nobody of this user does."""
         path = self.folder / name
         try:
-            with connected_in(path, ASK_WAIT) as end:
+            with connected_in(path, seconds) as end:
                 process = SocketPeer.of(end).process
         except BlockingIOError as fault:
             raise Fault(f"a process listens at {path} and accepts no connection; nothing was changed there") from fault

@@ -41,6 +41,10 @@ class RemoteSession(SessionFolder):
         """Return the session of this window, or itself."""
         return self.session or self
 
+    def roles_known(self) -> tuple[str, ...]:
+        """Return the roles of the processes on this machine."""
+        return self.roles
+
     def holder(self) -> int | None:
         """Return the relay from the lock on its folder."""
         return holder_of(self.folder)

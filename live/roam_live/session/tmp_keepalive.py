@@ -6,6 +6,7 @@ import fcntl
 import os
 import time
 
+from roam_live.common.files import locked_soon
 from roam_live.common.suppress import suppress
 from roam_live.session.names import WINDOWS
 
@@ -82,8 +83,8 @@ class Lasting:
         with suppress(OSError):
             end = os.open(self.folder, os.O_RDONLY | os.O_DIRECTORY | os.O_CLOEXEC)
             try:
-                fcntl.flock(end, fcntl.LOCK_EX | fcntl.LOCK_NB)
-                self.held = end
+                # Others lock it for a moment to see whether somebody has.
+                self.held = end if locked_soon(end) else -1
             finally:
                 if self.held != end:
                     os.close(end)

@@ -186,9 +186,7 @@ class Copying:
 
     def begin(self, snapshot: Snapshot) -> None:
         """Show a snapshot, and handle the input so far."""
-        places = self.acts.panes.places
-        pane_cols = places.rects[self.state.pane].cols if places and self.state.pane in places.rects else self.state.rect.cols
-        rows = Rows(snapshot.first, snapshot.end + len(snapshot.screen), self.state.rect.cols, pane_cols)
+        rows = Rows(snapshot.first, snapshot.end + len(snapshot.screen), self.state.rect.cols)
         rows.put(snapshot.end, snapshot.screen)
         rows.stays = snapshot.end - MOST_SCREEN_ROWS
         self.state.mode = CopyMode(rows, self.state.rect.rows, wants_vi())

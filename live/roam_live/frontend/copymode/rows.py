@@ -18,10 +18,6 @@ GOES_ON = "+"
 # The most characters of a cell. Further combining characters are dropped.
 MOST_JOINED = 16
 
-# A soft-wrapped row filled its terminal's columns, and the scrollback process may omit blanks at its end. Up to so many are restored if the
-# pane is that much wider. A row that lacks more is taken for one of a narrower pane.
-MOST_LEFT_OUT = 8
-
 # Characters that neither a terminal nor a buffer gets: controls and writing directions. Joiners of other characters are exempt.
 UNSEEN = {"Cf", "Cc", "Cs", "Zl", "Zp"}
 JOINERS = "\u200c\u200d"
@@ -127,18 +123,12 @@ class RowReader:
             self.letters[at] += letter
 
 
-def row_of(line: bytes, cols: int = 0) -> ScrollbackRow:
-    """Return the row in a line from the scrollback process, for a pane of so many columns. Omitted blanks of a soft-wrapped row are
-    restored.
-    """
+def row_of(line: bytes) -> ScrollbackRow:
+    """Return the row in a line from the scrollback process."""
     text = line[:MOST_ROW_BYTES].decode("utf-8", "replace")
     reader = RowReader()
     reader.read(text[1:])
     letters, styles, goes_on = reader.letters, reader.styles, text[:1] == GOES_ON
-    lacks = cols - len(letters)
-    if goes_on and 0 < lacks <= MOST_LEFT_OUT:
-        letters += [" "] * lacks
-        styles += [Style()] * lacks
     length = len(letters)
     while length and letters[length - 1] == " ":
         length -= 1
@@ -148,8 +138,8 @@ def row_of(line: bytes, cols: int = 0) -> ScrollbackRow:
 class Rows:
     """The rows of a snapshot by number, from the first stored one to the last of the screen. An absent row raises MissingRows."""
 
-    def __init__(self, first: int, end: int, cols: int, pane_cols: int = 0) -> None:
-        self.first, self.end, self.cols, self.pane_cols = first, end, max(LEAST_COLS, cols), pane_cols or cols
+    def __init__(self, first: int, end: int, cols: int) -> None:
+        self.first, self.end, self.cols = first, end, max(LEAST_COLS, cols)
         self.lines: dict[int, bytes] = {}
         self.size = 0
         # Rows from this one on are never forgotten: those of the screen, which determine the lowest view.
@@ -190,7 +180,7 @@ class Rows:
             return found
         if row not in self.lines:
             raise MissingRows(row)
-        found = self.celled[row] = row_of(self.lines[row], self.pane_cols)
+        found = self.celled[row] = row_of(self.lines[row])
         if len(self.celled) > MOST_CELLED:
             self.celled.popitem(last=False)
         return found
