@@ -1,14 +1,19 @@
-# `make` proves the crates that the program needs and builds it; `make show` builds the program that has `roam show` alone; `make test` is the
-# whole gate; `make bench` runs the benchmarks; `make try` tries the built program as processes and as a person would, and `make install
-# PREFIX=/usr/local` installs it, its tools and their pages; `make deb` and `make dist` pack these. All need the kit's `rt` on the PATH; the
-# benchmarks need a C compiler and Python too.
+# make                            prove the crates of the program, and build it
+# make show                       build a program that has `roam show` alone
+# make test                       run the gate
+# make try                        test the built program, as processes and at terminals
+# make bench                      run the benchmarks, which also need a C compiler and Python
+# make install PREFIX=/usr/local  install the program, its tools and their pages
+# make deb, make dist             build the packages
+#
+# All of them need `rt` of the kit on the PATH.
 .PHONY: all show test bench try install deb dist clean FORCE
 
 all: program = roam
 show: program = roam_show_bin
 
-# tools/build decides what has to be proved, and in which order. `current` is the stamp by which ./roam knows that nothing has changed since:
-# what is edited meanwhile is newer.
+# tools/build decides what must be proved, and in which order. ./roam compares the stamp `current` with the sources. A file that is edited
+# during the build is newer than the stamp.
 all show:
 	@mkdir -p crates/roam/out crates/$(program)/out
 	@touch crates/$(program)/out/began
@@ -16,12 +21,11 @@ all show:
 	@mv -f crates/$(program)/out/began crates/$(program)/out/current
 	@crates/$(program)/out/$(program) --help > /dev/null
 
-# One crate and those below it.
+# Build one crate, with those below it.
 crates/%/out/built: FORCE
 	@tools/build $*
 
-# The gate: the unit tests of the tools and what holds the pages; then every proof from nothing, the must-fail edits, the tests and the
-# programs.
+# The gate: unit tests and checks of pages, every proof, must-fail edits, tests, and the built program.
 test:
 	@.ci/run
 
@@ -41,13 +45,13 @@ try: all
 	tests/stress/try_windows
 
 PREFIX ?= /usr/local
-# The last line of the gate that proved these files, for the file that says which build it is.
+# The last line of the gate that proved these files. The packages record it.
 GATE ?=
 
 install: all
 	@tools/package install --gate "$(GATE)" --root "$(DESTDIR)" "$(PREFIX)"
 
-# Packages, in out: of Debian, and a tarball for any x86-64 Linux whose C library is new enough.
+# Build packages in out: one for Debian, and a tarball for any x86-64 Linux with a C library that is new enough.
 deb dist: all
 	@tools/package $@ --gate "$(GATE)"
 

@@ -1,6 +1,8 @@
 #!/usr/bin/env bash
-# bench/grid.sh [MILLIONS [ROUNDS]]: how fast a grid takes characters one by one and by runs, and what scrolls, ED, IL and DL, and ICH and
-# DCH cost beside the same bytes filled and moved in one flat list, at 24 by 80 and at 100 by 250: the best slice of all rounds.
+# bench/grid.sh [MILLIONS [ROUNDS]]: measures a grid at 24 by 80 and at 100 by 250, and prints the best slice of all rounds.
+#
+# It measures how fast the grid takes characters, one by one and in runs. It also compares scrolls, ED, IL, DL, ICH and DCH with filling and
+# moving the same bytes in one flat list.
 # shellcheck source-path=SCRIPTDIR source=common.sh
 . "$(dirname "$0")/common.sh"
 millions=${1:-50}
@@ -9,7 +11,7 @@ speed=$(built roam_bench)
 
 # shellcheck disable=SC2086
 each_round $speed grid "$millions" | awk "$best"'
-  # nanoseconds for one time of each way
+  # The nanoseconds of one operation.
   $1 != "end" { least($1 " " $2 " by " $3, $5 * 1000 / $4) }
   function of(way) { return low[way at] }
   function row(text, value, beside, other, limit) {

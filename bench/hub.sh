@@ -1,9 +1,13 @@
 #!/usr/bin/env bash
-# bench/hub.sh [TIMES [ROUNDS]]: the microseconds of an idle tick of a server with one client start and with 64, of a round (a tick and its
-# datagrams at the client start) after one changed row, a scroll, a redraw of all places and one changed cell, beside a copy of the screen;
-# the bytes of the datagrams of such an echoed key; a tick after one with 1, 8 and 64 client starts, and what each further start adds to it,
-# at most 20 at 24 by 80 and 40 at 200 by 500; and the KiB of a record and of a client start that hold eight screens of 24 by 80. A
-# round's ratio is to the copy; that of a key to 24 by 80 has the limit 25 at 200 by 500, which has 52 times the cells.
+# bench/hub.sh [TIMES [ROUNDS]]: measures a server and its client instances, in microseconds, at several sizes of the screen.
+#
+# - An idle tick, with one client instance and with 64.
+# - A round, which is a tick and its datagrams at the client instance: after one changed row, a scroll, a redraw and one changed cell. The
+#   ratio is that to a copy of the screen.
+# - The bytes of the datagrams of one changed cell, as of an echoed key. Its ratio to 24 by 80 is at most 25 at 200 by 500, which has 52 times
+#   the cells.
+# - A tick after such a change, with 1, 8 and 64 client instances. Each further instance adds at most 20 at 24 by 80 and 40 at 200 by 500.
+# - The KiB of a record and of a client instance, each with eight screens of 24 by 80.
 # shellcheck source-path=SCRIPTDIR source=common.sh
 . "$(dirname "$0")/common.sh"
 times=${1:-500}
@@ -29,7 +33,7 @@ awk '
           printf "a key to 24 by 80: %.1f at 100 by 250, %.1f at 200 by 500   at most 25\n", key[100] / key[24], key[200] / key[24] }' \
   "$folder/table"
 
-# The KiB of the greatest resident set; the meter is a small program, since a process's set counts from the one that started it.
+# The largest resident set in KiB. The meter is a small program, since a process begins with the set of the one that started it.
 # shellcheck disable=SC2086
 peak() { "$meter" /dev/null $speed "$1" "$2" | awk '{ print $2 }'; }
 few=$(peak records 1)

@@ -1,7 +1,8 @@
 #!/usr/bin/env bash
-# bench/paint.sh [TIMES [ROUNDS]]: how many bytes and microseconds the painter needs for a screen that stays, an echoed key, a scrolled
-# screen and a full one, beside a memcmp over as many bytes as the cells have. Where tmux is installed, the bytes that it sends its client
-# for the same changes stand beside them. It needs python3 for tmux.
+# bench/paint.sh [TIMES [ROUNDS]]: measures the painter, in bytes and microseconds, beside a memcmp of as many bytes as the cells have.
+#
+# The paintings are of an unchanged screen, an echoed key, a scrolled screen and a new one. If tmux is installed, the table also has the bytes
+# that tmux sends to its client for the same changes; that needs python3.
 # shellcheck source-path=SCRIPTDIR source=common.sh
 . "$(dirname "$0")/common.sh"
 times=${1:-2000}
@@ -9,7 +10,7 @@ rounds=${2:-5}
 speed="$(built roam_bench) paint"
 compare=$(compiled paint_compare)
 
-# A size in two words.
+# Rows and columns.
 both() {
   # shellcheck disable=SC2086
   $speed "$1" "$2" "$times"

@@ -1,5 +1,5 @@
-/* paint_compare ROWS COLS TIMES: compares as many bytes as the cells of a screen have by memcmp, and prints `memcmp`, the bytes, TIMES and
-   the microseconds that passed. */
+/* paint_compare ROWS COLS TIMES: compares by memcmp as many bytes as the cells of a screen have, TIMES times. It prints `memcmp`, the bytes,
+   TIMES, and the microseconds that passed. */
 #include <stdio.h>
 #include <stdlib.h>
 #include <string.h>
@@ -13,7 +13,7 @@ int main(int count, char **words) {
   if (one == NULL || other == NULL) return 1;
   memset(one, 1, bytes);
   memset(other, 1, bytes);
-  /* by a pointer that may change, so that no call is left out */
+  /* Call through a pointer that may change, so that no call is optimized away. */
   int (*volatile compare)(const void *, const void *, size_t) = memcmp;
   struct timespec start, end;
   clock_gettime(CLOCK_MONOTONIC, &start);

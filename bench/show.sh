@@ -1,6 +1,6 @@
 #!/usr/bin/env bash
-# bench/show.sh [MEGABYTES [RUNS]]: speed and memory of `roam show` on seeded inputs, beside libvterm where Debian's package libvterm-dev is
-# installed, with the ratio of the two. It needs python3.
+# bench/show.sh [MEGABYTES [RUNS]]: measures the speed and memory of `roam show` on seeded inputs. If Debian's package libvterm-dev is
+# installed, it measures libvterm too and prints the ratio. It needs python3.
 # shellcheck source-path=SCRIPTDIR source=common.sh
 . "$(dirname "$0")/common.sh"
 megabytes=${1:-4}
@@ -11,7 +11,7 @@ python3 "$here/inputs.py" "$folder/inputs" "$megabytes" prose cjk colours redraw
 meter=$(compiled show_meter)
 if ! vterm=$(compiled show_vterm -lvterm 2> "$folder/cc"); then
     vterm=-
-    echo "libvterm isn't installed (Debian: libvterm-dev), so roam stands alone" >&2
+    echo "libvterm is not installed (Debian: libvterm-dev), so roam is measured alone" >&2
 fi
 echo "$(nproc) cores, load $(cut -d' ' -f1 /proc/loadavg), $megabytes MB an input, best of $runs"
 echo

@@ -1,6 +1,6 @@
-/* show_meter FILE PROGRAM WORDS..: runs a program on a file as its standard input, with nothing shown of its output, and prints
-   the microseconds of processor time (user and system) that it took and its greatest resident set in KiB. It is a small program
-   of its own, since a process's set counts from the one that started it. */
+/* show_meter FILE PROGRAM WORDS..: runs a program with a file as its standard input, and drops the output. It prints the microseconds of
+   processor time (user and system) and the largest resident set in KiB. It is a small program, since a process begins with the
+   resident set of the one that started it. */
 #include <fcntl.h>
 #include <stdio.h>
 #include <sys/resource.h>

@@ -1,5 +1,5 @@
-/* The screen of libvterm after standard input, read in pieces of 1,024 bytes as `roam show` reads: show_vterm ROWS COLS.
-   No lines are kept, as roam keeps none. It prints nothing: only its time and its memory count. */
+/* show_vterm ROWS COLS: feeds standard input to libvterm, in pieces of 1,024 bytes like `roam show`. Neither stores scrolled-off lines. It prints
+   nothing, since show.sh measures only its time and memory. */
 #include <stdio.h>
 #include <stdlib.h>
 #include <unistd.h>

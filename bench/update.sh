@@ -1,8 +1,10 @@
 #!/usr/bin/env bash
-# bench/update.sh [CELLS [ROUNDS]]: what a change of a screen costs in both versions of the text: where nothing, one cell, one row and
-# everything differs (a screen that scrolled by a row), and from blank to 4 styles and to 10,000, each cell in another: the bytes of the
-# text, the microseconds of writing and of applying (a copy of the base included), and the nanoseconds of writing a cell beside memcmp of as many
-# cells of 16 bytes. Each is done so often that about CELLS million cells go over.
+# bench/update.sh [CELLS [ROUNDS]]: measures diffs in both versions of the text.
+#
+# The two screens differ in nothing, one cell, one row, or everything, as after a scroll by a row. In two more pairs a blank screen becomes one
+# of 4 styles, or of 10,000, a new one in each cell. It prints the bytes of the text and the microseconds to write and to apply it, with a
+# copy of the base. It also prints the nanoseconds to write a cell, beside memcmp of as many cells of 16 bytes. Each measurement processes about
+# CELLS million cells.
 # shellcheck source-path=SCRIPTDIR source=common.sh
 . "$(dirname "$0")/common.sh"
 million=${1:-4}
@@ -10,7 +12,7 @@ rounds=${2:-5}
 compare=$(compiled cells_compare)
 speed="$(built roam_bench) update"
 
-# Rows, columns, how often.
+# Rows, columns, and repetitions.
 all() {
   "$compare" $(($1 * $2)) "$3"
   # shellcheck disable=SC2086

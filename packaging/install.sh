@@ -15,7 +15,7 @@ case ${1-} in
     ;;
 esac
 from=$(dirname -- "$(readlink -f -- "$0")")
-# The copy below a prefix means that one.
+# A copy that is installed below a prefix uses that prefix.
 case $from in
 */lib/roam) own=${from%/lib/roam} ;;
 *) own=${HOME:?}/.local ;;
