@@ -24,6 +24,10 @@ class Wrong(Exception):
     """A line that is not true, with the values seen."""
 
 
+class BadCase(Exception):
+    """A line that has no meaning: a mistake of the table, and not of the program."""
+
+
 class Skipped(Exception):
     """A line that this user cannot do."""
 
@@ -34,7 +38,7 @@ def decoded(text):
     for match in ESCAPE.finditer(text):
         point, byte, letter = match.groups()
         if letter and letter not in ESCAPES:
-            raise Wrong(f"no such escape: {match[0]}")
+            raise BadCase(f"no such escape: {match[0]}")
         code = chr(int(point, 16)).encode() if point else bytes([int(byte, 16)]) if byte else ESCAPES[letter]
         parts += [text[end:match.start()].encode(), code]
         end = match.end()
@@ -86,7 +90,7 @@ class Stage:
             if rest == phrase or rest.startswith(phrase + " "):
                 act(self, verb, rest[len(phrase) + 1:])
                 return
-        raise Wrong("no such line")
+        raise BadCase("no such line")
 
     # Words and files.
 

@@ -1,5 +1,5 @@
-/* Refuses a program one allocation: loaded before the C library, it answers the one whose number is in REFUSE (from 1) with nothing, and
-   passes on all others. At the end it writes on standard error how many there were. */
+/* A library for LD_PRELOAD that refuses one allocation of a program. The environment variable REFUSE has its number, from 1. All other
+   allocations go to the C library. When the program ends, the number of allocations is written to standard error. */
 #define _GNU_SOURCE
 #include <dlfcn.h>
 #include <stdio.h>

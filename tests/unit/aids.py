@@ -26,12 +26,28 @@ from roam_live.protocol.host_link import HostLink
 @functools.lru_cache()
 def loaded(name: str) -> types.ModuleType:
     """Return a tool of live/ as a module."""
-    loader = importlib.machinery.SourceFileLoader(name, str(TOOLS / name))
+    return module_at(name, str(TOOLS / name))
+
+
+@functools.lru_cache()
+def loaded_tool(name: str) -> types.ModuleType:
+    """Return a tool of tools/ as a module."""
+    return module_at(f"tool_{name}", str(TOOLS.parent / "tools" / name))
+
+
+def module_at(name: str, path: str) -> types.ModuleType:
+    """Return a script as a module of this name."""
+    loader = importlib.machinery.SourceFileLoader(name, path)
     spec = importlib.util.spec_from_loader(name, loader)
     assert spec
     module = importlib.util.module_from_spec(spec)
     loader.exec_module(module)
     return module
+
+
+def plain_environment(**more: str) -> "dict[str, str]":
+    """Return this process's environment without the variables that affect Python or roam, and with these."""
+    return {**{name: value for name, value in os.environ.items() if not name.startswith(("PYTHON", "ROAM"))}, **more}
 
 
 class StillLoop(Loop):

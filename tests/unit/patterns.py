@@ -80,6 +80,7 @@ KNOWN = {
     ("roam_live/input/keys.py", "WHOLE", "ESC"): TYPED,
     ("roam_live/input/mouse_reports.py", "ASKED", "ESC"): WRITES,
     ("roam_live/input/mouse_reports.py", "BEGIN", "ESC"): TYPED,
+    ("roam_live/input/mouse_reports.py", "FOCUS_REPORTS", "ESC"): "reads whether a person's terminal has the focus, among what is typed",
     ("roam_live/input/mouse_reports.py", "OFF", "ESC"): WRITES,
     ("roam_live/input/mouse_reports.py", "OLD_BEGIN", "ESC"): "begins what a pane's program is sent, and reads nothing",
     ("roam_live/input/mouse_reports.py", "REPORT", "re"): TYPED,

@@ -39,7 +39,7 @@ class AnySession:
         self.terminals = folder / "terminals"
         self.processes = {}
         self.told = places(24, 80)
-        self.runs_busy, self.is_closed, self.looks = {}, False, 0
+        self.runs_busy, self.is_closed, self.looks, self.is_met, self.foreign = {}, False, 0, False, ()
 
     def __str__(self):
         return f"in {self.folder}"
@@ -54,6 +54,22 @@ class AnySession:
     def runs(self, role=None):
         """Return True if it runs."""
         return self.process(role or self.served) is not None
+
+    def is_replaced(self):
+        """Return False: nobody else has its folder."""
+        return False
+
+    def is_peer(self, name, process):
+        """Return True unless another session's process listens there."""
+        return name not in self.foreign
+
+    def owns_host(self):
+        """Return False: its host runs elsewhere."""
+        return False
+
+    def has_met(self):
+        """Return True if its process was seen to run."""
+        return self.is_met
 
     def busy(self):
         """Return the programs in the panes."""
@@ -98,7 +114,7 @@ class Fronts(Case):
         self.patch_of(first_painting, "woken", return_value=self.wakeup)
         self.quiet = self.patch_of(app, "unwoken")
         self.panes = PlayedPanes(self.place)
-        self.patch_of(window_views, "PanesSubscriber", lambda folder, loop, changed, tells: self.panes)
+        self.patch_of(window_views, "PanesSubscriber", lambda folder, loop, changed, tells, is_peer: self.panes)
         self.front = made_front(self.place)
         self.addCleanup(lambda: closed(self.front.display.outer.end))
         self.addCleanup(lambda: self.front.views.link.close())
@@ -475,6 +491,24 @@ class Loop(Fronts):
             self.turn(1)
         self.assertEqual(self.front.left, "")
 
+    def test_ended_before(self):
+        """A front end whose server ended before the first look leaves at once, and doesn't wait for a client of nobody."""
+        self.place.is_met = True
+        front = made_front(self.place)
+        self.addCleanup(lambda: (closed(front.display.outer.end), front.views.link.close(), front.host_link.end()))
+        front.turn()
+        self.assertEqual((front.left, front.status), ("[the session has ended]", 0))
+        self.assertTrue(front.has_ended_unmet())
+
+    def test_ended_met(self):
+        """A session that ended as intended was met if its host reported something here, or if something was typed."""
+        for name, ended, typed, status, wanted in (("", True, False, 0, True), ("", False, False, 0, False), ("1 2", True, False, 0, False),
+                                                   ("", True, True, 0, False), ("", True, False, 1, False)):
+            with self.subTest(host=name, ended=ended, typed=typed, status=status):
+                self.front.host_link.host_name, self.front.status = name, status
+                self.front.has_ended, self.front.has_typed = ended, typed
+                self.assertEqual(self.front.has_ended_unmet(), wanted)
+
     def test_probes(self):
         """If the server's process is unknown, a check follows every two seconds."""
         def leave():
@@ -489,7 +523,10 @@ class Loop(Fronts):
     def test_host(self):
         """Messages about the shells and notices of the host stay for three seconds; bells of the panes ring."""
         self.connect()
-        with mock.patch.object(self.place, "revive_host", return_value=True, create=True):
+        reader, _ = self.pipe()
+        self.place.processes["host"] = 1
+        with mock.patch.object(self.place, "revive_host", return_value=True, create=True), \
+                mock.patch("roam_live.session.host_watchdog.opened_process", return_value=os.dup(reader)):
             self.front.watchdog.revive()
         said = "the pty host was restarted: the shells are new, and input typed in between was dropped"
         self.assertEqual((self.front.display.row.told, self.front.loop.due["told"][0]), (said, 103.0))
@@ -514,6 +551,30 @@ class Loop(Fronts):
         self.assertEqual(self.shown().count(b"\x1b="), 1)
         self.turn()
         self.assertEqual(self.shown(), b"")
+
+    def test_focus_reports(self):
+        """Focus reports are requested while the focused program wants them, and go to it alone; they stop at the end."""
+        client = self.connect()
+        self.paints()
+        self.place.told = Places({1: Rect(1, 1, 23, 39), 2: Rect(1, 41, 23, 40)}, 1)
+        self.panes.modes_of[2] = "focus"
+        self.turn()
+        read_now(client)
+        self.assertNotIn(b"1004", self.shown())
+        self.type(b"\x1b[I")
+        self.assertEqual(read_now(client), b"")
+        self.place.told = self.place.told._replace(focus=2)
+        self.turn()
+        self.assertEqual(self.shown().count(b"\x1b[?1004h"), 1)
+        self.type(b"\x1b[O")
+        self.assertEqual(read_now(client), b"char 1b ; char 5b ; char 4f\n")
+        self.front.display.outer.suspend = lambda: None
+        self.front.continued()
+        self.turn()
+        self.assertEqual(self.shown().count(b"\x1b[?1004h"), 1)
+        self.panes.modes_of[2] = ""
+        self.turn()
+        self.assertEqual(self.shown().count(b"\x1b[?1004l"), 1)
 
     def test_limits(self):
         """While 65,536 bytes wait for the terminal the client's output stays unread."""

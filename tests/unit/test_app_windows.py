@@ -67,7 +67,7 @@ class Windows(Case):
         os.set_blocking(self.master, False)
         self.patch_of(first_painting, "woken", return_value=self.pipe()[0])
         self.sent_environment = self.patch_of(app, "environment_lines", return_value=[])
-        self.patch_of(window_views, "PanesSubscriber", lambda folder, loop, changed, tells: self.played(folder))
+        self.patch_of(window_views, "PanesSubscriber", lambda folder, loop, changed, tells, is_peer: self.played(folder))
         self.loop = StillLoop(lambda: self.now)
         self.front = self.front_of()
 

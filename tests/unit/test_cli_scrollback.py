@@ -117,8 +117,7 @@ class Rowed(Asked):
             self.refuses(told, scrollback.capture_rows, 0, word, None, False, False)
         self.generation = 4
         for does, words in ((scrollback.capture_rows, ("0", None)), (scrollback.log_rows, ())):
-            self.refuses("session main: pane 1 has no stored rows; ROAM_HISTORY may be 0", does, 0, *words,
-                         False, False)
+            self.refuses("session main: pane 1 has no stored rows: it has no such pane any more", does, 0, *words, False, False)
         self.generation = 5
         self.refuses("session main: the pty host does not answer", scrollback.capture_rows, 0, "0", None, False, False)
         self.socket.close()

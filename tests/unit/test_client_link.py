@@ -219,7 +219,7 @@ class AnySession:
     def __init__(self):
         self.client = self.noted = 1
         self.served, self.full = True, False
-        self.revived, self.fault, self.reads = 0, None, 0
+        self.revived, self.fault, self.reads, self.is_foreign = 0, None, 0, False
 
     def __str__(self):
         return "in /folder"
@@ -237,6 +237,14 @@ class AnySession:
     def runs(self, role):
         """Return True if the role runs."""
         return self.process(role) is not None
+
+    def is_replaced(self):
+        """Return True if another session has its folder."""
+        return self.is_foreign
+
+    def is_peer(self, name, process):
+        """Return True unless another session has its folder."""
+        return not self.is_foreign
 
     def is_served(self):
         """Return True if a server is there."""
@@ -326,6 +334,14 @@ class Kept(Linked):
         self.assertEqual(self.reconnector.connected(), LET_GO)
         self.link.has_come = self.link.records.begun = True
         self.assertEqual(self.reconnector.lost(), LET_GO)
+
+    def test_replaced(self):
+        """A link never follows a client of another session that has the folder by now, and starts none there."""
+        self.place.is_foreign = True
+        self.assertEqual(self.reconnector.connect()[1], "another session has the name of this one by now")
+        self.assertEqual((self.link.peer, self.place.revived), (None, 0))
+        self.place.is_foreign = False
+        self.assertIsNone(self.reconnector.connect())
 
     def test_pauses(self):
         """The pause is 0.1 s, and longer with each early end; a connection of 5 s counts as no failure."""

@@ -1,4 +1,5 @@
 """The common code of the tools for programs, sockets and processes: server addresses, presence notes, and the ends of tools."""
+import fcntl
 import os
 import pathlib
 import signal
@@ -38,11 +39,15 @@ class Programs(Case):
         self.assertEqual(common_process.program(), str(files[3]))
         for named in (files[0], files[1], folder):
             self.environment(ROAM=str(named))
-            with self.assertRaisesRegex(Fault, f"^{named} does not exist; `make` builds it$"):
+            with self.assertRaisesRegex(Fault, f"^{named} is no program; the variable ROAM names it$"):
                 common_process.program()
         self.environment(ROAM=None)
         self.patch_of(common_process, "PLACES", tuple(files[:2]))
         with self.assertRaisesRegex(Fault, f"^{files[0]} does not exist; `make` builds it$"):
+            common_process.program()
+        # Beside installed tools there are no sources.
+        self.patch_of(common_process, "TOOLS", FilePath(folder / "lib"))
+        with self.assertRaisesRegex(Fault, "^the program roam was removed or moved; install roam again$"):
             common_process.program()
 
     def test_ids(self):
@@ -240,6 +245,30 @@ class Notes(Case):
             self.assertEqual(errors.logs, [str(self.folder / "log")])
         self.assertFalse(front_end_lock.has_front_ends(self.folder))
         self.assertEqual((self.folder / "front_ends").stat().st_mode & 0o777, 0o600)
+
+    def test_beside_a_look(self):
+        """A process that looks whether somebody is there has the lock for a moment: a front end gets it all the same."""
+        (self.folder / "front_ends").touch()
+        look = os.open(self.folder / "front_ends", os.O_RDONLY)
+        fcntl.flock(look, fcntl.LOCK_EX)
+        self.patch_of(common_files.time, "sleep", side_effect=lambda seconds: os.close(look))
+        with front_end_lock.FrontEndLock(self.folder):
+            self.assertTrue(front_end_lock.has_front_ends(self.folder))
+
+    def test_beside_a_removal(self):
+        """A front end whose file is removed before it has the lock takes a new one."""
+        found = front_end_lock.opened
+
+        def opened(folder):
+            end = found(folder)
+            if not removed:
+                removed.append(os.unlink(self.folder / "front_ends"))
+            return end
+
+        removed = []
+        with mock.patch.object(front_end_lock, "opened", opened), front_end_lock.FrontEndLock(self.folder):
+            self.assertTrue(front_end_lock.has_front_ends(self.folder))
+        self.assertEqual(len(removed), 1)
 
     def test_none(self):
         """Without a folder nothing stays; a lock that fails is reported, and one with an unknown state may be taken."""

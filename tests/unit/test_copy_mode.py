@@ -261,11 +261,12 @@ class Read(unittest.TestCase):
         row = row_of((" e" + "\u0301" * 1000).encode())
         self.assertEqual(len(row.letters[0]), MOST_JOINED)
 
-    def test_left_out(self):
-        """In a soft-wrapped row the omitted blanks are restored; a row of a narrower pane stays."""
-        self.assertEqual(len(row_of(b"+abc", 5).letters), 5)
-        self.assertEqual(len(row_of(b" abc", 5).letters), 3)
-        self.assertEqual(len(row_of(b"+abc", 40).letters), 3)
+    def test_wrapped_early(self):
+        """A soft-wrapped row gets no blank: it left its last column to a wide character, or it is of a narrower pane."""
+        rows = Rows(0, 2, 6)
+        rows.put(0, [b"+abcde", " \u6f22\u5b57".encode()])
+        self.assertEqual(rows.row(0).letters, list("abcde"))
+        self.assertEqual(matches(rows, 0, "e\u6f22"), [((0, 4), (1, 2))])
 
     def test_widths(self):
         for letter, width in (("a", 1), ("\u00e9", 1), ("\u0301", 0), ("\u6f22", 2), ("\uff21", 2), ("\U0001f600", 2), ("\u200d", 0),

@@ -151,6 +151,11 @@ class PlayedPanes:
         """Return True if the focused program set the keypad's application mode."""
         return "keypad" in self.focus_modes
 
+    @property
+    def wants_focus(self):
+        """Return True if the focused program wants focus reports."""
+        return "focus" in self.focus_modes
+
     def making(self, pane):
         """Return the generation of a pane."""
         return f"{pane} 1" if self.places and pane in self.places.rects else ""

@@ -17,11 +17,16 @@ class AnySession:
     def __init__(self):
         self.fault = None
         self.revived = 0
-        self.is_revived = True
+        self.is_revived = self.has_own = True
+        self.processes = {"host": 17}
 
     def process(self, role):
         """Return the process of a role."""
-        return {"host": 17}[role]
+        return self.processes[role]
+
+    def owns_host(self):
+        """Return True if it is restarted here."""
+        return self.has_own
 
     def revive_host(self):
         """Restart it."""
@@ -127,6 +132,27 @@ class Watches(unittest.TestCase):
         self.assertEqual(told[0][1], f"the shells have ended: no room; next try in {PAUSES[1]} s")
         self.place.fault = None
         self.assertTrue(self.pass_time()[1].startswith("the pty host was restarted"))
+
+    def test_ended_before(self):
+        """A host that ended before the first look is restarted too, unless another machine has it."""
+        self.place.processes["host"] = None
+        loop = StillLoop()
+        HostWatchdog(self.place, loop, self.said.append)
+        self.assertAlmostEqual(loop.wait_time(), PAUSES[0])
+        self.place.has_own, loop = False, StillLoop()
+        HostWatchdog(self.place, loop, self.said.append)
+        self.assertIsNone(loop.wait_time())
+
+    def test_ended_between(self):
+        """A restarted host that ends before it is watched is restarted again, and nothing says that it runs."""
+        self.end()
+        self.place.processes["host"] = None
+        self.assertEqual(self.pass_time()[1], "")
+        self.place.processes["host"] = 17
+        with mock.patch("roam_live.session.host_watchdog.opened_process", side_effect=Fault("the session has ended")):
+            self.assertEqual(self.pass_time()[1], "")
+        self.assertTrue(self.pass_time()[1].startswith("the pty host was restarted"))
+        self.assertEqual(self.place.revived, 3)
 
     def test_by_another(self):
         """If another process starts it, or the session ends, nothing is reported."""

@@ -1,30 +1,34 @@
 """Windows at the host: opening, names, reports, closing and adoption, with simulated processes and servers."""
+import contextlib
 import fcntl
 import json
 import os
+import select
 import shutil
 import signal
 import socket
+import subprocess
 import sys
 from unittest import mock
 
 import aids
 from aids import Asker, Case, StillLoop, unled
-from roam_live.common import process as common_process
-from roam_live.common.build_info import identity
+from roam_live.common import files, process as common_process
 from roam_live.common.errors import Fault
-from roam_live.common.process import begun
+from roam_live.common.process import begun, note_ends
+from roam_live.common.unix_socket import connected_now
 from roam_live.common.record import written
 from roam_live.host import common as host_common, pane as host_pane, hosted_window, repair, window as host_window, windows
 from roam_live.host.hosted_window import WindowProcesses
 from roam_live.host.state import WindowState, state_in
+from roam_live.host.window import WindowHost
 from roam_live.host.window_commands import ASKED_AGAIN
 from roam_live.host.windows import ENDING, ENDS, FULL, OPENS, OVER, THERE, Windows
 from roam_live.protocol.panes import Rect
 from roam_live.protocol.spawn_request import Begins
 from roam_live.protocol.window_lines import MOST_WINDOWS, name_in, name_word
 from roam_live.session import roles
-from roam_live.session.names import is_spare_server, note_ends, numbers_in
+from roam_live.session.names import is_spare_server, numbers_in
 from roam_live.session.processes import noted_in
 from roam_live.session.roles import CLIENT, SERVER
 
@@ -283,6 +287,47 @@ class Opened(Played):
     def opened_by(self, told):
         """Open a window of a size."""
         self.windows.open((24, 80), 0, lambda *words: told.append(words))
+
+    def test_client_of_another(self):
+        """While another process has the session's lock, for example to attach there, the client is its own; a window has one client."""
+        told = []
+        self.opened()
+        lock = os.open(self.folder / "lock", os.O_RDWR | os.O_CREAT)
+        fcntl.flock(lock, fcntl.LOCK_EX)
+        self.windows.open((40, 120), 0, lambda *words: told.append(words))
+        for name in ("panes", "p1"):
+            self.servers[2, name] = self.listening(self.path(2, name))
+        self.path(2, "session").touch()
+        self.turns(3)
+        self.assertEqual(self.spawned[-1], (2, SERVER))
+        self.alive.add(2001)
+        processes = self.windows.windows[2].processes
+        (self.path(2, "state.json")).write_text(json.dumps({"version": 4, SERVER: list(processes.noted[SERVER]), CLIENT: [2001, 1]}))
+        os.close(lock)
+        self.turns(3)
+        self.assertEqual((self.spawned[-1], processes.noted[CLIENT]), ((2, SERVER), (2001, 1)))
+
+    def test_over_at_once(self):
+        """A window whose first command ends before the host has looked is opened, and ends as intended."""
+        told = []
+        self.windows.open(None, 0, lambda *words: told.append(words))
+        ends = self.patch_of(host_window, "has_ended", return_value=True)
+        with mock.patch.object(WindowHost, "has_begun", return_value=False):
+            self.comes_up(1)
+        self.assertEqual(self.windows.windows[1].host.panes[1].written, 0)
+        os.close(self.made[0][1].detach())
+        self.windows.windows[1].host.reap()
+        self.turns(6)
+        self.assertEqual((told, ends.called, self.common.is_over), ([(1, "")], True, True))
+
+    def test_given_and_ended(self):
+        """A session whose first server ends before the host has seen it fails at once, and not after ten seconds."""
+        self.windows.refusal, told = "", []
+        window = self.windows.add(WindowProcesses(str(self.folder), WindowState(number=1)), lambda *words: told.append(words))
+        window.is_given, window.has_client = True, False
+        with mock.patch.object(WindowProcesses, "read", lambda processes: processes.noted.update(server=(1000, 1))):
+            self.windows.await_(window, windows.OPENS)
+        self.assertEqual(told, [(0, "its server has ended")])
 
     def test_no_first(self):
         """A session whose first window fails to open is none."""
@@ -745,6 +790,28 @@ class Noted(Case):
         self.assertEqual((len(lines), lines[0], lines[-3:]), (128, "72 1", ["198 1", "100 1", "199 1"]))
         note_ends(str(folder / "none"), ["1 1"])
 
+    def test_ends_at_once(self):
+        """Two processes that record ends at the same moment both do."""
+        folder = self.made_folder()
+        notes = ("import sys; from roam_live.common.process import note_ends; print('ready', flush=True); sys.stdin.readline(); "
+                 "note_ends(sys.argv[1], ['2 1']); print('done', flush=True)")
+        with subprocess.Popen([sys.executable, "-c", notes, str(folder)], cwd=common_process.TOOLS, text=True,
+                              stdin=subprocess.PIPE, stdout=subprocess.PIPE) as other:
+            replaces = files.replace_text
+
+            def replace(path, text):
+                other.stdin.write("now\n")
+                other.stdin.flush()
+                # Without turns the other one has added its line by then.
+                select.select([other.stdout], [], [], 0.2)
+                replaces(path, text)
+
+            self.assertEqual(other.stdout.readline(), "ready\n")
+            with mock.patch.object(files, "replace_text", replace):
+                note_ends(str(folder), ["1 1"])
+            self.assertEqual(other.stdout.readline(), "done\n")
+        self.assertEqual((folder / "ended").read_text(encoding="ascii"), "1 1\n2 1\n")
+
     def test_spawned(self):
         """A process records itself before it executes its words, has a session of its own, and no pane's name."""
         folder = self.made_folder()
@@ -877,32 +944,37 @@ class Mended(Played):
         self.assertEqual(len(self.names()), 2)
 
     def test_taken(self):
-        """If another session has the name it gets another one, by which it is found and ended; the other session is left alone."""
+        """Another session with the name is left alone, and a message names the command that ends it; then everything is restored."""
         person = self.asker(2, b"here a:/dev/pts/1 24 80 read-write\n")
-        other, more = (self.folder.with_name(f"{self.folder.name[:30]}-{number}") for number in (2, 3))
-        for path in (other, more):
-            self.addCleanup(shutil.rmtree, path, True)
-        other.mkdir()
         self.clean(True)
         self.folder.mkdir(0o700)
         state = {"version": 4, "command": [], "host": [1, common_process.begun(1)]}
         self.alive.add(1)
         with mock.patch("roam_live.session.processes.is_running", lambda process, moment: process == 1):
             (self.folder / "state.json").write_text(json.dumps(state))
-            self.minutes()
+            self.minutes(3)
         self.assertEqual(sorted(path.name for path in self.folder.iterdir()), ["lock", "state.json"])
-        noted = json.loads((more / "state.json").read_text())
-        self.assertEqual((noted["host"][0], noted["build"]), (os.getpid(), identity()))
-        self.assertEqual(json.loads((more / "w/2/state.json").read_text())["server"][0], 2000)
-        words = repair.RENAMED.format(more.name)
-        self.assertIn(words, self.said.getvalue())
+        words = host_window.UNMENDED.format(repair.TAKEN.format(self.folder.name))
+        self.assertEqual(self.said.getvalue().count(words), 1)
         self.assertIn(f"say {words}\n".encode(), read_now(person))
-        self.folder = more
+        shutil.rmtree(self.folder)
+        self.minutes()
         self.assertEqual(self.names(), [b"window 1 -\nwindow 2 74776f\nwindows 2\n"] * 2)
-        with self.assertRaises(OSError):
-            self.windows.windows[1].host.lasting.demand()
+
+    def test_busy(self):
+        """A listener that accepts nothing stops the host's loop for no moment."""
+        self.clean()
+        busy = self.listening(self.folder / "host")
+        filled = []
+        with contextlib.suppress(BlockingIOError):
+            while True:
+                filled.append(connected_now(self.folder / "host"))
+        self.addCleanup(lambda: [one.close() for one in filled])
+        self.patch("time.sleep", side_effect=AssertionError)
+        self.patch_of(self.common.socket, "is_found", return_value=False)
         self.minutes(2)
-        self.assertEqual(self.said.getvalue().count("is now called"), 1)
+        self.assertEqual(self.said.getvalue().count("accepts no connection"), 1)
+        self.assertIsNotNone(busy)
 
     def test_refused(self):
         """A failure to restore them is reported once, and retried."""
@@ -921,8 +993,3 @@ class Mended(Played):
         self.assertEqual(self.said.getvalue().count("the session's socket was removed and cannot be restored: import of "), 1)
         self.minutes()
         self.assertEqual(len(self.names()), 2)
-
-    def test_names(self):
-        """The alternative names of a session are valid names."""
-        names = repair.names_beside("x" * 32)
-        self.assertEqual((names[0], names[-1], len(names)), ("x" * 30 + "-2", "x" * 28 + "-999", 998))

@@ -20,6 +20,7 @@ FORMS = {
     "title back": r"\x1b\[23;2t", "title": r"\x1b\]2;([^\x07\x1b]{0,200})\x07", "shape": r"\x1b\[[0-6] q",
     "clip": r"\x1b\]52;c;((?:[A-Za-z0-9+/]{4})*(?:[A-Za-z0-9+/]{2}==|[A-Za-z0-9+/]{3}=)?)\x07",
     "reports": r"\x1b\[\?1003l\x1b\[\?1002l\x1b\[\?1000l\x1b\[\?1006l(?:\x1b\[\?100[23]h\x1b\[\?1006h)?",
+    "focus reports": r"\x1b\[\?1004[hl]",
     "bell": r"\x07", "keypad": r"\x1b[=>]",
 }
 ANY = re.compile("|".join(f"(?P<n{number}>{form})" for number, form in enumerate(FORMS.values())))

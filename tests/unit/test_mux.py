@@ -404,6 +404,26 @@ class Listed(Mux):
 class Far(Mux):
     """Sessions of other machines."""
 
+    def test_just_ended(self):
+        """If a remote session had ended right before an attach, another one is begun, once."""
+        asked, calls = types.SimpleNamespace(name="far", host="h", predict=None), []
+
+        def follow_far(asked, number, ends_unmet=None):
+            calls.append(ends_unmet is not None)
+            if ends_unmet and is_unmet:
+                ends_unmet()
+            return len(calls)
+
+        self.patch_of(attaching, "demand_terminal")
+        self.patch_of(attaching, "follow_far", side_effect=follow_far)
+        for is_unmet, wanted in ((True, ([True, False], 2)), (False, ([True], 1))):
+            calls.clear()
+            self.assertEqual((attaching.enter_far(asked), calls)[::-1], wanted)
+        is_unmet = True
+        calls.clear()
+        with mock.patch.object(attaching, "JUST_ENDED_SECONDS", 0.0):
+            self.assertEqual((attaching.enter_far(asked), calls), (1, [True]))
+
     def test_ssh(self):
         """A relay is started if none runs, and a relay without an answer gives the exit status."""
         clients = self.patch_of(RemoteSession, "launch_relay", return_value=0)

@@ -1,5 +1,6 @@
 """The two ends of a relay, made by hand: commands, clients and frames over pipes."""
 import argparse
+import contextlib
 import os
 import signal
 import socket
@@ -587,7 +588,7 @@ class Nears(Ends):
         self.near.asked.log = str(log)
         self.patch_of(near, "logs", [])
         self.answer()
-        self.assertEqual((dup.call_args[0][1], near.logs, log.exists()), (2, [log], True))
+        self.assertEqual((dup.call_args[0][1], near.logs, log.exists()), (2, [str(log)], True))
 
     def test_port(self):
         """A port of loopback is another entry: each address has a number of its own."""
@@ -623,6 +624,17 @@ class Numbers(Ends):
         peers.last[0] = 65535
         self.assertEqual([peers.number(name) for name in "cd"], [1, 4])
         self.assertEqual(peers.addresses, {2: "b", 3: "a", 1: "c", 4: "d"})
+
+    def test_full_window(self):
+        """In a window without a free number the peer that was silent for longest loses its own to the new one."""
+        gone = []
+        peers = near.Peers(gone.append)
+        peers.has_windows, most = True, near_command.MOST_IN_WINDOW
+        first = (1 << near_command.WINDOW_SHIFT) + 1
+        peers.numbers, peers.last[1] = {name: first + name for name in range(most)}, first + most - 1
+        peers.addresses = {number: name for name, number in peers.numbers.items()}
+        peers.moments = {number: 100.0 + (number - first - 7) % most for number in peers.addresses}
+        self.assertEqual((peers.number("new", 1), gone, len(peers.numbers)), (first + 7, [first + 7], most))
 
     def test_many(self):
         """The longest silent of too many is forgotten, and so is one that was silent for three minutes."""
@@ -1028,7 +1040,7 @@ class Commands(Case):
         """A command's messages are short and printable, and the known logs have room for them."""
         link = near_command.RunningCommand(["sleep", "60"], "-", False)
         self.addCleanup(lambda: (link.end(), link.status()))
-        rooms, writes = self.patch_of(near_command, "make_room_in_logs"), self.patch("os.write")
+        rooms, writes = self.patch_of(near_command, "log_turn", side_effect=lambda more: contextlib.nullcontext()), self.patch("os.write")
         self.patch_of(near_command, "read", return_value=b"the far host\x1b[c says so\n" * 2000)
         for _ in range(20):
             link.pass_errors()

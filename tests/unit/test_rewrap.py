@@ -318,7 +318,7 @@ class Printed(Keeping):
         for cut in range(len(data)):
             records = ScrollbackRecords()
             found = records.fed(data[:cut]) + records.fed(data[cut:])
-            self.assertEqual([(one.word, one.terminal, one.count, one.data) for one in found], wanted)
+            self.assertEqual([(one.word, one.terminal, one.rows, one.data) for one in found], wanted)
 
     def test_nonsense(self):
         """Others are none."""

@@ -4,8 +4,7 @@ import shutil
 import subprocess
 import sys
 
-from aids import Case
-from counted import plain_environment
+from aids import Case, plain_environment
 from roam_live.common.process import TOOLS
 
 # A small tree with the modules of the bundles.
@@ -101,6 +100,26 @@ class ModuleBundles(Case):
         # The host's bundle needs no other; modules without one are imported.
         self.assertEqual(self.brought("mux", "none"), ADDED["mux"])
         self.assertEqual(self.brought("host"), 6)
+
+    def test_after_use(self):
+        """A missing or stale bundle is written when its process ends, and not while a user waits for the modules."""
+        text = "\n".join(("import os, sys", "sys.path.insert(0, sys.argv[1])", "import roam_bundle", "roam_bundle.load('mux')",
+                          "import roam_live.cli.mux", "print(os.path.exists(roam_bundle.path_of('mux')))"))
+        self.assertEqual(self.run_python("-c", text, str(self.tools)), "False\n")
+        self.assertEqual(self.run_python("-c", text, str(self.tools)), "True\n")
+        path = next(self.tools.rglob("mux.*.bundle"))
+        before, source = path.read_bytes(), self.tools / "roam_live/common/text.py"
+        source.write_text(source.read_text(encoding="utf-8") + "\nMORE = 1\n", encoding="utf-8")
+        text += f"\nassert open({str(path)!r}, 'rb').read() == {before!r}"
+        self.run_python("-c", text, str(self.tools))
+        self.assertNotEqual(path.read_bytes(), before)
+
+    def test_removed(self):
+        """A process whose tools are removed before it ends writes nothing, and ends quietly."""
+        text = "\n".join(("import shutil, sys", "sys.path.insert(0, sys.argv[1])", "import roam_bundle", "roam_bundle.load('mux')",
+                          "import roam_live.cli.mux", "shutil.rmtree(sys.argv[1])"))
+        done = subprocess.run([sys.executable, "-S", "-c", text, str(self.tools)], env=plain_environment(), capture_output=True, check=False)
+        self.assertEqual((done.returncode, done.stderr, self.tools.exists()), (0, b"", False))
 
     def test_changed(self):
         """One with a changed or missing source isn't used, and is written anew."""

@@ -244,11 +244,12 @@ class Ended(Keeping):
         self.prints(b"rows 0 1 3\n a\n")
         self.ask()
         self.end()
-        self.assertEqual(self.told, [None])
         self.assertEqual(self.said, [scrollback.ENDED.format("it stopped reading")])
         self.scrollback.feed(1, b"lost")
         self.ask()
-        self.assertEqual(self.told, [None, None])
+        # Rows that are stored are answered all the same, with the reason in place of the screen.
+        told = [b" a", b" [the screen is missing here: the scrollback process ended, and is restarted soon]"]
+        self.assertEqual([snapshot.rows(0, 9)[1] for snapshot in self.told], [told, told])
         self.pass_time(PAUSES[0])
         self.scrollback.feed(1, b"b")
         self.scrollback.feed(2, b"c")
@@ -331,7 +332,7 @@ class Chosen(Case):
             for pause in (*PAUSES, PAUSES[-1]):
                 self.now += pause
                 loop.turns()
-        self.assertEqual(said, ["no scrollback is stored: /no/such/roam does not exist; `make` builds it; tried again"] * 3)
+        self.assertEqual(said, ["no scrollback is stored: /no/such/roam is no program; the variable ROAM names it; tried again"] * 3)
         scrollback.close()
 
 

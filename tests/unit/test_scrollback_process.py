@@ -208,6 +208,19 @@ class Spawned(Case):
             os.close(end)
         self.assertEqual((sizes[2], max(sizes[:2]) <= PIPE_SIZE), (SAID_SIZE, True))
 
+    def test_much_said(self):
+        """One that prints more messages than a pipe holds is read on, and its end is reported with the newest of them."""
+        says = "import sys; sys.stderr.write('x' * 100000 + ' the last words'); sys.stderr.flush(); sys.stdout.write('lost 1 1\\n')"
+        records, ends, loop = [], [], Loop()
+        real = ScrollbackProcess(loop, [sys.executable, "-S", "-E", "-c", says], records.append, lambda: None, lambda *end: ends.append(end))
+        until = time.monotonic() + 10
+        while not ends and time.monotonic() < until:
+            loop.later("look", 0.01, lambda: None)
+            loop.turn()
+        real.end("the test ends")
+        self.assertEqual([tuple(one) for one in records], [("lost", 1, 1, b"")])
+        self.assertTrue(ends and ends[0][0].endswith("x the last words") and len(ends[0][0]) <= scrollback_process.MOST_SAID)
+
     def test_descriptors(self):
         """A process has its three ends and no other of this one, and doesn't count as a program of a pane."""
         self.environment(ROAM_PANE="other:3", KEPT="one")

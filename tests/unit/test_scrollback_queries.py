@@ -53,7 +53,8 @@ class Asked(Rows):
                                     "find 1 5 0 on bet"),
                          b"count 1 5 0 3\nrows 1 5 0 2 11\n Alpha\n+be\nrows 1 5 2 1 4\n ta\nrows 1 5 3 0 0\nfound 1 5 0\nfound 1 5 1\n")
         self.assertEqual(self.asked(one, "count 1 4", "rows 2 5 0 1", "find 9 5 0 on a", "find 1 5 0 on x  y", "snapshot 1 6"),
-                         b"count 1 4 none\nrows 2 5 none\nfound 9 5 none\nfound 1 5 none\nsnapshot 1 6 none\n")
+                         b"count 1 4 none it has no such pane any more\nrows 2 5 none\nfound 9 5 none\nfound 1 5 none\n"
+                         b"snapshot 1 6 none it has no such pane any more\n")
         self.prints(b"cleared 0\nrows 0 1 3\n c\n")
         self.assertEqual(self.asked(one, "count 1 5", "rows 1 5 0 9"), b"count 1 5 3 4\nrows 1 5 3 1 3\n c\n")
 
@@ -113,13 +114,34 @@ class Asked(Rows):
         self.assertEqual(read_now(one), b"")
         self.now += SCREEN_WAIT
         self.loop.turns(3)
-        self.assertEqual(read_now(one), b"snapshot 1 5 none\ncount 1 5 0 3\n")
+        self.assertEqual(self.answer(one), ["snapshot 1 5 0 3 1 70", " [the screen is missing here: the scrollback process does not answer]",
+                                            "count 1 5 0 4"])
+
+    def test_stopped(self):
+        """A stopped process is not awaited: the stored rows come at once, with the reason, and without any the reason alone."""
+        with mock.patch("roam_live.host.scrollback.is_stopped", return_value=True):
+            one = self.connect(b"snapshot 1 5\nrows 1 5 0 9\nrelease 1 5\n")
+            row = " [the screen is missing here: the scrollback process is stopped]"
+            self.assertEqual(self.answer(one), [f"snapshot 1 5 0 3 1 {len(row) + 1}", row,
+                                                f"rows 1 5 0 4 {11 + 4 + len(row) + 1}", " Alpha", "+be", " ta", row])
+            self.scrollback.panes[1].rows.clear()
+            one.send(b"snapshot 1 5\n")
+            self.loop.turns(3)
+            self.assertEqual(self.answer(one), ["snapshot 1 5 none the scrollback process is stopped"])
+
+    @staticmethod
+    def answer(one):
+        """Return the lines of an answer."""
+        return read_now(one).decode().splitlines()
 
     def test_many(self):
         """Many lines at once, which only a failure can answer."""
         one = self.connect(b"snapshot 2 9\n" * 2000)
-        self.loop.turns(5)
-        self.assertEqual(read_now(one).count(b"snapshot 2 9 none\n"), 2000)
+        told = b""
+        for _ in range(8):
+            self.loop.turns(2)
+            told += read_now(one)
+        self.assertEqual(told.count(b"snapshot 2 9 none it has no such pane any more\n"), 2000)
 
     def test_more(self):
         """The number of new rows is reported twice a second at most, and only if it changed."""
@@ -151,7 +173,8 @@ class Asked(Rows):
         self.scrollback.room.most_held = 0
         self.prints(b"cleared 0\n")
         self.assertEqual(self.asked(one, "count 1 5", "rows 1 5 0 1", "find 1 5 0 on a", "release 1 5", "count 1 5"),
-                         b"count 1 5 none\nrows 1 5 none\nfound 1 5 none\ncount 1 5 3 3\n")
+                         b"count 1 5 none the snapshot took too much memory and was dropped\n"
+                         b"rows 1 5 none\nfound 1 5 none\ncount 1 5 3 3\n")
 
     def test_log(self):
         """Rows are sent as they come, and a gone pane's last screen; then its end."""

@@ -85,6 +85,30 @@ class Told(Sockets):
         self.connect("".join(f"here {A.replace('24', str(rows))}\n" for rows in range(1, 31)).encode())
         self.assertEqual(read_now(first), f"host {NAMED}\nothers 0\n".encode() + f"there 2 {A.replace('24', '30')}\nothers 1\n".encode())
 
+    def test_dropped_beside(self):
+        """A peer that a new window's reports drop hides its neighbour from nobody: all others join the window."""
+        ends = [self.connect(b"") for _ in range(3)]
+        for peer in self.socket.peers:
+            peer.at, peer.channel = 2, None
+        joined, drops = [], [self.socket.peers[0]]
+
+        class Channel:
+            window = 2
+
+            @staticmethod
+            def take_up(peer):
+                joined.append(peer.number)
+                if drops:
+                    self.socket.drop(drops.pop())
+
+            @staticmethod
+            def forget(peer):
+                """Forget a peer."""
+
+        self.socket.add(Channel())
+        del self.socket.channels[2]
+        self.assertEqual((joined, len(ends)), ([1, 2, 3], 3))
+
     def test_cut(self):
         """Lines come in any chunks."""
         text = f"here {A}\nwho\n".encode()

@@ -33,7 +33,7 @@ def full_state():
     return SessionState(windows={7: window, 2: WindowState(number=2)}, last_window=7, colours={"foreground": "ffff/0000/1234"},
                         environment={"DISPLAY": ":0", "SSH_CONNECTION": ""}, buffers=buffers,
                         pastes={NAME: paste, OTHER: PendingPaste.of(OTHER, b"x", True)},
-                        spent_pastes={"1" * 16: "lost", "2" * 16: "inserted"})
+                        spent_pastes={"1" * 16: "lost", "2" * 16: "inserted"}, has_run_settings=True)
 
 
 def places_in(value, path=()):

@@ -91,6 +91,52 @@ class Logs(unittest.TestCase):
     def test_not_there(self):
         make_room("/nonexistent/log", files.LOG_LIMIT)
 
+    def test_appended_meanwhile(self):
+        """A line that the program appends while a log is shortened stays, behind the older ones."""
+        with tempfile.TemporaryDirectory() as folder:
+            path = pathlib.Path(folder, "log")
+            path.write_bytes(b"old line\n" * (LOG_LIMIT // 9))
+            read = os.pread
+
+            def reads(end, count, place):
+                found = read(end, count, place)
+                if place < path.stat().st_size - KEPT + 10 and not path.read_bytes().endswith(b"new line\n"):
+                    with open(path, "ab") as log:
+                        log.write(b"new line\n")
+                return found
+
+            with mock.patch.object(files.os, "pread", reads):
+                make_room(path, 100)
+            kept = path.read_bytes()
+            self.assertEqual(kept.count(b"new line\n"), 1)
+            self.assertTrue(kept.endswith(b"old line\nnew line\n"))
+
+    def test_writers(self):
+        """Three processes that write at once lose none of their newest lines, and each one's stay in order."""
+        with tempfile.TemporaryDirectory() as folder:
+            path = pathlib.Path(folder, "log")
+            path.touch()
+            writes = ("import sys; from roam_live.common import errors\nerrors.log_to(sys.argv[1])\nsys.stderr = open(sys.argv[1] + '/log', 'a')\n"
+                      "for n in range(6000): errors.say('%s %05d ' % (sys.argv[2], n) + 'x' * 80)")
+            going = [subprocess.Popen([sys.executable, "-c", writes, folder, name], cwd=TOOLS) for name in "abc"]
+            self.assertEqual([one.wait() for one in going], [0, 0, 0])
+            lines = [line.split()[1:3] for line in path.read_text(encoding="utf-8").splitlines()]
+            self.assertGreater(path.stat().st_size, KEPT // 2)
+            for name in "abc":
+                numbers = [int(number) for one, number in lines if one == name]
+                self.assertEqual(numbers, list(range(6000 - len(numbers), 6000)), name)
+
+    def test_stopped_writer(self):
+        """A writer that was stopped within its turn stops no other one, and the log stays bounded."""
+        with tempfile.TemporaryDirectory() as folder, mock.patch.object(files, "TURN_SECONDS", 0.0):
+            path = pathlib.Path(folder, "log")
+            path.write_bytes(b"a line\n" * (LOG_LIMIT // 6))
+            with files.LogTurn(path, -2 * LOG_LIMIT):
+                make_room(path)
+                self.assertGreater(path.stat().st_size, LOG_LIMIT)
+                make_room(path, LOG_LIMIT)
+            self.assertLessEqual(path.stat().st_size, KEPT)
+
     def test_each_writer(self):
         """Each writer to a session's log, by a message, a failure or a started process, keeps it small."""
         def fails():

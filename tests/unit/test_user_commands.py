@@ -7,6 +7,7 @@ from unittest import mock
 
 from aids import Case
 from modes_played import PlayedModes
+from roam_live.common.errors import Fault
 from roam_live.common.event_loop import Loop
 from roam_live.config import environment
 from roam_live.config.command_table import BY_NAME, DEFAULT_KEYS, BadCommand, asked_by, completed
@@ -33,6 +34,7 @@ ASKED = (
 )
 WRONG = (("kill-pane -t 3", "kill-pane: unknown flag -t"), ("killw -a", "killw: unknown flag -a"),
          ("neww -c #{pane_id}", "neww: -c takes a directory or #{pane_current_path}"), ("nosuch", "nosuch is not a command of roam"),
+         ("choose-tree -Zs", "choose-tree: -s: there is no list of sessions here; `mux ls` prints one"),
          ("splitw -Q", "splitw: unknown flag -Q"), ("selectw -t 100", "selectw: 100 is not a number from 1 to 99"),
          ("selectp -t 0", "selectp: 0 is not a number from 1 to 9"), ("resizep", "resizep: -L, -R, -U, -D or -Z is missing"),
          ("killp x", "killp: unexpected word x"), ("selectl tiled", "selectl: unexpected word tiled"),
@@ -190,6 +192,35 @@ class Line(Case):
         self.commands.display.row.tell.assert_called_once_with("two?[2J", 4.0)
         self.runner.runs[0].process.wait()
         self.assertTrue(self.runner.runs[0].has_ended())
+
+    def test_failed(self):
+        """A message reports the status of a shell that fails, behind its output, also if it closes its output before it ends."""
+        for line, told in (("run false", "'false' returned 1"), ("run -b 'exec >&- 2>&-; sleep 0.1; exit 3'", "returned 3"),
+                           ("run 'kill -9 $$'", "terminated by signal 9")):
+            self.commands.display.row.tell.reset_mock()
+            self.runner.typed(line)
+            while not self.commands.display.row.tell.called:
+                self.loop.turn()
+            self.assertTrue(self.commands.display.row.tell.call_args.args[0].endswith(told), line)
+
+    def test_error_ends(self):
+        """The message of an earlier command ends with the next one, and a message of something else stays."""
+        row = self.commands.display.row
+        row.tell.side_effect = lambda text, seconds: setattr(row, "told", text)
+        self.runner.typed("resize-pane -x 30")
+        self.assertEqual(row.told, "resize-pane: unknown flag -x")
+        self.runner.typed("resize-pane -Z")
+        row.end_told.assert_called_once_with()
+        row.told = "another message"
+        self.runner.typed("resize-pane -Z")
+        row.end_told.assert_called_once_with()
+
+    def test_source(self):
+        """An error of source-file ends the chain, and is the message."""
+        self.runner.settings.read.side_effect = Fault("/gone.conf: cannot be read: No such file or directory")
+        self.runner.typed("source-file /gone.conf ; killp")
+        self.commands.display.row.tell.assert_called_once_with("/gone.conf: cannot be read: No such file or directory", 4.0)
+        self.commands.type_key.assert_not_called()
 
     def test_listed(self):
         """A shell's whole output is shown in a list; a single line, and without a list the last one, as a message."""

@@ -91,8 +91,10 @@ class Own(Case):
         self.assertEqual((config_environment.chosen_prefix(), config_environment.wants_mouse(), OWN.line()),
                          ("C-a", False, "other.conf:3: roam does not support foo"))
         self.assertEqual(sorted(OWN.found.bindings), [("prefix", "x"), ("prefix", "y")])
-        OWN.add(str(self.folder / "none"))
-        self.assertEqual(OWN.line(), "none: cannot be read: No such file or directory")
+        before = OWN.found
+        with self.assertRaisesRegex(Fault, "none: cannot be read: No such file or directory$"):
+            OWN.add(str(self.folder / "none"))
+        self.assertIs(OWN.found, before)
 
     def test_refused(self):
         """A file that others may write is reported, and nothing of it applies; neither does an invalid value."""

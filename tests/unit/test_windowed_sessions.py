@@ -24,6 +24,7 @@ from roam_live.session.front_end_lock import has_front_ends
 from roam_live.session.local import LocalSession, Window
 from roam_live.session.lookup import session_named, window_in
 from roam_live.session.names import WINDOWS_VERSION, is_spare_server, numbers_in
+from roam_live.session.start_limits import current_limits
 
 PLACES = Places({1: Rect(1, 1, 23, 80)}, 1, 1)
 
@@ -129,6 +130,39 @@ class Found(Sessions):
         near = remote.RemoteSession(folder)
         self.assertTrue(near.find())
         self.assertEqual(near.process("relay"), os.getpid())
+
+    def test_replaced(self):
+        """A session whose folder another one has by now shows none of its windows, accepts none of its processes and starts nothing there."""
+        session = self.session()
+        self.noted("main", 2, server=self.own, client=self.own)
+        window = session.window(2)
+        other = self.process()
+        for name, is_own in (("host", True), ("panes", True), ("terminals", True)):
+            self.assertEqual(window.is_peer(name, os.getpid()), is_own)
+            self.assertFalse(window.is_peer(name, other.pid))
+        foreign = [other.pid, begun(other.pid)]
+        self.noted("main", 2, server=foreign, client=foreign)
+        self.noted("main", host=foreign)
+        for name in ("host", "panes", "terminals"):
+            self.assertFalse(window.is_peer(name, other.pid), name)
+        self.assertTrue(window.is_replaced())
+        told = "^session main: its files were removed, and another session has its name; `mux kill main` ends that one$"
+        for number in (None, 7, 2):
+            with self.assertRaisesRegex(Fault, told):
+                session.window(number)
+        other.kill()
+        other.wait()
+        self.assertFalse(window.is_replaced())
+
+    def test_by_command(self):
+        """The pty host of a removed folder is found by its command, so that no other session begins in its name."""
+        tool = self.base / "pane_shells"
+        tool.write_text("#!/bin/sh\nsleep 60 & wait\n")
+        tool.chmod(0o755)
+        host = self.process(str(tool), "--windows", "--first", str(self.base / "gone"), "vi")
+        session = session_named("gone")
+        self.assertTrue(comes(session.find))
+        self.assertEqual((session.process("host"), session_named("gon").find()), (host.pid, False))
 
     def test_unreachable(self):
         """Another client replaces one without a socket for ten seconds."""
@@ -274,7 +308,7 @@ class Launched(Sessions):
         self.spawned, self.waits, self.ended, self.refused = [], [], [], ""
         for module in (roles,):
             self.patch_of(module, "program", return_value="/roam")
-        self.patch_of(SessionFolder, "spawned", lambda session, role, words: self.spawn(session, role, words))
+        self.patch_of(SessionFolder, "spawned", lambda session, role, words, *parts: self.spawn(session, role, words))
         self.patch_of(SessionFolder, "wait_for", lambda session, role, before, test: self.waits.append((role, test)))
         self.patch_of(SessionFolder, "end", lambda session, role: self.ended.append((session.name, role)))
         (self.base / "new").mkdir(mode=0o700)
@@ -295,7 +329,7 @@ class Launched(Sessions):
             ("host", [str(roles.TOOLS / "pane_shells"), "--windows", "--first", str(self.base / "new"), "vi", "x"]),
             ("server", ["/roam", "serve", "--normalize", "--dir", str(folder)])])
         self.assertEqual((self.new.state, folder.stat().st_mode & 0o777, folder.parent.stat().st_mode & 0o777),
-                         ({"version": WINDOWS_VERSION, "command": ["vi", "x"], "build": identity(), "host": self.own}, 0o700, 0o700))
+                         ({"version": WINDOWS_VERSION, "command": ["vi", "x"], **current_limits(), "build": identity(), "host": self.own}, 0o700, 0o700))
         role, test = self.waits[0]
         self.assertEqual((role, test()), ("server", False))
         (folder / "session").touch()
@@ -411,6 +445,18 @@ class Near(Sessions):
     def setUp(self):
         super().setUp()
         (self.base / "ssh:h:n").mkdir()
+
+    def test_short_name(self):
+        """The number that options of `mux ssh` add to a name may be left out, unless two names begin so."""
+        for number in ("26ae6edd", "00000001"):
+            (self.base / f"ssh:x:far:{number}").mkdir()
+            if number == "26ae6edd":
+                self.assertEqual(session_named("ssh:x:far").folder.name, "ssh:x:far:26ae6edd")
+        with self.assertRaisesRegex(Fault, "^ssh:x:far may be ssh:x:far:00000001 or ssh:x:far:26ae6edd; name one of them$"):
+            session_named("ssh:x:far")
+        self.assertEqual(session_named("ssh:x:far:26ae6edd").folder.name, "ssh:x:far:26ae6edd")
+        with self.assertRaisesRegex(Fault, "^no session named ssh:x:fa; "):
+            session_named("ssh:x:fa")
 
     def test_windows(self):
         """They are the reported ones, and the default is the relay's own."""

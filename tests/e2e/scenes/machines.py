@@ -261,6 +261,32 @@ def far(folder):
         check("its end is told", one.shows("[the session has ended]") and one.ends(), one.rows)
 
 
+@scene
+def far_just_ended(folder):
+    """If a remote session ends before the relay here has learned of it, `mux ssh` begins another one."""
+    far = folder / "far"
+    words, there = ssh_words(folder, far, folder / "asked"), {**os.environ, "XDG_RUNTIME_DIR": str(far)}
+    outer = Outer(words)
+    outer.shows("$ ")
+    outer.type(b"echo fi''rst\r")
+    outer.shows("first")
+    outer.type(b"\x02d")
+    outer.ends()
+    near = next(pathlib.Path(os.environ["XDG_RUNTIME_DIR"], "roam").glob("ssh:*"))
+    relay = json.loads((near / "state.json").read_text(encoding="utf-8"))["relay"][0]
+    os.kill(relay, signal.SIGSTOP)
+    subprocess.run(tool("mux", "kill", "-f", "other"), env=there, check=True)
+    again = Outer(words)
+    check("the last screen is shown first", again.shows("first"), again.rows)
+    os.kill(relay, signal.SIGCONT)
+    is_new = comes(lambda: any(row.startswith("$ ") for row in again.rows()) and "first" not in "".join(again.rows()))
+    check("then another session", is_new, again.rows)
+    again.type(b"echo sec''ond\r")
+    check("which takes what is typed", again.shows("second"), again.rows)
+    again.type(b"exit\r")
+    check("and whose end is told", again.shows("[the session has ended]") and again.ends(), again.rows)
+
+
 def far_ends(far):
     """Return the far ends of a session of another folder, by their own notes, or as children of the relay here."""
     noted_there = []

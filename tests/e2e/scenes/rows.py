@@ -193,8 +193,9 @@ def process_lost(folder):
     is_told = outer.was_told("scrollback rows were lost: the scrollback process is too slow", begin=written)
     check("which is told", is_told, outer.rows)
     check("keys are echoed meanwhile", run(outer, "clear", "echoed"), outer.rows)
-    status, _, why = said("capture", "-S", "-", SESSION)
-    check("no snapshot is had of it", status == 1 and "has no stored rows" in why, why)
+    status, rows, why = said("capture", "-S", "-", SESSION)
+    is_there = in_order(rows.splitlines(), "50", "[rows were lost here]", "250", "[the screen is missing here: the scrollback process is stopped]")
+    check("the rows from before are captured, with the reason that the screen is missing", status == 0 and is_there, lambda: (rows[-200:], why))
     os.kill(process, signal.SIGCONT)
     # Output before it has caught up is lost too. Each try waits for a word of its own, so that tries don't pile up.
     tries = itertools.count()
