@@ -1,7 +1,8 @@
 -- A control sequence with neither a private marker nor an intermediate byte says nothing.
 use Rattle.std.proofs.Common.{◌≡◌, ◌<◌, ◌≤◌, ℕ, Bool, true, false, cond, nat_lt, List, [], ◌∷◌, ◌++◌, map, Option, None, Some, refl, sym, ap, ◌∙◌, arith, append_assoc, subst}
-use Rattle.std.specs.Prelude.{◌==◌, ⊤}
+use Rattle.std.specs.Prelude.{◌==◌, ◌&&◌, nat_le, not, ⊤}
 use Rattle.std.specs.List.{fold, flat_map}
+use Rattle.std.specs.Option.{option_to_list}
 use Rattle.std.proofs.lemmas.Bool.Decides.{nat_tests}
 use Rattle.std.proofs.lemmas.List.Concat.{flat_map-append}
 use Rattle.roam_text.specs.declared.kinds.Kind.{Kind}
@@ -19,8 +20,9 @@ use Rattle.roam_text.proofs.StringMoves.{strings-step}
 use Rattle.roam_pane_metadata.specs.declared.settings.Settings.{Settings}
 use Rattle.roam_pane_metadata.specs.Settings.{heard}
 use Rattle.roam_pane_metadata.specs.Emissions.{emitted_by}
-use Rattle.roam_pane_metadata.specs.Queries.{asked_in, frame_after}
-use Rattle.roam_pane_metadata.specs.Silence.{SaySame, SaysNothing, AreNumbers, IsPlainSequence, is_number, is_final}
+use Rattle.roam_pane_metadata.specs.declared.queries.QueryForm.TheVariants.{Nothing, Window}
+use Rattle.roam_pane_metadata.specs.Queries.{asked, asked_in, frame_after}
+use Rattle.roam_pane_metadata.specs.Silence.{SaySame, SaysNothing, AreNumbers, IsPlainSequence, asks, is_number, is_final}
 use Rattle.roam_pane_metadata.proofs.Folds.{ArePlain, frame-more, plain-asked}
 
 lt-yes : (a b : ℕ) → a < b → nat_lt a b ≡ true
@@ -29,7 +31,7 @@ lt-yes a b h = grind (arith, nat_tests)
 lt-no : (a b : ℕ) → b ≤ a → nat_lt a b ≡ false
 lt-no a b h = grind (arith, nat_tests)
 
--- the kinds of number bytes and of final bytes
+-- the kinds of number bytes, and of final bytes that ask for nothing
 abbrev IsNumeral : Kind → Type 0
 IsNumeral (Digit b) = ⊤
 IsNumeral Colon = ⊤
@@ -37,8 +39,8 @@ IsNumeral Separator = ⊤
 IsNumeral k = ⊥
 
 abbrev IsFinal : Kind → Type 0
-IsFinal (Upper b) = ⊤
-IsFinal (Lower b) = ⊤
+IsFinal (Upper b) = asks b ≡ false
+IsFinal (Lower b) = asks b ≡ false
 IsFinal k = ⊥
 
 module _ (P : Kind → Type 0) (b : ℕ) (low : 0x30 ≤ b) (high : b < 0x80) where
@@ -71,21 +73,30 @@ numeral : (b : ℕ) → is_number b ≡ true → IsNumeral (kind_of b)
 numeral b h = from-ascii IsNumeral b (number-low b h) (number-high b h)
     (numeral-by b _ (nat_lt b 0x3A) (b == 0x3A) (b == 0x3B) (last-number b h))
 
-final-by : (b : ℕ) (x y z u v w : Bool) → x ≡ false → y ≡ false → z ≡ false → u ≡ false → (v ≡ false → w ≡ true)
+final-by : (b : ℕ) (x y z u v w : Bool) → asks b ≡ false → x ≡ false → y ≡ false → z ≡ false → u ≡ false → (v ≡ false → w ≡ true)
     → IsFinal (cond x (Digit b) (cond y Colon (cond z Separator (cond u (PrivateMarker b) (cond v (Upper b) (cond w (Lower b) Delete))))))
-final-by b false false false false true w p q r s h = tt
-final-by b false false false false false true p q r s h = tt
-final-by b false false false false false false p q r s h = absurd (true≢false (sym (h refl)))
-final-by b true y z u v w p q r s h = absurd (true≢false p)
-final-by b false true z u v w p q r s h = absurd (true≢false q)
-final-by b false false true u v w p q r s h = absurd (true≢false r)
-final-by b false false false true v w p q r s h = absurd (true≢false s)
+final-by b false false false false true w o p q r s h = o
+final-by b false false false false false true o p q r s h = o
+final-by b false false false false false false o p q r s h = absurd (true≢false (sym (h refl)))
+final-by b true y z u v w o p q r s h = absurd (true≢false p)
+final-by b false true z u v w o p q r s h = absurd (true≢false q)
+final-by b false false true u v w o p q r s h = absurd (true≢false r)
+final-by b false false false true v w o p q r s h = absurd (true≢false s)
 
 final-low : (b : ℕ) → is_final b ≡ true → 0x40 ≤ b
 final-low b h = grind (arith, nat_tests)
 
 final-high : (b : ℕ) → is_final b ≡ true → b < 0x7F
 final-high b h = grind (arith, nat_tests)
+
+and-right : (x y z : Bool) → ((x && y) && not z) ≡ true → z ≡ false
+and-right true true false h = refl
+and-right true true true h = cc
+and-right true false z h = cc
+and-right false y z h = cc
+
+final-asks : (b : ℕ) → is_final b ≡ true → asks b ≡ false
+final-asks b h = and-right (nat_le 0x40 b) (nat_lt b 0x7F) (asks b) h
 
 not-equal : (a b : ℕ) → b < a → (a == b) ≡ false
 not-equal a b h = grind (arith, nat_tests)
@@ -95,7 +106,7 @@ final-kind b h =
     let low = final-low b h in
     let high = final-high b h in
     from-ascii IsFinal b (omega (arith, low)) (omega (arith, high))
-    (final-by b (nat_lt b 0x3A) (b == 0x3A) (b == 0x3B) (nat_lt b 0x40) (nat_lt b 0x60) (nat_lt b 0x7F)
+    (final-by b (nat_lt b 0x3A) (b == 0x3A) (b == 0x3B) (nat_lt b 0x40) (nat_lt b 0x60) (nat_lt b 0x7F) (final-asks b h)
     (lt-no b 0x3A (omega (arith, low))) (not-equal b 0x3A (omega (arith, low))) (not-equal b 0x3B (omega (arith, low))) (lt-no b 0x40 low) (λ _. lt-yes b 0x7F high))
 
 -- ---- the fronts
@@ -189,15 +200,20 @@ plain-header [] n = plain-inter (first_sixteen (map capped_value (digits_of_para
 plain-header (PrivateMarker b ∷ ks) n = absurd n.0
 plain-header (k ∷ ks) n = plain-inter (first_sixteen (map capped_value (digits_of_parameters (kinds_while is_numeric (k ∷ ks))))) (k ∷ ks) n
 
-plain-function : (mark : Option ℕ) (inter params : List ℕ) (last : ℕ) → mark ≡ None → inter ≡ []
+plain-function : (mark : Option ℕ) (inter params : List ℕ) (last : ℕ) → asks last ≡ false → mark ≡ None → inter ≡ []
     → ArePlain (control_sequence_function (Some (record { mark = mark; params = params; inter = inter })) last)
-plain-function None [] params last m i = record { sets = λ s. refl; frame = λ f. refl; asked = λ s f. refl; emits = refl }
-plain-function None (b ∷ inter) params last m i = cc
-plain-function (Some mark) inter params last m i = cc
+plain-function None [] params last o m i = record {
+  sets = λ s. refl;
+  frame = λ f. refl;
+  asked = λ s f. ap (λ t. option_to_list (asked (cond t Window Nothing) params s f) ++ []) o;
+  emits = refl;
+}
+plain-function None (b ∷ inter) params last o m i = cc
+plain-function (Some mark) inter params last o m i = cc
 
-header-plain : (h : Option Header) (last : ℕ) → PlainHeader h → ArePlain (control_sequence_function h last)
-header-plain None last p = record { sets = λ s. refl; frame = λ f. refl; asked = λ s f. refl; emits = refl }
-header-plain (Some h) last p = plain-function h.mark h.inter h.params last p.0 p.1
+header-plain : (h : Option Header) (last : ℕ) → asks last ≡ false → PlainHeader h → ArePlain (control_sequence_function h last)
+header-plain None last o p = record { sets = λ s. refl; frame = λ f. refl; asked = λ s f. refl; emits = refl }
+header-plain (Some h) last o p = plain-function h.mark h.inter h.params last o p.0 p.1
 
 fold-after : (fs more : List Function) (s : Settings) → fold heard s (fs ++ more) ≡ fold heard (fold heard s fs) more
 fold-after [] more s = refl
@@ -205,8 +221,8 @@ fold-after (f ∷ fs) more s = fold-after fs more (heard s f)
 
 ends-plain : (k : Kind) (c : ℕ) (h : Option Header) (tail : List Sign) → IsFinal k → PlainHeader h
     → ArePlain (end_control_sequence h (Character k c ∷ tail)).gives × ((end_control_sequence h (Character k c ∷ tail)).left ≡ tail)
-ends-plain (Upper b) c h tail f p = (header-plain h b p, refl)
-ends-plain (Lower b) c h tail f p = (header-plain h b p, refl)
+ends-plain (Upper b) c h tail f p = (header-plain h b f p, refl)
+ends-plain (Lower b) c h tail f p = (header-plain h b f p, refl)
 ends-plain k c h tail f p = absurd f
 
 module _ (body : List ℕ) (last : ℕ) (numbers : AreNumbers body) (final : is_final last ≡ true) (rest : List Sign) where

@@ -1,5 +1,5 @@
--- Questions of a program that its screen can't answer: colours, the state of a mode, and the terminal's name (xterm's control sequences and
--- operating system commands; DECRQM of the VT510).
+-- Questions of a program that its screen can't answer: colours, the state of a mode, the size, and the terminal's name (xterm's control
+-- sequences and operating system commands; DECRQM of the VT510).
 use Rattle.std.specs.Prelude.{ℕ, ◌==◌, ◌&&◌, Bool, true, false, cond, if◌then◌else◌, List, [], ◌∷◌, ◌++◌, map, Option, None, Some}
 use Rattle.std.specs.List.{flat_map, fold}
 use Rattle.std.specs.Option.{option_to_list}
@@ -13,12 +13,16 @@ use Rattle.roam_text.specs.Log.{Byte}
 use Rattle.roam_text.specs.Functions.{functions_of}
 use Rattle.roam_text.specs.Strings.{ControlString, strings_of}
 use Rattle.roam_pane_metadata.specs.declared.settings.Settings.{Settings}
+use Rattle.roam_pane_metadata.specs.declared.settings.Tracking.{Tracking}
+use Rattle.roam_pane_metadata.specs.declared.settings.Tracking.TheVariants.{Off, Buttons, Drags, Motion}
 use Rattle.roam_pane_metadata.specs.declared.settings.Wish.{Wish}
 use Rattle.roam_pane_metadata.specs.declared.settings.Wish.TheVariants.{SetModes, ResetModes}
 use Rattle.roam_pane_metadata.specs.declared.queries.Query.{Query}
-use Rattle.roam_pane_metadata.specs.declared.queries.Query.TheVariants.{Foreground, Background, Frames, Pastes, Version}
+use Rattle.roam_pane_metadata.specs.declared.queries.Query.TheVariants.{Foreground, Background, Frames, Pastes, PrivateMode, Size, Version}
 use Rattle.roam_pane_metadata.specs.declared.queries.QueryForm.{QueryForm}
-use Rattle.roam_pane_metadata.specs.declared.queries.QueryForm.TheVariants.{Nothing, Mode, Name}
+use Rattle.roam_pane_metadata.specs.declared.queries.QueryForm.TheVariants.{Nothing, Mode, Window, Name}
+use Rattle.roam_pane_metadata.specs.declared.queries.ModeState.{ModeState}
+use Rattle.roam_pane_metadata.specs.declared.queries.ModeState.TheVariants.{Unknown, Set, Reset}
 use Rattle.roam_pane_metadata.specs.Settings.{fresh_settings, heard, resets, wish_of}
 use Rattle.roam_pane_metadata.specs.InOrder.{in_order, later_in_order, next_in_order}
 
@@ -42,28 +46,58 @@ frame_after frame f = frame
 abbrev pub frame_of : List ℕ → Bool
 frame_of bytes = fold frame_after false (functions_of (map Byte bytes))
 
+-- ---- the state of a mode, as DECRPM reports it (VT510)
+
+abbrev pub state_of : Bool → ModeState
+state_of true = Set
+state_of false = Reset
+
+-- the private mode that asked for these reports of the mouse; 0 if none did (xterm, mouse tracking)
+abbrev pub tracking_mode : Tracking → ℕ
+tracking_mode Off = 0
+tracking_mode Buttons = 1000
+tracking_mode Drags = 1002
+tracking_mode Motion = 1003
+
+-- the state of a private mode; those that no setting has are unknown (xterm, DECSET)
+abbrev pub mode_state : Settings → ℕ → ModeState
+mode_state s n =
+    if n == 1000 then state_of (tracking_mode s.tracking == 1000) else
+    if n == 1002 then state_of (tracking_mode s.tracking == 1002) else
+    if n == 1003 then state_of (tracking_mode s.tracking == 1003) else
+    if n == 1004 then state_of s.focus_reports else
+    if n == 1006 then state_of s.sgr_reports else
+    if n == 47 then state_of s.alternate_screen else
+    if n == 1047 then state_of s.alternate_screen else
+    if n == 1049 then state_of s.alternate_screen else
+    Unknown
+
 -- ---- questions by control functions
 
--- the question of a control sequence: the state of a private mode (DECRQM, CSI ? n $ p), or the name (XTVERSION, CSI > q)
+-- the question of a control sequence: the state of a private mode (DECRQM, CSI ? n $ p), a report on the window (xterm, CSI n t), or the name
+-- (XTVERSION, CSI > q)
 abbrev pub query_form_of : Option ℕ → List ℕ → ℕ → QueryForm
+query_form_of None [] last = cond (last == 0x74) Window Nothing
 query_form_of (Some mark) [] last = cond (mark == 0x3E && last == 0x71) Name Nothing
 query_form_of (Some mark) (b ∷ []) last = cond (mark == 0x3F && (b == 0x24 && last == 0x70)) Mode Nothing
 query_form_of mark inter last = Nothing
 
--- the question about a mode, by bracketed paste and an open update: 2004 and 2026 only
-abbrev pub mode_asked : Bool → Bool → ℕ → Option Query
-mode_asked paste frame n = if n == 2004 then Some (Pastes paste) else if n == 2026 then Some (Frames frame) else None
+-- the question about a private mode, under these settings, and with an update open or not
+abbrev pub mode_asked : Settings → Bool → ℕ → Query
+mode_asked s frame n =
+    if n == 2004 then Pastes s.bracketed_paste else if n == 2026 then Frames frame else PrivateMode n (mode_state s n)
 
--- with its parameters
-abbrev pub asked : QueryForm → List ℕ → Bool → Bool → Option Query
-asked Mode (n ∷ []) paste frame = mode_asked paste frame n
-asked Name (n ∷ []) paste frame = cond (n == 0) (Some Version) None
-asked query_form params paste frame = None
+-- with its parameters; 18 asks for the size of the text area in characters (xterm, window manipulation)
+abbrev pub asked : QueryForm → List ℕ → Settings → Bool → Option Query
+asked Mode (n ∷ []) s frame = Some (mode_asked s frame n)
+asked Window (n ∷ more) s frame = cond (n == 18) (Some Size) None
+asked Name (n ∷ []) s frame = cond (n == 0) (Some Version) None
+asked query_form params s frame = None
 
 -- the questions of a function under these settings
 abbrev pub asked_by : Settings → Bool → Function → List Query
 asked_by s frame (Csi mark params inter last) =
-    option_to_list (asked (query_form_of mark inter.items last) params.items s.bracketed_paste frame)
+    option_to_list (asked (query_form_of mark inter.items last) params.items s frame)
 asked_by s frame f = []
 
 -- the questions of some functions, each under the settings of those before it

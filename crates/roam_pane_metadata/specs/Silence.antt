@@ -1,5 +1,5 @@
 -- Bytes that say nothing beside the screen.
-use Rattle.std.specs.Prelude.{ℕ, ◌≡◌, ⊤, ◌&&◌, nat_le, nat_lt, Bool, true, not, List, [], ◌∷◌, ◌++◌, map}
+use Rattle.std.specs.Prelude.{ℕ, ◌≡◌, ⊤, ◌==◌, ◌&&◌, nat_le, nat_lt, Bool, true, not, List, [], ◌∷◌, ◌++◌, map}
 use Rattle.std.specs.List.{flat_map, fold}
 use Rattle.memchr.specs.Find.{is_byte3}
 use Rattle.roam_text.specs.Log.{Sign, character, settled_part}
@@ -39,16 +39,20 @@ AreStill (b ∷ bytes) = (is_still b ≡ true) × AreStill bytes
 abbrev pub is_number : ℕ → Bool
 is_number b = nat_le 0x30 b && nat_lt b 0x3C
 
--- a final byte of a control sequence: 40 to 7E (ECMA-48 5.4)
+-- a final byte that asks for something even with neither a private marker nor an intermediate byte: t, a report on the window (xterm)
+abbrev pub asks : ℕ → Bool
+asks b = b == 0x74
+
+-- another final byte of a control sequence: 40 to 7E (ECMA-48 5.4)
 abbrev pub is_final : ℕ → Bool
-is_final b = nat_le 0x40 b && nat_lt b 0x7F
+is_final b = nat_le 0x40 b && nat_lt b 0x7F && not (asks b)
 
 -- such bytes alone
 abbrev pub AreNumbers : List ℕ → Type 0
 AreNumbers [] = ⊤
 AreNumbers (b ∷ bytes) = (is_number b ≡ true) × AreNumbers bytes
 
--- a whole control sequence with neither a private marker nor an intermediate byte
+-- a whole control sequence with neither a private marker nor an intermediate byte, that asks for nothing
 pub record IsPlainSequence (bytes : List ℕ) : Type 0 where
   pub body : List ℕ
   pub last : ℕ

@@ -23,5 +23,5 @@ mod silence;
 mod texts;
 
 pub use metadata::Metadata;
-pub use queries::Query;
+pub use queries::{ModeState, Query};
 pub use settings::{Settings, Tracking, fresh_settings};

@@ -3,10 +3,21 @@ ghost use Rattle.std.specs.Prelude.{◌≡◌};
 ghost use Rattle.std.specs.List.{fold};
 ghost use Rattle.std.specs.Option.{option_to_list};
 ghost use Rattle.roam_text.specs.Dispatched.{function_of};
-ghost use Rattle.roam_pane_metadata.specs.Queries.{asked, asked_by, colour_asked, frame_after, frame_by, frame_granted, is_bell, mode_asked, query_form_of, query_in};
+ghost use Rattle.roam_pane_metadata.specs.Queries.{asked, asked_by, colour_asked, frame_after, frame_by, frame_granted, is_bell, mode_asked, mode_state, query_form_of, query_in, state_of, tracking_mode};
 
-use crate::settings::{Settings, Wish, wish_of};
+use crate::settings::{Settings, Tracking, Wish, wish_of};
 use roam_text::{Dispatch, StringEnd};
+
+/// The state of a mode, as DECRPM reports it (VT510).
+#[derive(Clone, Copy)]
+pub enum ModeState {
+    /// The terminal has no such mode: 0.
+    Unknown,
+    /// It is set: 1.
+    Set,
+    /// It is reset: 2.
+    Reset,
+}
 
 /// A question of a program to its terminal.
 #[derive(Clone, Copy, Default)]
@@ -19,6 +30,10 @@ pub enum Query {
     Frames { is_set: bool },
     /// DECRQM of 2004: are pastes bracketed? With the state at that time.
     Pastes { is_set: bool },
+    /// DECRQM of another private mode, by its number, with the state at that time.
+    PrivateMode { number: u16, state: ModeState },
+    /// The size of the text area in characters, CSI 18 t.
+    Size,
     /// The terminal's name, XTVERSION.
     #[default]
     Version,
@@ -30,6 +45,8 @@ pub enum QueryForm {
     Nothing,
     /// The state of a private mode, DECRQM.
     Mode,
+    /// A report on the window, CSI t.
+    Window,
     /// The terminal's name, XTVERSION.
     Name,
 }
@@ -77,27 +94,75 @@ fn query_form_of(mark: Option<u8>, inter: &[u8], last: u8) -> QueryForm
     ensures query { result ≡ query_form_of mark inter.now last }
 {
     match (mark, inter, last) {
+        (None, [], b't') => QueryForm::Window,
         (Some(b'>'), [], b'q') => QueryForm::Name,
         (Some(b'?'), [b'$'], b'p') => QueryForm::Mode,
         _ => QueryForm::Nothing,
     }
 }
 
-fn mode_asked(paste: bool, frame: bool, mode: u16) -> Option<Query>
-    ensures asked { result ≡ mode_asked paste frame mode }
+fn state_of(is_set: bool) -> ModeState
+    ensures state { result ≡ state_of is_set }
 {
-    match mode {
-        2004 => Some(Query::Pastes { is_set: paste }),
-        2026 => Some(Query::Frames { is_set: frame }),
-        _ => None,
+    if is_set {
+        ModeState::Set
+    } else {
+        ModeState::Reset
     }
 }
 
-fn asked(query_form: QueryForm, params: &[u16], paste: bool, frame: bool) -> Option<Query>
-    ensures asked { result ≡ asked query_form params.now paste frame }
+// Returns the private mode that asked for these reports of the mouse; 0 if none did.
+fn tracking_mode(tracking: Tracking) -> u16
+    ensures mode { result ≡ tracking_mode tracking }
+{
+    match tracking {
+        Tracking::Off => 0,
+        Tracking::Buttons => 1000,
+        Tracking::Drags => 1002,
+        Tracking::Motion => 1003,
+    }
+}
+
+fn mode_state(settings: &Settings, mode: u16) -> ModeState
+    ensures state { result ≡ mode_state settings.now mode }
+{
+    match mode {
+        1000 => state_of(tracking_mode(settings.tracking) == 1000),
+        1002 => state_of(tracking_mode(settings.tracking) == 1002),
+        1003 => state_of(tracking_mode(settings.tracking) == 1003),
+        1004 => state_of(settings.focus_reports),
+        1006 => state_of(settings.sgr_reports),
+        47 | 1047 | 1049 => state_of(settings.alternate_screen),
+        _ => ModeState::Unknown,
+    }
+}
+
+fn mode_asked(settings: &Settings, frame: bool, mode: u16) -> Query
+    ensures asked { result ≡ mode_asked settings.now frame mode }
+{
+    match mode {
+        2004 => Query::Pastes {
+            is_set: settings.bracketed_paste,
+        },
+        2026 => Query::Frames { is_set: frame },
+        _ => Query::PrivateMode {
+            number: mode,
+            state: mode_state(settings, mode),
+        },
+    }
+}
+
+fn asked(
+    query_form: QueryForm,
+    params: &[u16],
+    settings: &Settings,
+    frame: bool,
+) -> Option<Query>
+    ensures asked { result ≡ asked query_form params.now settings.now frame }
 {
     match (query_form, params) {
-        (QueryForm::Mode, [mode]) => mode_asked(paste, frame, *mode),
+        (QueryForm::Mode, [mode]) => Some(mode_asked(settings, frame, *mode)),
+        (QueryForm::Window, [18, ..]) => Some(Query::Size),
         (QueryForm::Name, [0]) => Some(Query::Version),
         _ => None,
     }
@@ -117,7 +182,7 @@ pub fn asked_by(
         Dispatch::Csi { mark, last } => asked(
             query_form_of(mark, inter, last),
             params,
-            settings.bracketed_paste,
+            settings,
             frame,
         ),
         _ => None,
