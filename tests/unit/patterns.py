@@ -92,6 +92,7 @@ KNOWN = {
     ("roam_live/protocol/queries.py", "", "ESC"): ANSWERS,
     ("roam_live/protocol/queries.py", "NAMED", "ESC"): ANSWERS,
     ("roam_live/protocol/queries.py", "PaneQuery.answer", "ESC"): ANSWERS,
+    ("roam_live/protocol/queries.py", "SIZED", "ESC"): ANSWERS,
     ("roam_live/protocol/queries.py", "mode_told", "ESC"): ANSWERS,
     ("roam_live/relay/frames.py", "GREETING", "re"): RELAY,
     ("roam_live/cli/ssh.py", "host_of", "re"): WORDS,

@@ -69,4 +69,4 @@ class Build(Case):
         """A program that queries the terminal's name gets the version."""
         build_info.INSTALLED.write_text(FILE, encoding="ascii")
         found = query_in("query 1 1 version")
-        self.assertEqual(found.answer(Colours(), True), b"\x1bP>|roam 1.2.3\x1b\\")
+        self.assertEqual(found.answer(Colours(), True, (24, 80)), b"\x1bP>|roam 1.2.3\x1b\\")

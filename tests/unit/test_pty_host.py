@@ -184,7 +184,8 @@ class Panes(Host):
         self.host.common.socket.colours.take("colour foreground ffff/ffff/ffff")
         told = (("query 1 4 foreground bell\nquery 1 4 background\nquery 1 4 pastes set\n",
                  b"\x1b]10;rgb:ffff/ffff/ffff\x07\x1b[?2004;1$y"),
-                ("query 1 3 version\nquery 9 4 version\nquery 1 4\nquery 1 4 name\n", b""), ("query 1 4 frames\n", b"\x1b[?2026;0$y"))
+                ("query 1 3 version\nquery 9 4 version\nquery 1 4\nquery 1 4 name\n", b""), ("query 1 4 frames\n", b"\x1b[?2026;0$y"),
+                ("query 1 4 size\n", b"\x1b[8;23;39t"), ("query 1 4 mode 1004 set\n", b"\x1b[?1004;1$y"))
         for lines, wanted in told:
             self.server.send(lines.encode())
             panes[0].send(b"\x1b[?62c")

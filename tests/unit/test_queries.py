@@ -23,13 +23,18 @@ class Answered(Case):
                 ("query 1 7 frames", "\x1b[?2026;2$y", "\x1b[?2026;0$y"), ("query 1 7 frames set", "\x1b[?2026;1$y", "\x1b[?2026;0$y"),
                 ("query 1 7 background", "\x1b]11;rgb:1e1e/1e1e/2e2e\x1b\\", None),
                 ("query 1 7 background bell", "\x1b]11;rgb:1e1e/1e1e/2e2e\x07", None),
-                ("query 1 7 foreground", "", None)):
+                ("query 1 7 size", "\x1b[8;24;80t", None), ("query 1 7 mode 1004", "\x1b[?1004;2$y", None),
+                ("query 1 7 mode 1004 set", "\x1b[?1004;1$y", None), ("query 1 7 mode 9999 unknown", "\x1b[?9999;0$y", None),
+                ("query 1 7 ansi-mode 4", "\x1b[4;2$y", None), ("query 1 7 ansi-mode 20 set", "\x1b[20;1$y", None),
+                ("query 1 7 ansi-mode 2 unknown", "\x1b[2;0$y", None), ("query 1 7 foreground", "", None)):
             query = query_in(line)
             self.assertEqual((query.pane, query.generation), (1, 7))
-            self.assertEqual(query.answer(colours, True).decode(), wanted, line)
-            self.assertEqual(query.answer(colours, False).decode(), wanted if unheld is None else unheld, line)
+            self.assertEqual(query.answer(colours, True, (24, 80)).decode(), wanted, line)
+            self.assertEqual(query.answer(colours, False, (24, 80)).decode(), wanted if unheld is None else unheld, line)
         for line in ("", "query", "query 1 7", "query 1 x version", "query 1 7 name", "query 1 7 version set", "query 1 7 pastes bell",
-                     "modes 1 7", "query 1 7 pastes set set", "query \u0661 7 version"):
+                     "modes 1 7", "query 1 7 pastes set set", "query \u0661 7 version", "query 1 7 pastes ", "query 1 7 size set",
+                     "query 1 7 pastes unknown", "query 1 7 mode", "query 1 7 mode set", "query 1 7 mode 10000", "query 1 7 mode 04",
+                     "query 1 7 mode 4 bell", "query 1 7 mode 4 ", "query 1 7 mode 4 set set", "query 1 7 ansi-mode"):
             self.assertIsNone(query_in(line), line)
 
     def test_frames(self):

@@ -1,7 +1,9 @@
 -- The questions of the programs of a session's panes, and the lines that report new ones (this project's profile).
-use Rattle.std.specs.Prelude.{◌≡◌, ◌≤◌, ℕ, true, false, ◌==◌, ◌-◌, ◌++◌, List, [], ◌∷◌, length, drop, slice_index_or, Option, Some, None, if◌then◌else◌, codes}
+use Rattle.std.specs.Prelude.{◌≡◌, ◌≤◌, ℕ, true, false, ◌==◌, ◌-◌, ◌++◌, List, [], ◌∷◌, length, drop, slice_index_or, Option, Some, None, if◌then◌else◌, codes, decimal}
 use Rattle.roam_pane_metadata.specs.declared.queries.Query.{Query}
-use Rattle.roam_pane_metadata.specs.declared.queries.Query.TheVariants.{Foreground, Background, Frames, Pastes, Version}
+use Rattle.roam_pane_metadata.specs.declared.queries.Query.TheVariants.{Foreground, Background, Frames, Pastes, PrivateMode, Size, Version}
+use Rattle.roam_pane_metadata.specs.declared.queries.ModeState.{ModeState}
+use Rattle.roam_pane_metadata.specs.declared.queries.ModeState.TheVariants.{Unknown, Set, Reset}
 use Rattle.roam_pane_metadata.specs.Asking.{most_kept, newest}
 use Rattle.roam_pane_protocol.specs.MetadataLines.{head_text}
 use Rattle.roam_pane_protocol.specs.declared.query_list.QueryList.{QueryList}
@@ -22,8 +24,14 @@ asked_in generation (Some a) = if a.generation == generation then a.asked else 0
 
 -- ---- as they are written
 
+-- the word behind a mode: `set` if it was set, and `unknown` if the terminal has no such mode
+abbrev pub state_words : ModeState → List ℕ
+state_words Unknown = codes " unknown"
+state_words Set = codes " set"
+state_words Reset = []
+
 -- The question: the colour of text and of the background, with `bell` if BEL ended the question; the state of an update, and of bracketed
--- paste, with `set` if it was set; the terminal's name.
+-- paste, with `set` if it was set; that of another private mode, by its number; the size; the terminal's name.
 abbrev pub query_words : Query → List ℕ
 query_words (Foreground false) = codes "foreground"
 query_words (Foreground true) = codes "foreground bell"
@@ -33,6 +41,8 @@ query_words (Frames false) = codes "frames"
 query_words (Frames true) = codes "frames set"
 query_words (Pastes false) = codes "pastes"
 query_words (Pastes true) = codes "pastes set"
+query_words (PrivateMode number state) = codes "mode " ++ (decimal number ++ state_words state)
+query_words Size = codes "size"
 query_words Version = codes "version"
 
 -- a line as it is written, ended by LF: the program of a pane, of a generation, has asked this

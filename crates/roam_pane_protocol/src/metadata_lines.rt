@@ -53,7 +53,7 @@ fn tracking_word(tracking: Tracking) -> &'static str
 }
 
 // Returns a word if a mode is set.
-fn word_if(is_set: bool, word: &'static str) -> &'static str
+pub(crate) fn word_if(is_set: bool, word: &'static str) -> &'static str
     ensures word { result.now ≡ word_if is_set word.now }
 {
     if is_set { word } else { "" }

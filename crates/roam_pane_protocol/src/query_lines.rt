@@ -1,26 +1,62 @@
 //! The lines that report new questions.
-ghost use Rattle.std.specs.Prelude.{◌≡◌, ◌++◌, OnOk, IsOkUnless};
+ghost use Rattle.std.specs.Prelude.{◌≡◌, ◌++◌, IfOk, OnOk, IsOkUnless, string_bytes};
 ghost use Rattle.roam_pane_metadata.specs.Asking.{newest};
-ghost use Rattle.roam_pane_protocol.specs.Queries.{query_lines, query_text, query_texts, asked_in, query_words};
+ghost use Rattle.roam_pane_metadata.specs.declared.queries.Query.TheVariants.{PrivateMode};
+ghost use Rattle.roam_pane_protocol.specs.MetadataLines.{word_if};
+ghost use Rattle.roam_pane_protocol.specs.Queries.{query_lines, query_text, query_texts, asked_in, query_words, state_words};
 
+use crate::metadata_lines::word_if;
 use crate::query_list::{QueryPane, asked_in};
 use roam_cells::Fault;
-use roam_pane_metadata::Query;
+use roam_pane_metadata::{ModeState, Query};
 use std::alloc::Global;
 
-fn query_words(query: Query) -> &'static str
-    ensures words { result.now ≡ query_words query }
+fn state_words(state: ModeState) -> &'static str
+    ensures words { result.now ≡ state_words state }
+{
+    match state {
+        ModeState::Unknown => " unknown",
+        ModeState::Set => " set",
+        ModeState::Reset => "",
+    }
+}
+
+// Returns a word, followed by another one if that is wanted.
+fn words_with(
+    alloc: Global,
+    word: &'static str,
+    is_wanted: bool,
+    other: &'static str,
+) -> Result<String, Fault>
+    ensures words { IfOk result (λ text. string_bytes text ≡ word.now ++ word_if is_wanted other.now) }
+    ensures fault { IsOkUnless result Fault.OutOfMemory }
+{
+    let more = word_if(is_wanted, other);
+    let words = format!(in alloc; "{word}{more}")?;
+    Ok(words)
+}
+
+fn mode_words(alloc: Global, number: u16, state: ModeState) -> Result<String, Fault>
+    ensures words { IfOk result (λ text. string_bytes text ≡ query_words (PrivateMode number state)) }
+    ensures fault { IsOkUnless result Fault.OutOfMemory }
+{
+    let state = state_words(state);
+    let words = format!(in alloc; "mode {number}{state}")?;
+    Ok(words)
+}
+
+fn query_words(alloc: Global, query: Query) -> Result<String, Fault>
+    ensures words { IfOk result (λ text. string_bytes text ≡ query_words query) }
+    ensures fault { IsOkUnless result Fault.OutOfMemory }
 {
     match query {
-        Query::Foreground { by_bell: false } => "foreground",
-        Query::Foreground { by_bell: true } => "foreground bell",
-        Query::Background { by_bell: false } => "background",
-        Query::Background { by_bell: true } => "background bell",
-        Query::Frames { is_set: false } => "frames",
-        Query::Frames { is_set: true } => "frames set",
-        Query::Pastes { is_set: false } => "pastes",
-        Query::Pastes { is_set: true } => "pastes set",
-        Query::Version => "version",
+        Query::Foreground { by_bell } => words_with(alloc, "foreground", by_bell, " bell"),
+        Query::Background { by_bell } => words_with(alloc, "background", by_bell, " bell"),
+        Query::Frames { is_set } => words_with(alloc, "frames", is_set, " set"),
+        Query::Pastes { is_set } => words_with(alloc, "pastes", is_set, " set"),
+        Query::PrivateMode { number, state } => mode_words(alloc, number, state),
+        Query::Size => words_with(alloc, "size", false, ""),
+        Query::Version => words_with(alloc, "version", false, ""),
     }
 }
 
@@ -35,7 +71,7 @@ fn push_line(
     ensures line { OnOk result (text.new.items ≡ text.old.items ++ query_text pane generation query) }
     ensures fault { IsOkUnless result Fault.OutOfMemory }
 {
-    let words = query_words(query);
+    let words = query_words(alloc, query)?;
     let line = format!(in alloc; "query {pane} {generation} {words}\n")?;
     text.extend_from_slice(line.as_bytes())?;
     Ok(())

@@ -141,7 +141,7 @@ class WindowHost:
         query = query_in(line)
         pane = self.panes.get(query.pane) if query else None
         if query and pane and pane.state.generation == query.generation and pane.is_typed_into():
-            pane.type(query.answer(self.common.socket.colours, holds_frames(self.server())))
+            pane.type(query.answer(self.common.socket.colours, holds_frames(self.server()), pane.state.size))
 
     def report_focus(self, before: int) -> None:
         """Send focus reports to the programs of the pane that lost the focus and the one that got it, if they requested them."""

@@ -6,6 +6,10 @@ from roam_live.common.file_path import FilePath
 from roam_live.common.text import decimal_in
 from roam_live.protocol.colours import NUMBERS, Colours
 
+TYPE_CHECKING = False
+if TYPE_CHECKING:
+    from roam_live.common.tty import Size
+
 # The subscription of the process that answers, and the word that begins each of its lines. Numbers there are bounded.
 QUERIES, QUERY = "queries", "query"
 MOST_NUMBER = 10**19 - 1
@@ -13,9 +17,17 @@ MOST_NUMBER = 10**19 - 1
 # The name and version of a pane's terminal (XTVERSION).
 NAMED = b"\x1bP>|roam %s\x1b\\"
 
-# The modes that may be queried, by the words of a line. The answer (DECRPM) is 1 if set, 2 if reset, 0 if unknown.
+# The queried modes with words of their own. A number, at most that of any parameter of a program, follows the word of another private mode,
+# or of a mode of ECMA-48.
 MODES = {"frames": 2026, "pastes": 2004}
-SET, RESET, UNKNOWN = 1, 2, 0
+MODE, ANSI_MODE, MOST_MODE = "mode", "ansi-mode", 9999
+
+# The state of a mode in the answer (DECRPM), by the words that follow it in a line. A mode that the terminal doesn't have is unknown.
+UNKNOWN = 0
+STATES = {"set": 1, "": 2, "unknown": UNKNOWN}
+
+# The report of the size of the text area in characters: rows and columns (xterm, window manipulation).
+SIZED = b"\x1b[8;%d;%dt"
 
 # The end of an answer about a colour, the same as the query's.
 BELL, ENDED = b"\x07", b"\x1b\\"
@@ -32,31 +44,37 @@ def holds_frames(process: int | None) -> bool:
         return False
 
 
-def mode_told(mode: int, state: int) -> bytes:
+def mode_told(mode: int, state: int, is_private: bool = True) -> bytes:
     """Return the report of a mode's state."""
-    return b"\x1b[?%d;%d$y" % (mode, state)
+    return b"\x1b[%s%d;%d$y" % (b"?" if is_private else b"", mode, state)
 
 
 class PaneQuery:
     """A terminal query of a pane generation's program, in the words of a line."""
 
     def __init__(self, words: list[str]) -> None:
-        self.pane, self.generation, self.what, self.more = int(words[0]), int(words[1]), words[2], words[3:]
+        self.pane, self.generation, self.what = int(words[0]), int(words[1]), words[2]
+        self.more = " ".join(words[3:])
 
-    def answer(self, colours: Colours, has_frames: bool) -> bytes:
-        """Return the answer to type; nothing if it needs an unknown colour."""
+    def answer(self, colours: Colours, has_frames: bool, size: Size) -> bytes:
+        """Return the answer to type into a pane of this size, in rows and columns; nothing if it needs an unknown colour."""
         if self.what == "version":
             return NAMED % version().encode()
+        if self.what == "size":
+            return SIZED % size
+        if self.what in (MODE, ANSI_MODE):
+            number, _, state = self.more.partition(" ")
+            return mode_told(int(number), STATES[state], self.what == MODE)
         if self.what in MODES:
-            state = SET if self.more else RESET
-            return mode_told(MODES[self.what], state if has_frames or self.what != "frames" else UNKNOWN)
+            return mode_told(MODES[self.what], STATES[self.more] if has_frames or self.what != "frames" else UNKNOWN)
         colour = colours.known.get(self.what)
         end = BELL if self.more else ENDED
         return b"\x1b]%d;rgb:%s%s" % (NUMBERS[self.what], colour.encode(), end) if colour else b""
 
 
-# The words that may follow each query.
-BEHIND = {"version": [], "frames": ["set"], "pastes": ["set"], "foreground": ["bell"], "background": ["bell"]}
+# The words of which one may follow each query, behind the number of a mode.
+BEHIND = {"version": [], "size": [], "frames": ["set"], "pastes": ["set"], MODE: ["set", "unknown"], ANSI_MODE: ["set", "unknown"],
+          "foreground": ["bell"], "background": ["bell"]}
 
 
 def query_in(line: str) -> PaneQuery | None:
@@ -64,6 +82,9 @@ def query_in(line: str) -> PaneQuery | None:
     word, *words = line.split(" ")
     if word != QUERY or len(words) < 3 or words[2] not in BEHIND:
         return None
-    if any(decimal_in(part, MOST_NUMBER) is None for part in words[:2]):
+    numbers, behind = words[:2], words[3:]
+    if words[2] in (MODE, ANSI_MODE) and (not behind or decimal_in(behind.pop(0), MOST_MODE) is None):
         return None
-    return PaneQuery(words) if words[3:] in ([], BEHIND[words[2]]) else None
+    if len(behind) > 1 or any(more not in BEHIND[words[2]] for more in behind):
+        return None
+    return PaneQuery(words) if all(decimal_in(number, MOST_NUMBER) is not None for number in numbers) else None
