@@ -13,6 +13,7 @@ use Rattle.roam_text.proofs.StringLogs.{strings_of-front}
 use Rattle.roam_pane_metadata.specs.declared.queries.Query.{Query}
 use Rattle.roam_pane_metadata.specs.Settings.{fresh_settings}
 use Rattle.roam_pane_metadata.specs.Queries.{asked_after, asked_by_string, asked_in, asked_next, by_functions, by_strings, queries_of}
+use Rattle.roam_pane_metadata.specs.ScreenModes.{fresh_modes}
 use Rattle.roam_pane_metadata.specs.Emissions.{Emission, Says, resets_of, spoken_of, emitted_after, emitted_by, emissions_of}
 use Rattle.roam_pane_metadata.proofs.Folds.{asked-more}
 use Rattle.roam_pane_metadata.proofs.Ordered.{both-counted, byte-behind, later-behind, next-is, none-later}
@@ -22,9 +23,9 @@ pub functions-grow : (before more : List ℕ) → (later : List Query) × (by_fu
 functions-grow before more =
     let front = functions_of-front (map Byte before) (map Byte more) in (
       _,
-      ap (λ l. asked_in fresh_settings false (functions_of l)) (map-append Byte before more)
-          ∙ ap (asked_in fresh_settings false) front.1
-          ∙ asked-more (functions_of (map Byte before)) front.0 fresh_settings false,
+      ap (λ l. asked_in fresh_settings fresh_modes (functions_of l)) (map-append Byte before more)
+          ∙ ap (asked_in fresh_settings fresh_modes) front.1
+          ∙ asked-more (functions_of (map Byte before)) front.0 fresh_settings fresh_modes,
     )
 
 pub strings-grow : (before more : List ℕ) → (later : List Query) × (by_strings (before ++ more) ≡ by_strings before ++ later)
@@ -74,7 +75,7 @@ pub asked-by : (bytes : List ℕ) (b : ℕ) (fs ss : List Query) → by_function
 asked-by = next-is by_functions by_strings
 
 functions-none : by_functions [] ≡ []
-functions-none = ap (asked_in fresh_settings false) functions-nil
+functions-none = ap (asked_in fresh_settings fresh_modes) functions-nil
 
 strings-none : by_strings [] ≡ []
 strings-none = ap (λ (s : Strings). flat_map asked_by_string s.ended) strings-nil

@@ -12,10 +12,12 @@ use Rattle.roam_text.proofs.Graphics.{printed_if}
 use Rattle.roam_text.proofs.Growth.{functions_of-front}
 use Rattle.roam_pane_metadata.specs.declared.settings.Settings.{Settings}
 use Rattle.roam_pane_metadata.specs.declared.settings.Wish.{Wish}
-use Rattle.roam_pane_metadata.specs.declared.settings.Wish.TheVariants.{Nothing, SetModes, ResetModes, Keys, PlainKeys, Shape, SoftReset}
+use Rattle.roam_pane_metadata.specs.declared.settings.Wish.TheVariants.{Nothing, SetModes, ResetModes, SetAnsiModes, ResetAnsiModes, Keys, PlainKeys, Shape, SoftReset}
 use Rattle.roam_pane_metadata.specs.declared.settings.Tracking.{Tracking}
 use Rattle.roam_pane_metadata.specs.declared.settings.Tracking.TheVariants.{Buttons, Drags, Motion}
 use Rattle.roam_pane_metadata.specs.Settings.{counted, fresh_settings, granted, heard, mode_set, most_counted, reset_settings, resets, settings_of, wish_of, with_tracking}
+use Rattle.roam_pane_metadata.specs.ScreenModes.{fresh_modes, modes_after, modes_of}
+use Rattle.roam_pane_metadata.proofs.Folds.{modes-more}
 use Rattle.roam_pane_metadata.proofs.Standing.{fold-after}
 
 print-sets : (t : Bool) (s : Settings) → fold heard s (printed_if 0xFFFD t) ≡ s
@@ -30,6 +32,14 @@ reset-sets bytes =
     ∙ ap (fold heard fresh_settings) is.1
     ∙ fold-after (functions_of log ++ printed_if 0xFFFD is.0) (reset ∷ []) fresh_settings
     ∙ ap reset_settings (fold-after (functions_of log) (printed_if 0xFFFD is.0) fresh_settings ∙ print-sets is.0 (settings_of bytes))
+
+pub reset-modes : (bytes : List ℕ) → modes_of (bytes ++ 0x1B ∷ 0x63 ∷ []) ≡ fresh_modes
+reset-modes bytes =
+    let log = map Byte bytes in
+    let is = functions-reset log in
+    ap (λ l. fold modes_after fresh_modes (functions_of l)) (map-append Byte bytes reset_text)
+    ∙ ap (fold modes_after fresh_modes) is.1
+    ∙ modes-more (functions_of log ++ printed_if 0xFFFD is.0) (reset ∷ []) fresh_modes
 
 -- ---- bells
 
@@ -67,6 +77,8 @@ granted-bells : (w : Wish) (params : List ℕ) (s : Settings) → (granted w par
 granted-bells Nothing params s = refl
 granted-bells SetModes params s = modes-bells true params s
 granted-bells ResetModes params s = modes-bells false params s
+granted-bells SetAnsiModes params s = refl
+granted-bells ResetAnsiModes params s = refl
 granted-bells Keys params s = refl
 granted-bells PlainKeys params s = refl
 granted-bells Shape params s = refl

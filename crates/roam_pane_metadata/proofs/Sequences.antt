@@ -1,6 +1,6 @@
 -- A control sequence with neither a private marker nor an intermediate byte says nothing.
 use Rattle.std.proofs.Common.{◌≡◌, ◌<◌, ◌≤◌, ℕ, Bool, true, false, cond, nat_lt, List, [], ◌∷◌, ◌++◌, map, Option, None, Some, refl, sym, ap, ◌∙◌, arith, append_assoc, subst}
-use Rattle.std.specs.Prelude.{◌==◌, ◌&&◌, nat_le, not, ⊤}
+use Rattle.std.specs.Prelude.{◌==◌, ◌&&◌, ◌||◌, nat_le, not, ⊤}
 use Rattle.std.specs.List.{fold, flat_map}
 use Rattle.std.specs.Option.{option_to_list}
 use Rattle.std.proofs.lemmas.Bool.Decides.{nat_tests}
@@ -18,12 +18,15 @@ use Rattle.roam_text.proofs.Bytes.{settled-append, one-ascii, true≢false}
 use Rattle.roam_text.proofs.Fronts.{functions-step}
 use Rattle.roam_text.proofs.StringMoves.{strings-step}
 use Rattle.roam_pane_metadata.specs.declared.settings.Settings.{Settings}
-use Rattle.roam_pane_metadata.specs.Settings.{heard}
+use Rattle.roam_pane_metadata.specs.declared.screen_modes.ScreenModes.{ScreenModes}
+use Rattle.roam_pane_metadata.specs.Settings.{granted, heard}
 use Rattle.roam_pane_metadata.specs.Emissions.{emitted_by}
-use Rattle.roam_pane_metadata.specs.declared.queries.QueryForm.TheVariants.{Nothing, Window}
-use Rattle.roam_pane_metadata.specs.Queries.{asked, asked_in, frame_after}
-use Rattle.roam_pane_metadata.specs.Silence.{SaySame, SaysNothing, AreNumbers, IsPlainSequence, asks, is_number, is_final}
-use Rattle.roam_pane_metadata.proofs.Folds.{ArePlain, frame-more, plain-asked}
+use Rattle.roam_pane_metadata.specs.declared.settings.Wish.TheVariants.{Nothing, SetAnsiModes, ResetAnsiModes}
+use Rattle.roam_pane_metadata.specs.declared.queries.QueryForm.TheVariants.{Nothing as NoQuery, Window}
+use Rattle.roam_pane_metadata.specs.Queries.{asked, asked_in}
+use Rattle.roam_pane_metadata.specs.ScreenModes.{modes_after, modes_granted}
+use Rattle.roam_pane_metadata.specs.Silence.{SaySame, SaysNothing, AreNumbers, IsPlainSequence, counts, is_number, is_final}
+use Rattle.roam_pane_metadata.proofs.Folds.{ArePlain, modes-more, plain-asked}
 
 lt-yes : (a b : ℕ) → a < b → nat_lt a b ≡ true
 lt-yes a b h = grind (arith, nat_tests)
@@ -31,7 +34,7 @@ lt-yes a b h = grind (arith, nat_tests)
 lt-no : (a b : ℕ) → b ≤ a → nat_lt a b ≡ false
 lt-no a b h = grind (arith, nat_tests)
 
--- the kinds of number bytes, and of final bytes that ask for nothing
+-- the kinds of number bytes, and of final bytes that don't count
 abbrev IsNumeral : Kind → Type 0
 IsNumeral (Digit b) = ⊤
 IsNumeral Colon = ⊤
@@ -39,8 +42,8 @@ IsNumeral Separator = ⊤
 IsNumeral k = ⊥
 
 abbrev IsFinal : Kind → Type 0
-IsFinal (Upper b) = asks b ≡ false
-IsFinal (Lower b) = asks b ≡ false
+IsFinal (Upper b) = counts b ≡ false
+IsFinal (Lower b) = counts b ≡ false
 IsFinal k = ⊥
 
 module _ (P : Kind → Type 0) (b : ℕ) (low : 0x30 ≤ b) (high : b < 0x80) where
@@ -73,7 +76,7 @@ numeral : (b : ℕ) → is_number b ≡ true → IsNumeral (kind_of b)
 numeral b h = from-ascii IsNumeral b (number-low b h) (number-high b h)
     (numeral-by b _ (nat_lt b 0x3A) (b == 0x3A) (b == 0x3B) (last-number b h))
 
-final-by : (b : ℕ) (x y z u v w : Bool) → asks b ≡ false → x ≡ false → y ≡ false → z ≡ false → u ≡ false → (v ≡ false → w ≡ true)
+final-by : (b : ℕ) (x y z u v w : Bool) → counts b ≡ false → x ≡ false → y ≡ false → z ≡ false → u ≡ false → (v ≡ false → w ≡ true)
     → IsFinal (cond x (Digit b) (cond y Colon (cond z Separator (cond u (PrivateMarker b) (cond v (Upper b) (cond w (Lower b) Delete))))))
 final-by b false false false false true w o p q r s h = o
 final-by b false false false false false true o p q r s h = o
@@ -95,8 +98,8 @@ and-right true true true h = cc
 and-right true false z h = cc
 and-right false y z h = cc
 
-final-asks : (b : ℕ) → is_final b ≡ true → asks b ≡ false
-final-asks b h = and-right (nat_le 0x40 b) (nat_lt b 0x7F) (asks b) h
+final-counts : (b : ℕ) → is_final b ≡ true → counts b ≡ false
+final-counts b h = and-right (nat_le 0x40 b) (nat_lt b 0x7F) (counts b) h
 
 not-equal : (a b : ℕ) → b < a → (a == b) ≡ false
 not-equal a b h = grind (arith, nat_tests)
@@ -106,7 +109,7 @@ final-kind b h =
     let low = final-low b h in
     let high = final-high b h in
     from-ascii IsFinal b (omega (arith, low)) (omega (arith, high))
-    (final-by b (nat_lt b 0x3A) (b == 0x3A) (b == 0x3B) (nat_lt b 0x40) (nat_lt b 0x60) (nat_lt b 0x7F) (final-asks b h)
+    (final-by b (nat_lt b 0x3A) (b == 0x3A) (b == 0x3B) (nat_lt b 0x40) (nat_lt b 0x60) (nat_lt b 0x7F) (final-counts b h)
     (lt-no b 0x3A (omega (arith, low))) (not-equal b 0x3A (omega (arith, low))) (not-equal b 0x3B (omega (arith, low))) (lt-no b 0x40 low) (λ _. lt-yes b 0x7F high))
 
 -- ---- the fronts
@@ -200,19 +203,29 @@ plain-header [] n = plain-inter (first_sixteen (map capped_value (digits_of_para
 plain-header (PrivateMarker b ∷ ks) n = absurd n.0
 plain-header (k ∷ ks) n = plain-inter (first_sixteen (map capped_value (digits_of_parameters (kinds_while is_numeric (k ∷ ks))))) (k ∷ ks) n
 
-plain-function : (mark : Option ℕ) (inter params : List ℕ) (last : ℕ) → asks last ≡ false → mark ≡ None → inter ≡ []
+none-of : (x y z : Bool) → (x || y || z) ≡ false → (x ≡ false) × (y ≡ false) × (z ≡ false)
+none-of false false false h = (refl, refl, refl)
+none-of false false true h = cc
+none-of false true z h = cc
+none-of true y z h = cc
+
+plain-function : (mark : Option ℕ) (inter params : List ℕ) (last : ℕ) → counts last ≡ false → mark ≡ None → inter ≡ []
     → ArePlain (control_sequence_function (Some (record { mark = mark; params = params; inter = inter })) last)
-plain-function None [] params last o m i = record {
-  sets = λ s. refl;
-  frame = λ f. refl;
-  asked = λ s f. ap (λ t. option_to_list (asked (cond t Window Nothing) params s f) ++ []) o;
-  emits = refl;
-}
+plain-function None [] params last o m i =
+    let no = none-of (last == 0x68) (last == 0x6C) (last == 0x74) o in
+    record {
+      sets = λ s. ap (λ t. granted (cond t SetAnsiModes (cond (last == 0x6C) ResetAnsiModes Nothing)) params s) no.0
+          ∙ ap (λ t. granted (cond t ResetAnsiModes Nothing) params s) no.1;
+      modes = λ f. ap (λ t. modes_granted (cond t SetAnsiModes (cond (last == 0x6C) ResetAnsiModes Nothing)) params f) no.0
+          ∙ ap (λ t. modes_granted (cond t ResetAnsiModes Nothing) params f) no.1;
+      asked = λ s f. ap (λ t. option_to_list (asked (cond t Window NoQuery) params s f) ++ []) no.2;
+      emits = refl;
+    }
 plain-function None (b ∷ inter) params last o m i = cc
 plain-function (Some mark) inter params last o m i = cc
 
-header-plain : (h : Option Header) (last : ℕ) → asks last ≡ false → PlainHeader h → ArePlain (control_sequence_function h last)
-header-plain None last o p = record { sets = λ s. refl; frame = λ f. refl; asked = λ s f. refl; emits = refl }
+header-plain : (h : Option Header) (last : ℕ) → counts last ≡ false → PlainHeader h → ArePlain (control_sequence_function h last)
+header-plain None last o p = record { sets = λ s. refl; modes = λ f. refl; asked = λ s f. refl; emits = refl }
 header-plain (Some h) last o p = plain-function h.mark h.inter h.params last o p.0 p.1
 
 fold-after : (fs more : List Function) (s : Settings) → fold heard s (fs ++ more) ≡ fold heard (fold heard s fs) more
@@ -262,13 +275,13 @@ module _ (body : List ℕ) (last : ℕ) (numbers : AreNumbers body) (final : is_
   sequence-sets s =
       ap (fold heard s) functions-are ∙ fold-after gives (functions rest) s ∙ ap (λ t. fold heard t (functions rest)) (sequence.0.sets s)
 
-  sequence-frame : (f : Bool)
-      → fold frame_after f (functions (character 0x1B ∷ character 0x5B ∷ tail)) ≡ fold frame_after f (functions rest)
-  sequence-frame f =
-      ap (fold frame_after f) functions-are ∙ frame-more gives (functions rest) f
-      ∙ ap (λ t. fold frame_after t (functions rest)) (sequence.0.frame f)
+  sequence-modes : (f : ScreenModes)
+      → fold modes_after f (functions (character 0x1B ∷ character 0x5B ∷ tail)) ≡ fold modes_after f (functions rest)
+  sequence-modes f =
+      ap (fold modes_after f) functions-are ∙ modes-more gives (functions rest) f
+      ∙ ap (λ t. fold modes_after t (functions rest)) (sequence.0.modes f)
 
-  sequence-asks : (s : Settings) (f : Bool)
+  sequence-asks : (s : Settings) (f : ScreenModes)
       → asked_in s f (functions (character 0x1B ∷ character 0x5B ∷ tail)) ≡ asked_in s f (functions rest)
   sequence-asks s f = ap (asked_in s f) functions-are ∙ plain-asked gives (functions rest) s f sequence.0
 
@@ -316,8 +329,8 @@ sequence-silent bytes q more =
           ∙ sequence-texts q.body q.last q.numbers q.final (map character x);
       resets = ap (λ l. flat_map emitted_by (functions (character 0x1B ∷ character 0x5B ∷ l))) signs
           ∙ sequence-resets q.body q.last q.numbers q.final (map character x);
-      frame = λ f. ap (λ l. fold frame_after f (functions (character 0x1B ∷ character 0x5B ∷ l))) signs
-          ∙ sequence-frame q.body q.last q.numbers q.final (map character x) f;
+      modes = λ f. ap (λ l. fold modes_after f (functions (character 0x1B ∷ character 0x5B ∷ l))) signs
+          ∙ sequence-modes q.body q.last q.numbers q.final (map character x) f;
       asked = λ s f. ap (λ l. asked_in s f (functions (character 0x1B ∷ character 0x5B ∷ l))) signs
           ∙ sequence-asks q.body q.last q.numbers q.final (map character x) s f;
     })

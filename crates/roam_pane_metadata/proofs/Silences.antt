@@ -20,22 +20,24 @@ use Rattle.roam_text.proofs.UnfinishedEnds.{unfinished-tail}
 use Rattle.roam_text.proofs.Fronts.{functions-step}
 use Rattle.roam_text.proofs.StringMoves.{strings-step}
 use Rattle.roam_pane_metadata.specs.declared.settings.Settings.{Settings}
+use Rattle.roam_pane_metadata.specs.declared.screen_modes.ScreenModes.{ScreenModes}
 use Rattle.roam_pane_metadata.specs.Settings.{heard}
 use Rattle.roam_pane_metadata.specs.Emissions.{emitted_by}
-use Rattle.roam_pane_metadata.specs.Queries.{asked_in, frame_after}
+use Rattle.roam_pane_metadata.specs.Queries.{asked_in}
+use Rattle.roam_pane_metadata.specs.ScreenModes.{modes_after}
 use Rattle.roam_pane_metadata.specs.Silence.{SaySame, SaysNothing, AreStill, is_still}
 
 -- ---- saying the same
 
 pub same-refl : (a : List ℕ) → SaySame a a
-same-refl a = record { settings = λ s. refl; texts = refl; resets = refl; frame = λ f. refl; asked = λ s f. refl }
+same-refl a = record { settings = λ s. refl; texts = refl; resets = refl; modes = λ f. refl; asked = λ s f. refl }
 
 pub same-sym : (a b : List ℕ) → SaySame a b → SaySame b a
 same-sym a b h = record {
   settings = λ s. sym (h.settings s);
   texts = sym h.texts;
   resets = sym h.resets;
-  frame = λ f. sym (h.frame f);
+  modes = λ f. sym (h.modes f);
   asked = λ s f. sym (h.asked s f);
 }
 
@@ -44,7 +46,7 @@ same-trans a b c h k = record {
   settings = λ s. h.settings s ∙ k.settings s;
   texts = h.texts ∙ k.texts;
   resets = h.resets ∙ k.resets;
-  frame = λ f. h.frame f ∙ k.frame f;
+  modes = λ f. h.modes f ∙ k.modes f;
   asked = λ s f. h.asked s f ∙ k.asked s f;
 }
 
@@ -54,23 +56,23 @@ pub record Quiet (k : Kind) (c : ℕ) : Type 0 where
   pub settings : (rest : List Sign) (s : Settings) → fold heard s (functions (Character k c ∷ rest)) ≡ fold heard s (functions rest)
   pub texts : (rest : List Sign) → strings (Character k c ∷ rest) ≡ strings rest
   pub resets : (rest : List Sign) → flat_map emitted_by (functions (Character k c ∷ rest)) ≡ flat_map emitted_by (functions rest)
-  pub frame : (rest : List Sign) (f : Bool)
-      → fold frame_after f (functions (Character k c ∷ rest)) ≡ fold frame_after f (functions rest)
-  pub asked : (rest : List Sign) (s : Settings) (f : Bool)
+  pub modes : (rest : List Sign) (f : ScreenModes)
+      → fold modes_after f (functions (Character k c ∷ rest)) ≡ fold modes_after f (functions rest)
+  pub asked : (rest : List Sign) (s : Settings) (f : ScreenModes)
       → asked_in s f (functions (Character k c ∷ rest)) ≡ asked_in s f (functions rest)
 
 quiet-plain : (k : Kind) (c : ℕ) (gives : List Function)
     → ((rest : List Sign) → functions (Character k c ∷ rest) ≡ gives ++ functions rest)
     → ((s : Settings) (fs : List Function) → fold heard s (gives ++ fs) ≡ fold heard s fs)
-    → ((f : Bool) (fs : List Function) → fold frame_after f (gives ++ fs) ≡ fold frame_after f fs)
-    → ((s : Settings) (f : Bool) (fs : List Function) → asked_in s f (gives ++ fs) ≡ asked_in s f fs)
+    → ((f : ScreenModes) (fs : List Function) → fold modes_after f (gives ++ fs) ≡ fold modes_after f fs)
+    → ((s : Settings) (f : ScreenModes) (fs : List Function) → asked_in s f (gives ++ fs) ≡ asked_in s f fs)
     → ((fs : List Function) → flat_map emitted_by (gives ++ fs) ≡ flat_map emitted_by fs)
     → ((rest : List Sign) → strings (Character k c ∷ rest) ≡ strings rest) → Quiet k c
 quiet-plain k c gives step skip held asks emits texts = record {
   settings = λ rest s. ap (fold heard s) (step rest) ∙ skip s (functions rest);
   texts = texts;
   resets = λ rest. ap (flat_map emitted_by) (step rest) ∙ emits (functions rest);
-  frame = λ rest f. ap (fold frame_after f) (step rest) ∙ held f (functions rest);
+  modes = λ rest f. ap (fold modes_after f) (step rest) ∙ held f (functions rest);
   asked = λ rest s f. ap (asked_in s f) (step rest) ∙ asks s f (functions rest);
 }
 
@@ -142,7 +144,7 @@ quiet-front (c ∷ cs) rest q =
       settings = λ s. q.0.settings (map character (cs ++ rest)) s ∙ more.settings s;
       texts = q.0.texts (map character (cs ++ rest)) ∙ more.texts;
       resets = q.0.resets (map character (cs ++ rest)) ∙ more.resets;
-      frame = λ f. q.0.frame (map character (cs ++ rest)) f ∙ more.frame f;
+      modes = λ f. q.0.modes (map character (cs ++ rest)) f ∙ more.modes f;
       asked = λ s f. q.0.asked (map character (cs ++ rest)) s f ∙ more.asked s f;
     }
 

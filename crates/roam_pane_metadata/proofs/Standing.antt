@@ -18,15 +18,17 @@ use Rattle.roam_text.specs.Resting.{AtRest}
 use Rattle.roam_text.proofs.Asciis.{front-joined}
 use Rattle.roam_text.proofs.Encoded.{signs-bytes}
 use Rattle.roam_pane_metadata.specs.declared.settings.Settings.{Settings}
+use Rattle.roam_pane_metadata.specs.declared.screen_modes.ScreenModes.{ScreenModes}
 use Rattle.roam_pane_metadata.specs.Settings.{fresh_settings, heard, settings_of}
 use Rattle.roam_pane_metadata.specs.Silence.{SaysNothing}
 use Rattle.roam_pane_metadata.specs.Keeping.{Keeps, ended_by}
 use Rattle.roam_pane_metadata.specs.Emissions.{Emission, Says, reset_if, resets_of, spoken_of, emitted_by, emissions_of}
 use Rattle.roam_pane_metadata.specs.Metadata.{MetadataView, ReadsAs, Stands}
 use Rattle.roam_pane_metadata.specs.declared.queries.Query.{Query}
-use Rattle.roam_pane_metadata.specs.Queries.{asked_by_string, asked_in, by_functions, by_strings, frame_after, frame_of, queries_of}
+use Rattle.roam_pane_metadata.specs.Queries.{asked_by_string, asked_in, by_functions, by_strings, queries_of}
+use Rattle.roam_pane_metadata.specs.ScreenModes.{fresh_modes, modes_after, modes_of}
 use Rattle.roam_pane_metadata.specs.Asking.{Heads, Recalls}
-use Rattle.roam_pane_metadata.proofs.Folds.{asked-more, frame-more}
+use Rattle.roam_pane_metadata.proofs.Folds.{asked-more, modes-more}
 use Rattle.roam_pane_metadata.proofs.Gained.{asked-behind, asked-by, asked-byte, none-asked, none-emitted, emitted-by}
 
 abbrev log_of : List ℕ → List Item
@@ -67,24 +69,24 @@ module _ (read : List ℕ) (rest : AtRest (log_of read)) (closed : NoStringOpen 
   abbrev functions_on : List ℕ → List Function
   functions_on xs = functions (map character (settled_part xs))
 
-  frame-on : (xs : List ℕ) → frame_of (read ++ xs) ≡ fold frame_after (frame_of read) (functions_on xs)
-  frame-on xs =
-      ap (λ l. fold frame_after false (functions l)) (signs-on xs)
-      ∙ ap (fold frame_after false) (rest.to_come (map character (settled_part xs)))
-      ∙ frame-more (functions_of (log_of read)) (functions_on xs) false
+  modes-on : (xs : List ℕ) → modes_of (read ++ xs) ≡ fold modes_after (modes_of read) (functions_on xs)
+  modes-on xs =
+      ap (λ l. fold modes_after fresh_modes (functions l)) (signs-on xs)
+      ∙ ap (fold modes_after fresh_modes) (rest.to_come (map character (settled_part xs)))
+      ∙ modes-more (functions_of (log_of read)) (functions_on xs) fresh_modes
 
-  asked-on : (xs : List ℕ) → by_functions (read ++ xs) ≡ by_functions read ++ asked_in (settings_of read) (frame_of read) (functions_on xs)
+  asked-on : (xs : List ℕ) → by_functions (read ++ xs) ≡ by_functions read ++ asked_in (settings_of read) (modes_of read) (functions_on xs)
   asked-on xs =
-      ap (λ l. asked_in fresh_settings false (functions l)) (signs-on xs)
-      ∙ ap (asked_in fresh_settings false) (rest.to_come (map character (settled_part xs)))
-      ∙ asked-more (functions_of (log_of read)) (functions_on xs) fresh_settings false
+      ap (λ l. asked_in fresh_settings fresh_modes (functions l)) (signs-on xs)
+      ∙ ap (asked_in fresh_settings fresh_modes) (rest.to_come (map character (settled_part xs)))
+      ∙ asked-more (functions_of (log_of read)) (functions_on xs) fresh_settings fresh_modes
 
-  passed-frame : (run more : List ℕ) → SaysNothing run → frame_of (read ++ (run ++ more)) ≡ frame_of (read ++ more)
-  passed-frame run more silent = frame-on (run ++ more) ∙ (silent more).frame (frame_of read) ∙ sym (frame-on more)
+  passed-modes : (run more : List ℕ) → SaysNothing run → modes_of (read ++ (run ++ more)) ≡ modes_of (read ++ more)
+  passed-modes run more silent = modes-on (run ++ more) ∙ (silent more).modes (modes_of read) ∙ sym (modes-on more)
 
   passed-asked : (run more : List ℕ) → SaysNothing run → by_functions (read ++ (run ++ more)) ≡ by_functions (read ++ more)
   passed-asked run more silent =
-      asked-on (run ++ more) ∙ ap (λ l. by_functions read ++ l) ((silent more).asked (settings_of read) (frame_of read)) ∙ sym (asked-on more)
+      asked-on (run ++ more) ∙ ap (λ l. by_functions read ++ l) ((silent more).asked (settings_of read) (modes_of read)) ∙ sym (asked-on more)
 
   resets-on : (xs : List ℕ) → resets_of (read ++ xs) ≡ resets_of read ++ flat_map emitted_by (functions_on xs)
   resets-on xs =
@@ -113,8 +115,8 @@ module _ (bytes read : List ℕ) (same : ReadsAs bytes read) where
   resets-now : resets_of bytes ≡ resets_of read
   resets-now = ap resets_of (sym (append-nil bytes)) ∙ (same []).resets ∙ ap resets_of (append-nil read)
 
-  frame-now : frame_of bytes ≡ frame_of read
-  frame-now = ap frame_of (sym (append-nil bytes)) ∙ (same []).frame ∙ ap frame_of (append-nil read)
+  modes-now : modes_of bytes ≡ modes_of read
+  modes-now = ap modes_of (sym (append-nil bytes)) ∙ (same []).modes ∙ ap modes_of (append-nil read)
 
   asked-now : by_functions bytes ≡ by_functions read
   asked-now = ap by_functions (sym (append-nil bytes)) ∙ (same []).asked ∙ ap by_functions (append-nil read)
@@ -132,7 +134,7 @@ module _ (b : MetadataView) (bytes run : List ℕ) (silent : SaysNothing run) (s
         ∙ passed-strings read rest closed run more silent;
     resets = ap resets_of (append_assoc bytes run more) ∙ (stands.same (run ++ more)).resets
         ∙ passed-resets read rest closed run more silent;
-    frame = ap frame_of (append_assoc bytes run more) ∙ (stands.same (run ++ more)).frame ∙ passed-frame read rest closed run more silent;
+    modes = ap modes_of (append_assoc bytes run more) ∙ (stands.same (run ++ more)).modes ∙ passed-modes read rest closed run more silent;
     asked = ap by_functions (append_assoc bytes run more) ∙ (stands.same (run ++ more)).asked ∙ passed-asked read rest closed run more silent;
   }
 
@@ -163,7 +165,7 @@ module _ (b : MetadataView) (bytes run : List ℕ) (silent : SaysNothing run) (s
     settings = stands.settings ∙ settings-now bytes read stands.same ∙ sym (settings-now (bytes ++ run) read reads-on);
     texts = subst (λ l. Keeps b.texts l (strings_by (log_of (bytes ++ run))).begun) (sym emissions-same)
         (subst (λ (s : Strings). Keeps b.texts (emissions_of bytes) s.begun) (sym strings-same) stands.texts);
-    frame = stands.frame ∙ frame-now bytes read stands.same ∙ sym (frame-now (bytes ++ run) read reads-on);
+    modes = stands.modes ∙ modes-now bytes read stands.same ∙ sym (modes-now (bytes ++ run) read reads-on);
     head = subst (λ (s : Strings). Heads b.head s.begun) (sym strings-same) stands.head;
     asked = subst (Recalls b.asked) (sym queries-same) stands.asked;
   }
@@ -181,8 +183,8 @@ module _ (old new : MetadataView) (byte : ℕ) (bytes : List ℕ) (stands : Stan
     (kept : (emitted : List Emission) (all : Strings) → Keeps old.texts emitted all.begun
     → Keeps new.texts (((emitted ++ reset_if reset) ++ map Says (ended_by steps.first all.begun))
     ++ map Says (ended_by steps.later (after_step steps.first all).begun)) (after_steps steps all).begun)
-    (framed : new.frame ≡ fold frame_after old.frame fs)
-    (asks : option_to_list query ≡ asked_in old.settings old.frame fs)
+    (moded : new.modes ≡ fold modes_after old.modes fs)
+    (asks : option_to_list query ≡ asked_in old.settings old.modes fs)
     (heads : (all : Strings) → Heads old.head all.begun → Heads new.head (after_steps steps all).begun)
     (spells : (all : Strings) → Heads old.head all.begun → flat_map asked_by_string (after_steps steps all).ended
     ≡ (flat_map asked_by_string all.ended ++ option_to_list first) ++ option_to_list later)
@@ -203,7 +205,7 @@ module _ (old new : MetadataView) (byte : ℕ) (bytes : List ℕ) (stands : Stan
         settings = ap settings_of here ∙ same.settings ∙ sym (ap settings_of there);
         strings = ap (λ l. strings_by (log_of l)) here ∙ same.strings ∙ sym (ap (λ l. strings_by (log_of l)) there);
         resets = ap resets_of here ∙ same.resets ∙ sym (ap resets_of there);
-        frame = ap frame_of here ∙ same.frame ∙ sym (ap frame_of there);
+        modes = ap modes_of here ∙ same.modes ∙ sym (ap modes_of there);
         asked = ap by_functions here ∙ same.asked ∙ sym (ap by_functions there);
       }
 
@@ -218,23 +220,23 @@ module _ (old new : MetadataView) (byte : ℕ) (bytes : List ℕ) (stands : Stan
       ∙ fold-after (functions_of was) fs fresh_settings
       ∙ ap (λ s. fold heard s fs) (sym (settings-now bytes stands.read stands.same))
 
-  frame-byte : frame_of after ≡ fold frame_after (frame_of bytes) fs
-  frame-byte =
-      frame-now after (stands.read ++ byte ∷ []) reads-byte
-      ∙ ap (λ l. fold frame_after false (functions_of l)) one
-      ∙ ap (fold frame_after false) (gained was stands.reader)
-      ∙ frame-more (functions_of was) fs false
-      ∙ ap (λ f. fold frame_after f fs) (sym (frame-now bytes stands.read stands.same))
+  modes-byte : modes_of after ≡ fold modes_after (modes_of bytes) fs
+  modes-byte =
+      modes-now after (stands.read ++ byte ∷ []) reads-byte
+      ∙ ap (λ l. fold modes_after fresh_modes (functions_of l)) one
+      ∙ ap (fold modes_after fresh_modes) (gained was stands.reader)
+      ∙ modes-more (functions_of was) fs fresh_modes
+      ∙ ap (λ f. fold modes_after f fs) (sym (modes-now bytes stands.read stands.same))
 
   functions-byte : by_functions after ≡ by_functions bytes ++ option_to_list query
   functions-byte =
       asked-now after (stands.read ++ byte ∷ []) reads-byte
-      ∙ ap (λ l. asked_in fresh_settings false (functions_of l)) one
-      ∙ ap (asked_in fresh_settings false) (gained was stands.reader)
-      ∙ asked-more (functions_of was) fs fresh_settings false
-      ∙ ap (λ l. l ++ asked_in (settings_of stands.read) (frame_of stands.read) fs) (sym (asked-now bytes stands.read stands.same))
-      ∙ ap (λ s. by_functions bytes ++ asked_in s (frame_of stands.read) fs) (sym (stands.settings ∙ settings-now bytes stands.read stands.same))
-      ∙ ap (λ f. by_functions bytes ++ asked_in old.settings f fs) (sym (stands.frame ∙ frame-now bytes stands.read stands.same))
+      ∙ ap (λ l. asked_in fresh_settings fresh_modes (functions_of l)) one
+      ∙ ap (asked_in fresh_settings fresh_modes) (gained was stands.reader)
+      ∙ asked-more (functions_of was) fs fresh_settings fresh_modes
+      ∙ ap (λ l. l ++ asked_in (settings_of stands.read) (modes_of stands.read) fs) (sym (asked-now bytes stands.read stands.same))
+      ∙ ap (λ s. by_functions bytes ++ asked_in s (modes_of stands.read) fs) (sym (stands.settings ∙ settings-now bytes stands.read stands.same))
+      ∙ ap (λ f. by_functions bytes ++ asked_in old.settings f fs) (sym (stands.modes ∙ modes-now bytes stands.read stands.same))
       ∙ ap (λ l. by_functions bytes ++ l) (sym asks)
 
   strings-byte : strings_by (log_of after) ≡ after_steps steps (strings_by (log_of bytes))
@@ -301,7 +303,7 @@ module _ (old new : MetadataView) (byte : ℕ) (bytes : List ℕ) (stands : Stan
     texts = subst (λ l. Keeps new.texts l (strings_by (log_of after)).begun) (sym emissions-byte)
         (subst (λ (s : Strings). Keeps new.texts (((emissions_of bytes ++ reset_if reset) ++ first_said) ++ later_said) s.begun)
         (sym strings-byte) (kept (emissions_of bytes) all stands.texts));
-    frame = framed ∙ ap (λ f. fold frame_after f fs) stands.frame ∙ sym frame-byte;
+    modes = moded ∙ ap (λ f. fold modes_after f fs) stands.modes ∙ sym modes-byte;
     head = subst (λ (s : Strings). Heads new.head s.begun) (sym strings-byte) (heads (strings_by (log_of bytes)) stands.head);
     asked = subst (Recalls new.asked) (sym queries-byte) (recalls (queries_of bytes) stands.asked);
   }

@@ -3,6 +3,7 @@ pub mod InOrder
 pub mod Texts
 pub mod Emissions
 pub mod Keeping
+pub mod ScreenModes
 pub mod Queries
 pub mod Asking
 pub mod Silence

@@ -9,7 +9,7 @@ use Rattle.roam_pane_metadata.specs.declared.settings.Tracking.{Tracking}
 use Rattle.roam_pane_metadata.specs.declared.settings.Tracking.TheVariants.{Off, Buttons, Drags, Motion}
 use Rattle.roam_pane_metadata.specs.declared.settings.Settings.{Settings}
 use Rattle.roam_pane_metadata.specs.declared.settings.Wish.{Wish}
-use Rattle.roam_pane_metadata.specs.declared.settings.Wish.TheVariants.{Nothing, SetModes, ResetModes, Keys, PlainKeys, Shape, SoftReset}
+use Rattle.roam_pane_metadata.specs.declared.settings.Wish.TheVariants.{Nothing, SetModes, ResetModes, SetAnsiModes, ResetAnsiModes, Keys, PlainKeys, Shape, SoftReset}
 
 -- the most that is counted
 abbrev pub most_counted : ℕ
@@ -81,6 +81,7 @@ wish_of (Some mark) [] last =
     if (mark == 0x3E && last == 0x6D) then Keys else
     if (mark == 0x3E && last == 0x6E) then PlainKeys else
     Nothing
+wish_of None [] last = if last == 0x68 then SetAnsiModes else if last == 0x6C then ResetAnsiModes else Nothing
 wish_of None (b ∷ []) last = if (b == 0x20 && last == 0x71) then Shape else if (b == 0x21 && last == 0x70) then SoftReset else Nothing
 wish_of mark inter last = Nothing
 
@@ -92,6 +93,8 @@ granted ResetModes params s = fold (mode_set false) s params
 granted Keys params s = record s { other_keys = keys_asked params s.other_keys }
 granted PlainKeys params s = record s { other_keys = keys_disabled params s.other_keys }
 granted Shape params s = record s { shape = shape_asked params s.shape }
+granted SetAnsiModes params s = s
+granted ResetAnsiModes params s = s
 granted SoftReset params s = record s { application_keypad = false }
 
 -- RIS, ESC 63 (ECMA-48 8.3.105)

@@ -6,16 +6,18 @@ ghost use Rattle.roam_text.specs.Strings.{strings_of};
 ghost use Rattle.roam_text.specs.declared.functions.Function.TheVariants.{Csi};
 ghost use Rattle.roam_pane_metadata.specs.declared.settings.Settings.{Settings};
 ghost use Rattle.roam_pane_metadata.specs.Settings.{heard, reset_settings, settings_of};
+ghost use Rattle.roam_pane_metadata.specs.ScreenModes.{fresh_modes, modes_of};
 ghost use Rattle.roam_pane_metadata.specs.Queries.{asked_after, by_functions, by_strings, queries_of};
 ghost use Rattle.roam_pane_metadata.specs.Texts.{Said};
 ghost use Rattle.roam_pane_metadata.specs.Emissions.{TakesBack, after_emission, resets_of, spoken_of, string_in, emitted_after, emitted_by, emissions_of};
 ghost use Rattle.roam_pane_metadata.specs.Metadata.{MetadataView, Stands};
 ghost use Rattle.roam_pane_metadata.specs.Silence.{AreStill, SaysNothing};
 
-/// RIS, ESC 63, resets all settings of a program, whatever is unfinished before it; the bells that rang are still reported (ECMA-48,
-/// 8.3.105). It is emitted behind all earlier emissions, and there is no title then. All other texts stay.
+/// RIS, ESC 63, resets all settings of a program and all modes of its screen, whatever is unfinished before it; the bells that rang are still
+/// reported (ECMA-48, 8.3.105). It is emitted behind all earlier emissions, and there is no title then. All other texts stay.
 pub fn a_reset_resets()
     ensures reset { (bytes : List ℕ) → settings_of (bytes ++ 0x1B ∷ 0x63 ∷ []) ≡ reset_settings (settings_of bytes) }
+    ensures modes { (bytes : List ℕ) → modes_of (bytes ++ 0x1B ∷ 0x63 ∷ []) ≡ fresh_modes }
     ensures uttered { (bytes : List ℕ) → emissions_of (bytes ++ 0x1B ∷ 0x63 ∷ []) ≡ emissions_of bytes ++ TakesBack ∷ [] }
     ensures title { (metadata : MetadataView) (bytes : List ℕ) → Stands metadata (bytes ++ 0x1B ∷ 0x63 ∷ [])
         → metadata.texts.said.title ≡ None }

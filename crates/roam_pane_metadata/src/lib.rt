@@ -18,6 +18,7 @@ mod keeping;
 pub mod laws;
 mod metadata;
 mod queries;
+mod screen_modes;
 mod settings;
 mod silence;
 mod texts;

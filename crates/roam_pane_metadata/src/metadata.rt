@@ -4,14 +4,16 @@ ghost use Rattle.std.specs.List.{flat_map, fold};
 ghost use Rattle.std.specs.Option.{option_map, option_to_list};
 ghost use Rattle.roam_text.specs.Dispatched.{functions_by};
 ghost use Rattle.roam_pane_metadata.specs.Settings.{fresh_settings, heard, most_counted, settings_of};
-ghost use Rattle.roam_pane_metadata.specs.Queries.{asked_in, frame_after, queries_of};
+ghost use Rattle.roam_pane_metadata.specs.Queries.{asked_in, queries_of};
+ghost use Rattle.roam_pane_metadata.specs.ScreenModes.{modes_after};
 ghost use Rattle.roam_pane_metadata.specs.Asking.{most_kept, newest};
 ghost use Rattle.roam_pane_metadata.specs.Texts.{nothing_said};
 ghost use Rattle.roam_pane_metadata.specs.Emissions.{IsCounted, reset_if, emitted_by};
 
 use crate::asking::{Asked, Head};
 use crate::keeping::Texts;
-use crate::queries::{Query, asked_by, frame_after};
+use crate::queries::{Query, asked_by};
+use crate::screen_modes::{ScreenModes, fresh_modes, modes_after};
 use crate::settings::{Settings, fresh_settings, heard, is_reset};
 use crate::silence::silent_run;
 use roam_text::{Dispatched, Reader, StringReader};
@@ -26,8 +28,7 @@ pub struct Metadata {
     strings: StringReader,
     settings: Settings,
     texts: Texts,
-    // True if a synchronized update is open: 2026.
-    frame: bool,
+    modes: ScreenModes,
     head: Head,
     asked: Asked,
 }
@@ -42,7 +43,7 @@ impl Model for Metadata {
       strings = b.strings;
       settings = b.settings;
       texts = b.texts;
-      frame = b.frame;
+      modes = b.modes;
       head = b.head;
       asked = b.asked;
     } };
@@ -76,14 +77,14 @@ fn is_reset_by(dispatched: Dispatched, reader: &Reader) -> bool
     }
 }
 
-// Returns true if an update is open after the function of a byte.
-fn frame_by(frame: bool, dispatched: Dispatched, reader: &Reader) -> bool
-    ensures frame { result ≡ fold frame_after frame (functions_by dispatched reader.now.parameters reader.now.intermediates) }
+// Returns the modes after the function of a byte.
+fn modes_by(modes: ScreenModes, dispatched: Dispatched, reader: &Reader) -> ScreenModes
+    ensures modes { result ≡ fold modes_after modes (functions_by dispatched reader.now.parameters reader.now.intermediates) }
 {
     match dispatched {
-        Dispatched::Nothing => frame,
-        Dispatched::One(dispatch) | Dispatched::AfterReplacement(dispatch) => frame_after(
-            frame,
+        Dispatched::Nothing => modes,
+        Dispatched::One(dispatch) | Dispatched::AfterReplacement(dispatch) => modes_after(
+            modes,
             dispatch,
             reader.parameters(),
             reader.intermediates(),
@@ -94,18 +95,18 @@ fn frame_by(frame: bool, dispatched: Dispatched, reader: &Reader) -> bool
 // Returns the question of the function that a byte completed, if there is one.
 fn query_by(
     settings: &Settings,
-    frame: bool,
+    modes: &ScreenModes,
     dispatched: Dispatched,
     reader: &Reader,
 ) -> Option<Query>
     ensures asked { option_to_list result
-        ≡ asked_in settings.now frame (functions_by dispatched reader.now.parameters reader.now.intermediates) }
+        ≡ asked_in settings.now modes.now (functions_by dispatched reader.now.parameters reader.now.intermediates) }
 {
     match dispatched {
         Dispatched::Nothing => None,
         Dispatched::One(dispatch) | Dispatched::AfterReplacement(dispatch) => asked_by(
             settings,
-            frame,
+            modes,
             dispatch,
             reader.parameters(),
             reader.intermediates(),
@@ -128,7 +129,7 @@ impl Metadata {
             strings: StringReader::new(),
             settings: fresh_settings(),
             texts: Texts::new(alloc),
-            frame: false,
+            modes: fresh_modes(),
             head: Head::new(),
             asked: Asked::new(),
         }
@@ -192,9 +193,9 @@ impl Metadata {
         ensures counted { IsCounted self.old.texts.said self.new.texts.said }
     {
         let dispatched = self.reader.dispatch(byte);
-        let query = query_by(&self.settings, self.frame, dispatched, &self.reader);
+        let query = query_by(&self.settings, &self.modes, dispatched, &self.reader);
         self.settings = heard_by(self.settings, dispatched, &self.reader);
-        self.frame = frame_by(self.frame, dispatched, &self.reader);
+        self.modes = modes_by(self.modes, dispatched, &self.reader);
         self.texts.hear(is_reset_by(dispatched, &self.reader));
         let steps = self.strings.next(byte);
         self.texts.take(steps.first);

@@ -1,11 +1,11 @@
 //! Questions of a program that its screen can't answer.
 ghost use Rattle.std.specs.Prelude.{◌≡◌};
-ghost use Rattle.std.specs.List.{fold};
 ghost use Rattle.std.specs.Option.{option_to_list};
 ghost use Rattle.roam_text.specs.Dispatched.{function_of};
-ghost use Rattle.roam_pane_metadata.specs.Queries.{asked, asked_by, colour_asked, frame_after, frame_by, frame_granted, is_bell, mode_asked, mode_state, query_form_of, query_in, state_of, tracking_mode};
+ghost use Rattle.roam_pane_metadata.specs.Queries.{ansi_mode_state, asked, asked_by, colour_asked, is_bell, mode_asked, mode_state, query_form_of, query_in, state_of, tracking_mode};
 
-use crate::settings::{Settings, Tracking, Wish, wish_of};
+use crate::screen_modes::ScreenModes;
+use crate::settings::{Settings, Tracking};
 use roam_text::{Dispatch, StringEnd};
 
 /// The state of a mode, as DECRPM reports it (VT510).
@@ -32,6 +32,8 @@ pub enum Query {
     Pastes { is_set: bool },
     /// DECRQM of another private mode, by its number, with the state at that time.
     PrivateMode { number: u16, state: ModeState },
+    /// DECRQM of a mode of ECMA-48, by its number, with the state at that time.
+    AnsiMode { number: u16, state: ModeState },
     /// The size of the text area in characters, CSI 18 t.
     Size,
     /// The terminal's name, XTVERSION.
@@ -45,49 +47,12 @@ pub enum QueryForm {
     Nothing,
     /// The state of a private mode, DECRQM.
     Mode,
+    /// The state of a mode of ECMA-48, DECRQM.
+    AnsiForm,
     /// A report on the window, CSI t.
     Window,
     /// The terminal's name, XTVERSION.
     Name,
-}
-
-fn frame_by(on: bool, frame: bool, mode: u16) -> bool
-    ensures frame { result ≡ frame_by on frame mode }
-{
-    if mode == 2026 { on } else { frame }
-}
-
-fn frame_set(on: bool, frame: bool, modes: &[u16]) -> bool
-    ensures frame { result ≡ fold (frame_by on) frame modes.now }
-{
-    let mut open = frame;
-    let mut at = 0;
-    while at < modes.len() {
-        open = frame_by(on, open, modes[at]);
-        at += 1;
-    }
-    open
-}
-
-fn frame_granted(wish: Wish, params: &[u16], frame: bool) -> bool
-    ensures frame { result ≡ frame_granted wish params.now frame }
-{
-    match wish {
-        Wish::SetModes => frame_set(true, frame, params),
-        Wish::ResetModes => frame_set(false, frame, params),
-        _ => frame,
-    }
-}
-
-/// Returns true if an update is open after a function, whose parameters and intermediate bytes the reader lends.
-pub fn frame_after(frame: bool, dispatch: Dispatch, params: &[u16], inter: &[u8]) -> bool
-    ensures frame { result ≡ frame_after frame (function_of dispatch params.now inter.now) }
-{
-    match dispatch {
-        Dispatch::Esc { last: b'c' } if inter.is_empty() => false,
-        Dispatch::Csi { mark, last } => frame_granted(wish_of(mark, inter, last), params, frame),
-        _ => frame,
-    }
 }
 
 fn query_form_of(mark: Option<u8>, inter: &[u8], last: u8) -> QueryForm
@@ -95,6 +60,7 @@ fn query_form_of(mark: Option<u8>, inter: &[u8], last: u8) -> QueryForm
 {
     match (mark, inter, last) {
         (None, [], b't') => QueryForm::Window,
+        (None, [b'$'], b'p') => QueryForm::AnsiForm,
         (Some(b'>'), [], b'q') => QueryForm::Name,
         (Some(b'?'), [b'$'], b'p') => QueryForm::Mode,
         _ => QueryForm::Nothing,
@@ -123,10 +89,15 @@ fn tracking_mode(tracking: Tracking) -> u16
     }
 }
 
-fn mode_state(settings: &Settings, mode: u16) -> ModeState
-    ensures state { result ≡ mode_state settings.now mode }
+fn mode_state(settings: &Settings, modes: &ScreenModes, mode: u16) -> ModeState
+    ensures state { result ≡ mode_state settings.now modes.now mode }
 {
     match mode {
+        1 => state_of(modes.cursor_keys),
+        5 => state_of(modes.reverse_screen),
+        6 => state_of(modes.origin),
+        7 => state_of(modes.autowrap),
+        25 => state_of(modes.cursor_visible),
         1000 => state_of(tracking_mode(settings.tracking) == 1000),
         1002 => state_of(tracking_mode(settings.tracking) == 1002),
         1003 => state_of(tracking_mode(settings.tracking) == 1003),
@@ -137,17 +108,29 @@ fn mode_state(settings: &Settings, mode: u16) -> ModeState
     }
 }
 
-fn mode_asked(settings: &Settings, frame: bool, mode: u16) -> Query
-    ensures asked { result ≡ mode_asked settings.now frame mode }
+fn ansi_mode_state(modes: &ScreenModes, mode: u16) -> ModeState
+    ensures state { result ≡ ansi_mode_state modes.now mode }
+{
+    match mode {
+        4 => state_of(modes.insert),
+        20 => state_of(modes.newline),
+        _ => ModeState::Unknown,
+    }
+}
+
+fn mode_asked(settings: &Settings, modes: &ScreenModes, mode: u16) -> Query
+    ensures asked { result ≡ mode_asked settings.now modes.now mode }
 {
     match mode {
         2004 => Query::Pastes {
             is_set: settings.bracketed_paste,
         },
-        2026 => Query::Frames { is_set: frame },
+        2026 => Query::Frames {
+            is_set: modes.update,
+        },
         _ => Query::PrivateMode {
             number: mode,
-            state: mode_state(settings, mode),
+            state: mode_state(settings, modes, mode),
         },
     }
 }
@@ -156,34 +139,38 @@ fn asked(
     query_form: QueryForm,
     params: &[u16],
     settings: &Settings,
-    frame: bool,
+    modes: &ScreenModes,
 ) -> Option<Query>
-    ensures asked { result ≡ asked query_form params.now settings.now frame }
+    ensures asked { result ≡ asked query_form params.now settings.now modes.now }
 {
     match (query_form, params) {
-        (QueryForm::Mode, [mode]) => Some(mode_asked(settings, frame, *mode)),
+        (QueryForm::Mode, [mode]) => Some(mode_asked(settings, modes, *mode)),
+        (QueryForm::AnsiForm, [mode]) => Some(Query::AnsiMode {
+            number: *mode,
+            state: ansi_mode_state(modes, *mode),
+        }),
         (QueryForm::Window, [18, ..]) => Some(Query::Size),
         (QueryForm::Name, [0]) => Some(Query::Version),
         _ => None,
     }
 }
 
-/// Returns the question of a function under these settings; the reader lends its parameters and intermediate bytes.
+/// Returns the question of a function under these settings and modes; the reader lends its parameters and intermediate bytes.
 pub fn asked_by(
     settings: &Settings,
-    frame: bool,
+    modes: &ScreenModes,
     dispatch: Dispatch,
     params: &[u16],
     inter: &[u8],
 ) -> Option<Query>
-    ensures asked { option_to_list result ≡ asked_by settings.now frame (function_of dispatch params.now inter.now) }
+    ensures asked { option_to_list result ≡ asked_by settings.now modes.now (function_of dispatch params.now inter.now) }
 {
     match dispatch {
         Dispatch::Csi { mark, last } => asked(
             query_form_of(mark, inter, last),
             params,
             settings,
-            frame,
+            modes,
         ),
         _ => None,
     }

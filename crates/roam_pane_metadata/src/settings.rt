@@ -50,6 +50,10 @@ pub enum Wish {
     SetModes,
     /// DECRST, CSI ? l.
     ResetModes,
+    /// SM, CSI h.
+    SetAnsiModes,
+    /// RM, CSI l.
+    ResetAnsiModes,
     /// XTMODKEYS, CSI > m.
     Keys,
     /// XTMODKEYS off, CSI > n.
@@ -143,6 +147,8 @@ pub(crate) fn wish_of(mark: Option<u8>, inter: &[u8], last: u8) -> Wish
     match (mark, inter, last) {
         (Some(b'?'), [], b'h') => Wish::SetModes,
         (Some(b'?'), [], b'l') => Wish::ResetModes,
+        (None, [], b'h') => Wish::SetAnsiModes,
+        (None, [], b'l') => Wish::ResetAnsiModes,
         (Some(b'>'), [], b'm') => Wish::Keys,
         (Some(b'>'), [], b'n') => Wish::PlainKeys,
         (None, [b' '], b'q') => Wish::Shape,
@@ -173,7 +179,7 @@ fn granted(wish: Wish, params: &[u16], settings: Settings) -> Settings
     ensures settings { result ≡ granted wish params.now settings }
 {
     match wish {
-        Wish::Nothing => settings,
+        Wish::Nothing | Wish::SetAnsiModes | Wish::ResetAnsiModes => settings,
         Wish::SetModes => modes_set(true, settings, params),
         Wish::ResetModes => modes_set(false, settings, params),
         Wish::Keys => Settings {

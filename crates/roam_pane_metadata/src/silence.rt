@@ -22,11 +22,11 @@ fn is_number(byte: u8) -> bool
     0x30 <= byte && byte < 0x3C
 }
 
-// Returns true if a byte ends a control sequence, and asks for nothing even if it has neither a private marker nor an intermediate byte.
+// Returns true if a byte ends a control sequence that counts only with a private marker or an intermediate byte.
 fn is_final(byte: u8) -> bool
     ensures last { result ≡ is_final byte }
 {
-    0x40 <= byte && byte < 0x7F && byte != b't'
+    0x40 <= byte && byte < 0x7F && byte != b'h' && byte != b'l' && byte != b't'
 }
 
 #[inline]

@@ -13,7 +13,7 @@ returns-clause-stands c bytes stands =
       strings = c.self.inside.strings;
       settings = c.self.inside.settings;
       texts = c.self.inside.texts;
-      frame = c.self.inside.frame;
+      modes = c.self.inside.modes;
       head = c.self.inside.head;
       asked = c.self.inside.asked;
     } in
@@ -22,7 +22,7 @@ returns-clause-stands c bytes stands =
       strings = c.next-steps.new.self;
       settings = c.heard_by-self-inside.result;
       texts = c.take-2.new.self;
-      frame = c.frame_by-self-inside.result;
+      modes = c.modes_by-self-inside.result;
       head = c.take-later.new.self;
       asked = c.note-3.new.self;
     } in
@@ -33,7 +33,7 @@ returns-clause-stands c bytes stands =
     c.heard_by-self-inside.ensures.heard c.is_reset_by.ensures.reset
     (λ emitted all kept. c.take-2.ensures.keeps _ (after_step c.next-steps.result.first all)
     (c.take.ensures.keeps _ all (c.hear.ensures.keeps emitted all.begun kept)))
-    c.frame_by-self-inside.ensures.frame c.query_by-query.ensures.asked
+    c.modes_by-self-inside.ensures.modes c.query_by-query.ensures.asked
     (λ all heads. c.take-later.ensures.heads _ (c.take-first.ensures.heads all heads))
     (λ all heads. c.take-later.ensures.asked (after_step c.next-steps.result.first all) (c.take-first.ensures.heads all heads)
     ∙ ap (λ l. l ++ option_to_list c.take-later.result) (c.take-first.ensures.asked all heads))
