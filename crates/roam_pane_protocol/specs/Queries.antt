@@ -1,7 +1,7 @@
 -- The questions of the programs of a session's panes, and the lines that report new ones (this project's profile).
 use Rattle.std.specs.Prelude.{◌≡◌, ◌≤◌, ℕ, true, false, ◌==◌, ◌-◌, ◌++◌, List, [], ◌∷◌, length, drop, slice_index_or, Option, Some, None, if◌then◌else◌, codes, decimal}
 use Rattle.roam_pane_metadata.specs.declared.queries.Query.{Query}
-use Rattle.roam_pane_metadata.specs.declared.queries.Query.TheVariants.{Foreground, Background, Frames, Pastes, PrivateMode, Size, Version}
+use Rattle.roam_pane_metadata.specs.declared.queries.Query.TheVariants.{Foreground, Background, Frames, Pastes, PrivateMode, AnsiMode, Size, Version}
 use Rattle.roam_pane_metadata.specs.declared.queries.ModeState.{ModeState}
 use Rattle.roam_pane_metadata.specs.declared.queries.ModeState.TheVariants.{Unknown, Set, Reset}
 use Rattle.roam_pane_metadata.specs.Asking.{most_kept, newest}
@@ -31,7 +31,7 @@ state_words Set = codes " set"
 state_words Reset = []
 
 -- The question: the colour of text and of the background, with `bell` if BEL ended the question; the state of an update, and of bracketed
--- paste, with `set` if it was set; that of another private mode, by its number; the size; the terminal's name.
+-- paste, with `set` if it was set; that of another private mode, and of a mode of ECMA-48, by their numbers; the size; the terminal's name.
 abbrev pub query_words : Query → List ℕ
 query_words (Foreground false) = codes "foreground"
 query_words (Foreground true) = codes "foreground bell"
@@ -42,6 +42,7 @@ query_words (Frames true) = codes "frames set"
 query_words (Pastes false) = codes "pastes"
 query_words (Pastes true) = codes "pastes set"
 query_words (PrivateMode number state) = codes "mode " ++ (decimal number ++ state_words state)
+query_words (AnsiMode number state) = codes "ansi-mode " ++ (decimal number ++ state_words state)
 query_words Size = codes "size"
 query_words Version = codes "version"
 

@@ -1,7 +1,7 @@
 //! The lines that report new questions.
 ghost use Rattle.std.specs.Prelude.{◌≡◌, ◌++◌, IfOk, OnOk, IsOkUnless, string_bytes};
 ghost use Rattle.roam_pane_metadata.specs.Asking.{newest};
-ghost use Rattle.roam_pane_metadata.specs.declared.queries.Query.TheVariants.{PrivateMode};
+ghost use Rattle.roam_pane_metadata.specs.declared.queries.Query.TheVariants.{AnsiMode, PrivateMode};
 ghost use Rattle.roam_pane_protocol.specs.MetadataLines.{word_if};
 ghost use Rattle.roam_pane_protocol.specs.Queries.{query_lines, query_text, query_texts, asked_in, query_words, state_words};
 
@@ -45,6 +45,15 @@ fn mode_words(alloc: Global, number: u16, state: ModeState) -> Result<String, Fa
     Ok(words)
 }
 
+fn ansi_mode_words(alloc: Global, number: u16, state: ModeState) -> Result<String, Fault>
+    ensures words { IfOk result (λ text. string_bytes text ≡ query_words (AnsiMode number state)) }
+    ensures fault { IsOkUnless result Fault.OutOfMemory }
+{
+    let state = state_words(state);
+    let words = format!(in alloc; "ansi-mode {number}{state}")?;
+    Ok(words)
+}
+
 fn query_words(alloc: Global, query: Query) -> Result<String, Fault>
     ensures words { IfOk result (λ text. string_bytes text ≡ query_words query) }
     ensures fault { IsOkUnless result Fault.OutOfMemory }
@@ -55,6 +64,7 @@ fn query_words(alloc: Global, query: Query) -> Result<String, Fault>
         Query::Frames { is_set } => words_with(alloc, "frames", is_set, " set"),
         Query::Pastes { is_set } => words_with(alloc, "pastes", is_set, " set"),
         Query::PrivateMode { number, state } => mode_words(alloc, number, state),
+        Query::AnsiMode { number, state } => ansi_mode_words(alloc, number, state),
         Query::Size => words_with(alloc, "size", false, ""),
         Query::Version => words_with(alloc, "version", false, ""),
     }
@@ -104,7 +114,7 @@ fn push_lines(
     Ok(())
 }
 
-/// Appends a line `asks P GENERATION WHAT` for each question of a pane's program that wasn't reported, of the last ones that are kept, in
+/// Appends a line `query P GENERATION WHAT` for each question of a pane's program that wasn't reported, of the last ones that are kept, in
 /// their order. A generation of which nothing was reported counts as one without any. `OutOfMemory`.
 pub fn push_queries(
     alloc: Global,

@@ -1,7 +1,7 @@
 //! Worked rows: the metadata of bytes, by xterm's list of control sequences and the VT510's DECSCUSR.
 use crate::readers::bytes_of;
 use crate::words::{as_wanted, case_of};
-use roam_pane_metadata::{Metadata, Query, Settings, Tracking};
+use roam_pane_metadata::{Metadata, ModeState, Query, Settings, Tracking};
 use std::alloc::{AllocError, Global};
 use std::fmt::Write;
 use std::test::Fail;
@@ -171,9 +171,49 @@ whether a mode is set, as it is when that is asked
 \x1B[?2026$p\x1B[?2004;2026h\x1B[?2004$p\x1B[?2026$p\x1Bc\x1B[?2004$p\x1B[?2026$p
 asked 5 frames pastes-set frames-set pastes frames
 
-what is asked of several modes, or of others, is nothing
-\x1B[?2026;2004$p\x1B[?25$p\x1B[2026$p\x1B[?2026p
+each mode of the screen as it is at the start
+\x1B[?1$p\x1B[?5$p\x1B[?6$p\x1B[?7$p\x1B[?25$p\x1B[4$p\x1B[20$p
+asked 7 mode-1 mode-5 mode-6 mode-7-set mode-25-set ansi-4 ansi-20
+
+each of them the other way, and after DECSTR, which leaves three of them
+\x1B[?1;5;6h\x1B[?7;25l\x1B[4;20h\x1B[?1$p\x1B[?5$p\x1B[?6$p\x1B[?7$p\x1B[?25$p\x1B[4$p\x1B[20$p\x1B[!p\x1B[?1$p\x1B[?5$p\x1B[?6$p\x1B[?7$p\x1B[?25$p\x1B[4$p\x1B[20$p
+asked 14 mode-1-set mode-5-set mode-6-set mode-7 mode-25 ansi-4-set ansi-20-set mode-1 mode-5-set mode-6 mode-7 mode-25-set ansi-4 ansi-20-set
+
+RIS leaves none of them
+\x1B[?1;5;6h\x1B[?7;25l\x1B[4;20h\x1Bc\x1B[?1$p\x1B[?5$p\x1B[?6$p\x1B[?7$p\x1B[?25$p\x1B[4$p\x1B[20$p
+asked 7 mode-1 mode-5 mode-6 mode-7-set mode-25-set ansi-4 ansi-20
+
+RM resets them
+\x1B[4;20h\x1B[4l\x1B[4$p\x1B[20$p\x1B[20;4l\x1B[20$p
+asked 3 ansi-4 ansi-20-set ansi-20
+
+of the modes of the mouse the one that counts is set
+\x1B[?1000;1006;1004h\x1B[?1000$p\x1B[?1002$p\x1B[?1003$p\x1B[?1004$p\x1B[?1006$p\x1B[?1002h\x1B[?1000$p\x1B[?1002$p
+drags sgr focus asked 7 mode-1000-set mode-1002 mode-1003 mode-1004-set mode-1006-set mode-1000 mode-1002-set
+
+the alternate screen
+\x1B[?47$p\x1B[?1049h\x1B[?47$p\x1B[?1047$p\x1B[?1049$p
+other asked 4 mode-47 mode-47-set mode-1047-set mode-1049-set
+
+DECSC keeps DECOM, DECRC restores it, and resets it if none was kept
+\x1B[?6h\x1B7\x1B[?6l\x1B8\x1B[?6$p\x1B[!p\x1B[?6h\x1B8\x1B[?6$p
+asked 2 mode-6-set mode-6
+
+1049 keeps it for the main screen, and the alternate screen has one of its own
+\x1B[?6h\x1B[?1049h\x1B7\x1B[?6l\x1B[?1049h\x1B8\x1B[?6$p\x1B[?6l\x1B7\x1B8\x1B[?6$p\x1B[?1049l\x1B[?6$p\x1B[?6l\x1B[?1049l\x1B[?6$p
+asked 4 mode-6-set mode-6 mode-6-set mode-6
+
+a mode that isn't known; a number is at most 9999
+\x1B[?3$p\x1B[2026$p\x1B[?99999$p
+asked 3 mode-3-unknown ansi-2026-unknown mode-9999-unknown
+
+what is asked of several modes is nothing
+\x1B[?2026;2004$p\x1B[4;20$p\x1B[?2026p\x1B[>1$p
 -
+
+the size in characters, and no other report on the window
+\x1B[18t\x1B[18;1t\x1B[14t\x1B[?18t\x1B[t\x1B[18$t
+asked 2 size size
 
 the terminal's name
 \x1B[>q\x1B[>0q\x1B[>1q\x1B[>0;0q\x1B[q
@@ -217,8 +257,22 @@ fn push_number(text: &mut String, name: &str, number: u64) -> Result<(), AllocEr
     Ok(())
 }
 
-fn query_word(query: Query) -> &'static str {
-    match query {
+fn push_mode(
+    text: &mut String,
+    name: &str,
+    number: u16,
+    state: ModeState,
+) -> Result<(), AllocError> {
+    let state = match state {
+        ModeState::Unknown => "-unknown",
+        ModeState::Set => "-set",
+        ModeState::Reset => "",
+    };
+    write!(text, "{name}-{number}{state} ")
+}
+
+fn push_query(text: &mut String, query: Query) -> Result<(), AllocError> {
+    text.push_str(match query {
         Query::Foreground { by_bell: false } => "foreground ",
         Query::Foreground { by_bell: true } => "foreground-bell ",
         Query::Background { by_bell: false } => "background ",
@@ -227,14 +281,17 @@ fn query_word(query: Query) -> &'static str {
         Query::Frames { is_set: true } => "frames-set ",
         Query::Pastes { is_set: false } => "pastes ",
         Query::Pastes { is_set: true } => "pastes-set ",
+        Query::PrivateMode { number, state } => return push_mode(text, "mode", number, state),
+        Query::AnsiMode { number, state } => return push_mode(text, "ansi", number, state),
+        Query::Size => "size ",
         Query::Version => "version ",
-    }
+    })
 }
 
 fn push_queries(text: &mut String, metadata: &Metadata) -> Result<(), AllocError> {
     push_number(text, "asked", metadata.queries_asked())?;
     for query in metadata.queries() {
-        text.push_str(query_word(*query))?;
+        push_query(text, *query)?;
     }
     Ok(())
 }

@@ -73,18 +73,16 @@ class PaneQuery:
 
 
 # The words of which one may follow each query, behind the number of a mode.
-BEHIND = {"version": [], "size": [], "frames": ["set"], "pastes": ["set"], MODE: ["set", "unknown"], ANSI_MODE: ["set", "unknown"],
-          "foreground": ["bell"], "background": ["bell"]}
+BEHIND: dict[str, list[str]] = {"version": [], "size": [], "frames": ["set"], "pastes": ["set"], "foreground": ["bell"],
+                                "background": ["bell"], MODE: ["set", "unknown"], ANSI_MODE: ["set", "unknown"]}
 
 
 def query_in(line: str) -> PaneQuery | None:
     """Return the query of a line `query P GENERATION WHAT`; None for another line."""
     word, *words = line.split(" ")
-    if word != QUERY or len(words) < 3 or words[2] not in BEHIND:
+    numbers, what, behind = words[:2], "".join(words[2:3]), words[3:]
+    if word != QUERY or what not in BEHIND or any(decimal_in(number, MOST_NUMBER) is None for number in numbers):
         return None
-    numbers, behind = words[:2], words[3:]
-    if words[2] in (MODE, ANSI_MODE) and (not behind or decimal_in(behind.pop(0), MOST_MODE) is None):
+    if what in (MODE, ANSI_MODE) and (not behind or decimal_in(behind.pop(0), MOST_MODE) is None):
         return None
-    if len(behind) > 1 or any(more not in BEHIND[words[2]] for more in behind):
-        return None
-    return PaneQuery(words) if all(decimal_in(number, MOST_NUMBER) is not None for number in numbers) else None
+    return PaneQuery(words) if len(behind) <= 1 and all(more in BEHIND[what] for more in behind) else None

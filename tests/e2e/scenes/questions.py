@@ -81,6 +81,9 @@ def questions(folder):
     found = answers(folder, outer, r"\033]11;?\007\033[?2026$p\033[?2004$p\033[>q")
     wanted = b"\x1b[?2026;2$y\x1b[?2004;2$y" + NAMED % version().encode() + DEVICE
     check("what is known is answered before the answer to DA1, in its order", found.startswith(wanted), found)
+    found = answers(folder, outer, r"\033[18t\033[?1004h\033[?1004$p\033[?1004l\033[?25$p\033[4$p\033[?9999$p")
+    wanted = b"\x1b[8;23;80t\x1b[?1004;1$y\x1b[?25;1$y\x1b[4;2$y\x1b[?9999;0$y" + DEVICE
+    check("so are the pane's size and the states of modes", found.startswith(wanted), found)
     check("the host knows of the terminal", comes(lambda: is_known(terminals_of(SESSION).parent)))
     outer.type(b"\x1b]11;rgb:11")
     outer.type(b"11/1111/1111\x1b")
