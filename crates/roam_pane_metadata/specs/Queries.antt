@@ -63,8 +63,8 @@ ansi_mode_state m n = if n == 4 then state_of m.insert else if n == 20 then stat
 
 -- ---- questions by control functions
 
--- the question of a control sequence: the state of a mode of ECMA-48 or of a private one (DECRQM, CSI n $ p and CSI ? n $ p), a report on the
--- window (xterm, CSI n t), or the name (XTVERSION, CSI > q)
+-- the question of a control sequence: the state of a mode of ECMA-48 or of a private one (DECRQM, CSI n $ p and CSI ? n $ p), a report on
+-- the window (xterm, CSI n t), or the name (XTVERSION, CSI > q)
 abbrev pub query_form_of : Option ℕ → List ℕ → ℕ → QueryForm
 query_form_of None [] last = cond (last == 0x74) Window Nothing
 query_form_of None (b ∷ []) last = cond (b == 0x24 && last == 0x70) AnsiForm Nothing

@@ -41,8 +41,8 @@ AreStill (b ∷ bytes) = (is_still b ≡ true) × AreStill bytes
 abbrev pub is_number : ℕ → Bool
 is_number b = nat_le 0x30 b && nat_lt b 0x3C
 
--- a final byte that counts even with neither a private marker nor an intermediate byte: h and l, SM and RM (ECMA-48 8.3.125 and 8.3.106), and
--- t, a report on the window (xterm)
+-- a final byte that counts even with neither a private marker nor an intermediate byte: h and l, SM and RM (ECMA-48 8.3.125 and 8.3.106),
+-- and t, a report on the window (xterm)
 abbrev pub counts : ℕ → Bool
 counts b = is_byte3 0x68 0x6C 0x74 b
 

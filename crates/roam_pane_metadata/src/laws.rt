@@ -13,8 +13,8 @@ ghost use Rattle.roam_pane_metadata.specs.Emissions.{TakesBack, after_emission, 
 ghost use Rattle.roam_pane_metadata.specs.Metadata.{MetadataView, Stands};
 ghost use Rattle.roam_pane_metadata.specs.Silence.{AreStill, SaysNothing};
 
-/// RIS, ESC 63, resets all settings of a program and all modes of its screen, whatever is unfinished before it; the bells that rang are still
-/// reported (ECMA-48, 8.3.105). It is emitted behind all earlier emissions, and there is no title then. All other texts stay.
+/// RIS, ESC 63, resets all settings of a program and all modes of its screen, whatever is unfinished before it; the bells that rang are
+/// still reported (ECMA-48, 8.3.105). It is emitted behind all earlier emissions, and there is no title then. All other texts stay.
 pub fn a_reset_resets()
     ensures reset { (bytes : List ℕ) → settings_of (bytes ++ 0x1B ∷ 0x63 ∷ []) ≡ reset_settings (settings_of bytes) }
     ensures modes { (bytes : List ℕ) → modes_of (bytes ++ 0x1B ∷ 0x63 ∷ []) ≡ fresh_modes }
