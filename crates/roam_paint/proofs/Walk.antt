@@ -321,7 +321,7 @@ module _ (still : Constants) (prows pcols : ℕ) (d : ℕ → ℕ → Bool) (new
 
   -- ---- one place, a row, all rows
 
-  step_by : (r k : ℕ) (g : Style) (t : Live) → r < prows → k < pcols → Walked r k g t → (b : Bool) → is_drawn d new r k ≡ b
+  pub step_by : (r k : ℕ) (g : Style) (t : Live) → r < prows → k < pcols → Walked r k g t → (b : Bool) → is_drawn d new r k ≡ b
       → Walked r (k + 1) (style_after d new r k g) (acted (drawn_cell d new r k g) t)
   unfolding drawn_cell style_after
   step_by r k g t r_in k_in w true e = subst (λ b. Walked r (k + 1) (if b then (new r k).style else g) (acted (drawn_cell d new r k g) t)) (sym e) (draw r k g t r_in k_in w e)

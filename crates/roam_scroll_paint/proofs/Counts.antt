@@ -24,7 +24,7 @@ record IsLong (n : ℕ) (ds : List ℕ) : Type 0 where
   two : 10 ≤ n → 2 ≤ length ds
   three : 100 ≤ n → 3 ≤ length ds
 
-longer : (ds : List ℕ) (d : ℕ) → length (ds ++ d ∷ []) ≡ length ds + 1
+pub longer : (ds : List ℕ) (d : ℕ) → length (ds ++ d ∷ []) ≡ length ds + 1
 longer ds d = length-append ds (d ∷ [])
 
 are_long : (n : ℕ) → n < 2 ^ 64 → IsLong n (decimal n)
@@ -52,7 +52,7 @@ digits_least n h =
 
 -- ---- CUP
 
-length-place_cursor : (r c : ℕ) → length (spelling_of (place_cursor r c)) ≡ 4 + length (decimal r) + length (decimal c)
+pub length-place_cursor : (r c : ℕ) → length (spelling_of (place_cursor r c)) ≡ 4 + length (decimal r) + length (decimal c)
 length-place_cursor r c =
     let a = length-append (decimal r ++ 0x3B ∷ decimal c) (0x48 ∷ []) in
     let b = length-append (decimal r) (0x3B ∷ decimal c) in
@@ -67,18 +67,18 @@ move_least r c p q =
 -- ---- SGR
 
 -- parameters behind the first
-abbrev tail : List ℕ → ℕ
+abbrev pub tail : List ℕ → ℕ
 tail ps = length (flat_map (code_text true) ps)
 
 -- a sequence of these parameters
-length-rendition : (p : ℕ) (ps : List ℕ) → length (spelling_of (csi None (p ∷ ps) 0x6D)) ≡ 3 + length (decimal p) + tail ps
+pub length-rendition : (p : ℕ) (ps : List ℕ) → length (spelling_of (csi None (p ∷ ps) 0x6D)) ≡ 3 + length (decimal p) + tail ps
 length-rendition p ps =
     let a = length-append (parameter_text (p ∷ ps)) (0x6D ∷ []) in
     let b = ap length (joined-tail p ps) in
     let c = length-append (decimal p) (flat_map (code_text true) ps) in
     omega (arith, a, b, c)
 
-code_least : (code : ℕ) → code < 10000 → 2 ≤ length (code_text true code)
+pub code_least : (code : ℕ) → code < 10000 → 2 ≤ length (code_text true code)
 code_least code h = let one = (are_long code (omega (arith, h))).one in omega (arith, one)
 
 flag_more : (b : Bool) (n : ℕ) (rest : List ℕ) → n < 10000 → flag_size b + tail rest ≤ tail (flag_code b n rest)

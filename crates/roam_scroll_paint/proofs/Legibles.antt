@@ -18,7 +18,7 @@ use Rattle.roam_paint.proofs.Readings.{AreSmall, IsFinal, legible-plain, legible
 use Rattle.roam_paint.proofs.Walk.{AreScalars, IsPaintable}
 use Rattle.roam_scroll_paint.specs.declared.bands.Band.{Band}
 use Rattle.roam_scroll_paint.specs.Bands.{IsBand, FitsBand, set_margins, reset_margins, to_row, line_feed, reverse_index, steps, moves_band, preparing}
-use Rattle.roam_scroll_paint.specs.Rows.{Marks, is_marked, placing_at, written_cell, written_row, erase_line, ends_at, erasing_from, row_functions, AreDrawn, nothing, stays, written}
+use Rattle.roam_scroll_paint.specs.Rows.{Marks, is_marked, placing_at, written_cell, written_row, doubt_in, erase_line, ends_at, erasing_from, row_functions, AreDrawn, nothing, stays, written}
 use Rattle.roam_scroll_paint.specs.Styles.{flag_added, colour_words, change_codes, adds, changing, styled_from}
 use Rattle.roam_scroll_paint.proofs.Changes.{adds-few}
 use Rattle.roam_scroll_paint.specs.Painting.{hiding, revealing}
@@ -235,33 +235,33 @@ plain-preparing rows false band few h = (plain-erase_all, tt)
 
 module _ (prows pcols : ℕ) (over new : Places) (tall : prows < 9999) (broad : pcols < 9999)
     (paintable : (r c : ℕ) → r < prows → c < pcols → IsPaintable (new r c)) where
-  plain-cell : (d : ℕ → ℕ → Bool) (r c : ℕ) (g : Style) → r < prows → c < pcols → ArePlain (written_cell d new r c g)
+  plain-cell : (d : ℕ → ℕ → Bool) (r c : ℕ) (g : Style) (b : Bool) → r < prows → c < pcols → ArePlain (written_cell d new r c g b)
   unfolding written_cell
-  plain-cell d r c g p q =
+  plain-cell d r c g b p q =
       let cell = paintable r c p q in
-      let at = if goes_on d r c then [] else placing_at r c ∷ [] in
+      let at = if (goes_on d r c && not b) then [] else placing_at r c ∷ [] in
       let sty = styled_from g (new r c).style in
       let chars = map Print (new r c).points in
       plain-if (is_drawn d new r c) (at ++ (sty ++ chars))
       (plain-append at (sty ++ chars)
-      (plain-unless (goes_on d r c) (placing_at r c ∷ []) (plain-placing_at r c (omega (arith, p, tall)) (omega (arith, q, broad)), tt))
+      (plain-unless (goes_on d r c && not b) (placing_at r c ∷ []) (plain-placing_at r c (omega (arith, p, tall)) (omega (arith, q, broad)), tt))
       (plain-append sty chars (plain-styled g (new r c).style cell.foreground cell.background) (plain-points (new r c).points cell.text cell.scalars)))
 
   plain-row : (d : ℕ → ℕ → Bool) (r k : ℕ) (g : Style) → r < prows → k ≤ pcols → ArePlain (written_row d new r g k)
   unfolding written_row
   plain-row d r zero g p q = tt
   plain-row d r (suc k) g p q =
-      plain-append (written_row d new r g k) (written_cell d new r k (style_in d new r g k)) (plain-row d r k g p (omega (arith, q)))
-      (plain-cell d r k (style_in d new r g k) p (omega (arith, q)))
+      plain-append (written_row d new r g k) (written_cell d new r k (style_in d new r g k) (doubt_in d new r k)) (plain-row d r k g p (omega (arith, q)))
+      (plain-cell d r k (style_in d new r g k) (doubt_in d new r k) p (omega (arith, q)))
 
-  plain-end : (d : ℕ → ℕ → Bool) (r end : ℕ) (g : Style) → r < prows → end ≤ pcols → ArePlain (erasing_from d r end pcols g)
+  plain-end : (d : ℕ → ℕ → Bool) (r end : ℕ) (g : Style) (b : Bool) → r < prows → end ≤ pcols → ArePlain (erasing_from d r end pcols g b)
   unfolding erasing_from
-  plain-end d r end g p q =
-      let at = if ends_at d r end then [] else placing_at r end ∷ [] in
+  plain-end d r end g b p q =
+      let at = if (ends_at d r end && not b) then [] else placing_at r end ∷ [] in
       let sty = styled_from g default_style in
       plain-if (nat_lt end pcols) (at ++ (sty ++ erase_line ∷ []))
       (plain-append at (sty ++ erase_line ∷ [])
-      (plain-unless (ends_at d r end) (placing_at r end ∷ []) (plain-placing_at r end (omega (arith, p, tall)) (omega (arith, q, broad)), tt))
+      (plain-unless (ends_at d r end && not b) (placing_at r end ∷ []) (plain-placing_at r end (omega (arith, p, tall)) (omega (arith, q, broad)), tt))
       (plain-append sty (erase_line ∷ []) (plain-styled g default_style tt tt) (plain read-erase_line blind-erase_line, tt)))
 
   plain-whole_row : (marks : Marks) (r end : ℕ) (g : Style) → r < prows → end ≤ pcols → ArePlain (row_functions marks new pcols r end g)
@@ -269,7 +269,8 @@ module _ (prows pcols : ℕ) (over new : Places) (tall : prows < 9999) (broad : 
   plain-whole_row marks r end g p q =
       let d = is_marked marks in
       let s = style_in d new r g end in
-      plain-append (written_row d new r g end) (erasing_from d r end pcols s) (plain-row d r end g p q) (plain-end d r end s p q)
+      let b = doubt_in d new r end in
+      plain-append (written_row d new r g end) (erasing_from d r end pcols s b) (plain-row d r end g p q) (plain-end d r end s b p q)
 
   pub plain-rows : {n : ℕ} {g : Style} {fs : List Function} → AreDrawn over new pcols n g fs → n ≤ prows → ArePlain fs
   plain-rows nothing n_in = tt

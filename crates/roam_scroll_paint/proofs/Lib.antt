@@ -16,3 +16,7 @@ pub mod Settled
 pub mod Worked
 pub mod Counts
 pub mod Lengths
+pub mod Steady
+pub mod Briefer
+pub mod Shortly
+pub mod Placing

@@ -201,7 +201,7 @@ module _ (log : List Item) (fs : List Function) (rest : AtRest log) (read : AreR
       ∙ sym (append_assoc (functions (signs log)) fs (functions more))
 
   -- the text of functions is read as those functions
-  reads : functions_of later ≡ functions_of log ++ fs
+  pub reads : functions_of later ≡ functions_of log ++ fs
   reads =
       ap functions (sym (append-nil (signs later))) ∙ after_all [] ∙ ap (λ l. (functions (signs log) ++ fs) ++ l) functions-nil ∙ append-nil (functions (signs log) ++ fs)
 

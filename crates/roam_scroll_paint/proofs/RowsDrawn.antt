@@ -1,7 +1,7 @@
 -- One row after another is drawn.
 use Rattle.std.proofs.Common.{◌≡◌, ◌≤◌, ◌<◌, ℕ, zero, suc, ◌+◌, ◌-◌, Bool, true, false, not, ◌&&◌, ◌||◌, inl, inr, List, [], ◌∷◌, ◌++◌, map, Option, None, refl, sym, ap, ◌∙◌, subst, arith}
 use Rattle.std.specs.Prelude.{if◌then◌else◌, nat_lt, ◌==◌}
-use Rattle.std.proofs.lemmas.Bool.{cases_eq, cases_lt, and_parts, ltb-true, eq-eqb, ne_eqb, ltb-false, not-false}
+use Rattle.std.proofs.lemmas.Bool.{false≢true, cases_eq, cases_lt, and_parts, ltb-true, eq-eqb, ne_eqb, ltb-false, not-false}
 use Rattle.roam_cells.specs.Glyph.{Glyph, is_wide, is_right_half, blank, default_style}
 use Rattle.roam_cells.specs.Place.{cell_at}
 use Rattle.roam_cells.specs.Same.{same, same_style}
@@ -14,10 +14,10 @@ use Rattle.roam_text.specs.declared.functions.Function.TheVariants.{Print}
 use Rattle.roam_term.specs.Terminal.{Live, changed_by}
 use Rattle.roam_term.specs.ControlFunctions.{place_cursor}
 use Rattle.roam_term.proofs.Steps.{acted, acted-append, Constants, at_work, goes}
-use Rattle.roam_paint.specs.Painting.{Places, is_drawn, goes_on, placing, styling, drawn_cell, style_after, style_in, drawn_row}
-use Rattle.roam_paint.proofs.Walk.{IsPaintable, Walked, row}
+use Rattle.roam_paint.specs.Painting.{Places, is_drawn, goes_on, placing, styling, drawn_cell, style_after, style_in}
+use Rattle.roam_paint.proofs.Walk.{IsPaintable, Walked, step_by}
 use Rattle.roam_scroll_paint.specs.Bands.{to_row}
-use Rattle.roam_scroll_paint.specs.Rows.{Marks, is_marked, placing_at, placed_in, written_cell, written_row, erase_line, ends_at, erasing_from, style_left, row_functions, row_style_left, IsPlan, AreDrawn, nothing, stays, written}
+use Rattle.roam_scroll_paint.specs.Rows.{Marks, is_marked, placing_at, written_cell, written_row, doubt_in, erase_line, ends_at, erasing_from, style_left, row_functions, row_style_left, IsPlan, AreDrawn, nothing, stays, written}
 use Rattle.roam_scroll_paint.specs.Styles.{styled_from}
 use Rattle.roam_scroll_paint.proofs.Wholes.{IsWhole}
 use Rattle.roam_scroll_paint.proofs.Erasing.{erases_line, keeps_other_row, keeps_left, blanks_right}
@@ -115,12 +115,6 @@ module _ (still : Constants) (prows pcols : ℕ) (over new : Places) (rows_in : 
       middle = λ q h e. let low = (whole.half r 0 h).0 in absurd (omega (arith, low));
     }
 
-    abbrev drawn_to : ℕ → Live
-    drawn_to k = acted (drawn_row d new r g k) t
-
-    walked : (k : ℕ) → k ≤ pcols → W k (style_in d new r g k) (drawn_to k)
-    walked k k_in = row still prows pcols d new rows_in cols_in whole.wide whole.half paintable r k g t r_in k_in begins
-
     -- ---- the text is that of a painter which leaves nothing out
 
     drawn_same : (c : ℕ) → is_drawn m new r c ≡ is_drawn d new r c
@@ -160,47 +154,99 @@ module _ (still : Constants) (prows pcols : ℕ) (over new : Places) (rows_in : 
         ∙ sym (styling_is still w.cells w.row w.col w.pending false (new r k).style s w.last x.foreground x.background)
         ∙ ap (acted (styling (new r k).style s)) (sym w.is)
 
-    written_is : (b : Bool) (k : ℕ) (s : Style) (u : Live) → k < pcols → Works s u
-        → acted (if b then placed_in m r k ++ (styled_from s (new r k).style ++ map Print (new r k).points) else []) u
-        ≡ acted (if b then placing d r k ++ (styling (new r k).style s ++ map Print (new r k).points) else []) u
-    written_is false k s u k_in w = refl
-    written_is true k s u k_in w =
+    -- a cell at the cursor's place, or behind CUP
+    abbrev text : ℕ → Style → Bool → Bool → List Function
+    text k s drawn on = if drawn then (if on then [] else placing_at r k ∷ []) ++ (styled_from s (new r k).style ++ map Print (new r k).points) else []
+
+    written_is : (drawn on : Bool) (k : ℕ) (s : Style) (u : Live) → k < pcols → Works s u → goes_on d r k ≡ on
+        → acted (text k s drawn on) u
+        ≡ acted (if drawn then placing d r k ++ (styling (new r k).style s ++ map Print (new r k).points) else []) u
+    written_is false on k s u k_in w e = refl
+    written_is true on k s u k_in w e =
         let x = (new r k).style in
         let chars = map Print (new r k).points in
         let there = acted (placing d r k) u in
-        acted-append (placed_in m r k) (styled_from s x ++ chars) u
-        ∙ ap (λ b. acted (styled_from s x ++ chars) (acted (if b then [] else placing_at r k ∷ []) u)) (goes_same k)
+        acted-append (if on then [] else placing_at r k ∷ []) (styled_from s x ++ chars) u
+        ∙ ap (λ b. acted (styled_from s x ++ chars) (acted (if b then [] else placing_at r k ∷ []) u)) (sym e)
         ∙ ap (acted (styled_from s x ++ chars)) (placed_is (goes_on d r k) r k u)
         ∙ acted-append (styled_from s x) chars there
         ∙ ap (acted chars) (styled_same k s there k_in (placed_works (goes_on d r k) k s u k_in w))
         ∙ sym (acted-append (styling x s) chars there)
         ∙ sym (acted-append (placing d r k) (styling x s ++ chars) u)
 
-    cell_same : (k : ℕ) (s : Style) (u : Live) → k < pcols → Works s u → acted (written_cell m new r k s) u ≡ acted (drawn_cell d new r k s) u
-    unfolding written_cell drawn_cell
-    cell_same k s u k_in w =
-        ap (λ b. acted (if b then placed_in m r k ++ (styled_from s (new r k).style ++ map Print (new r k).points) else []) u) (drawn_same k)
-        ∙ written_is (is_drawn d new r k) k s u k_in w
+    -- a cell is written that is placed as a painter places it which leaves nothing out
+    certain : (drawn on : Bool) (k : ℕ) (s : Style) (u : Live) → k < pcols → W k s u → is_drawn d new r k ≡ drawn → goes_on d r k ≡ on
+        → W (k + 1) (style_after d new r k s) (acted (text k s drawn on) u)
+    unfolding drawn_cell
+    certain drawn on k s u k_in w e f =
+        let works : Works s u = record { cells = w.cells; row = w.row; col = w.col; pending = w.pending; last = w.last; is = w.is } in
+        let plain : Bool → List Function = λ b. if b then placing d r k ++ (styling (new r k).style s ++ map Print (new r k).points) else [] in
+        subst (W (k + 1) (style_after d new r k s)) (ap (λ b. acted (plain b) u) e ∙ sym (written_is drawn on k s u k_in works f))
+        (step_by still prows pcols d new rows_in cols_in whole.wide whole.half paintable r k s u r_in k_in w (is_drawn d new r k) refl)
 
-    row_same : (k : ℕ) → k ≤ pcols → acted (written_row m new r g k) t ≡ drawn_to k
+    -- the cursor goes to the column where it is
+    again : (k : ℕ) (s : Style) (u : Live) → k < pcols → is_right_half (new r k) ≡ false → W k s u → W k s (changed_by (placing_at r k) u)
+    again k s u k_in some w = record {
+      cells = w.cells;
+      row = r + 1 - 1;
+      col = k + 1 - 1;
+      pending = false;
+      last = None;
+      is =
+          placing_is r k u ∙ ap (changed_by (place_cursor (r + 1) (k + 1))) w.is
+          ∙ goes still w.cells w.row w.col w.pending s false w.last (r + 1) (k + 1) (omega arith) (omega (arith, r_in, rows_in)) (omega arith) (omega (arith, k_in, cols_in));
+      shown = w.shown;
+      stands = λ p q e h. (omega arith, omega arith, refl);
+      middle = λ q h e. absurd (false≢true (sym some ∙ h));
+    }
+
+    not_half : (h b : Bool) → (not h && b) ≡ true → h ≡ false
+    not_half true b e = absurd (false≢true e)
+    not_half false b e = refl
+
+    -- and one that may be placed where the row goes on
+    doubted : (drawn goes b : Bool) (k : ℕ) (s : Style) (u : Live) → k < pcols → W k s u → is_drawn d new r k ≡ drawn → goes_on d r k ≡ goes
+        → W (k + 1) (style_after d new r k s) (acted (text k s drawn (goes && not b)) u)
+    doubted drawn false b k s u k_in w e f = certain drawn false k s u k_in w e f
+    doubted drawn true false k s u k_in w e f = certain drawn true k s u k_in w e f
+    doubted false true true k s u k_in w e f = certain false true k s u k_in w e f
+    doubted true true true k s u k_in w e f =
+        certain true true k s (changed_by (placing_at r k) u) k_in
+        (again k s u k_in (not_half (is_right_half (new r k)) (d r k || (is_wide (new r k) && d r (k + 1))) e) w) e f
+
+    cell_walked : (b : Bool) (k : ℕ) (s : Style) (u : Live) → k < pcols → W k s u → W (k + 1) (style_after d new r k s) (acted (written_cell m new r k s b) u)
+    unfolding written_cell
+    cell_walked b k s u k_in w =
+        subst (W (k + 1) (style_after d new r k s)) (ap (λ x. acted (text k s x (goes_on d r k && not b)) u) (sym (drawn_same k))
+        ∙ ap (λ x. acted (text k s (is_drawn m new r k) (x && not b)) u) (sym (goes_same k)))
+        (doubted (is_drawn d new r k) (goes_on d r k) b k s u k_in w refl refl)
+
+    abbrev written_to : ℕ → Live
+    written_to k = acted (written_row m new r g k) t
+
+    walked : (k : ℕ) → k ≤ pcols → W k (style_in d new r g k) (written_to k)
     unfolding written_row
-    row_same zero k_in = refl
-    row_same (suc k) k_in =
+    walked zero k_in = begins
+    walked (suc k) k_in =
+        let one : k + 1 ≡ suc k = omega arith in
         let s = style_in d new r g k in
-        let w = walked k (omega (arith, k_in)) in
-        acted-append (written_row m new r g k) (written_cell m new r k (style_in m new r g k)) t
-        ∙ ap (acted (written_cell m new r k (style_in m new r g k))) (row_same k (omega (arith, k_in)))
-        ∙ ap (λ x. acted (written_cell m new r k x) (drawn_to k)) (styles_same k)
-        ∙ cell_same k s (drawn_to k) (omega (arith, k_in))
-        (record { cells = w.cells; row = w.row; col = w.col; pending = w.pending; last = w.last; is = w.is })
-        ∙ sym (acted-append (drawn_row d new r g k) (drawn_cell d new r k s) t)
+        let b = doubt_in m new r k in
+        let is : written_to (suc k) ≡ acted (written_cell m new r k s b) (written_to k) =
+        acted-append (written_row m new r g k) (written_cell m new r k (style_in m new r g k) b) t
+        ∙ ap (λ x. acted (written_cell m new r k x b) (written_to k)) (styles_same k) in
+        subst (W (suc k) (style_after d new r k s)) (sym is)
+        (subst (λ n. W n (style_after d new r k s) (acted (written_cell m new r k s b) (written_to k))) one
+        (cell_walked b k s (written_to k) (omega (arith, k_in)) (walked k (omega (arith, k_in)))))
 
     -- ---- the end of the row
 
     abbrev style : Style
     style = style_in d new r g end
 
-    wrote : W end style (drawn_to end)
+    abbrev doubt : Bool
+    doubt = doubt_in m new r end
+
+    wrote : W end style (written_to end)
     wrote = walked end plan.inside
 
     -- every place of the row has the right cell, and the others stay
@@ -214,7 +260,7 @@ module _ (still : Constants) (prows pcols : ℕ) (over new : Places) (rows_in : 
     alike i j n e = d_there i j n ∙ ap (λ x. not (same x (new i j))) e ∙ ap not (glyph_again (new i j))
 
     -- nothing is erased
-    whole_row : end ≡ pcols → Finished style (drawn_to end)
+    whole_row : end ≡ pcols → Finished style (written_to end)
     whole_row full = record {
       works = record { cells = wrote.cells; row = wrote.row; col = wrote.col; pending = wrote.pending; last = wrote.last; is = wrote.is };
       here = λ j q. elim (cases_lt j end) [
@@ -233,9 +279,9 @@ module _ (still : Constants) (prows pcols : ℕ) (over new : Places) (rows_in : 
       ready_to s last = at_work still wrote.cells r end false s false last
 
       -- the cursor is at the column from which the row is erased
-      stands_there : (b : Bool) → ends_at m r end ≡ b → (last : Option ℕ) × (acted (if b then [] else placing_at r end ∷ []) (drawn_to end) ≡ ready_to style last)
+      stands_there : (b : Bool) → (ends_at m r end && not doubt) ≡ b → (last : Option ℕ) × (acted (if b then [] else placing_at r end ∷ []) (written_to end) ≡ ready_to style last)
       stands_there true e =
-          let parts = and_parts (nat_lt 0 end) (m r (end - 1)) e in
+          let parts = and_parts (nat_lt 0 end) (m r (end - 1)) (and_parts (ends_at m r end) (not doubt) e).0 in
           let at = wrote.stands (ltb-true 0 end parts.0) (omega (arith, less, cols_in)) (d_here (end - 1) ∙ parts.1) (ap is_right_half end_blank) in (
             wrote.last,
             wrote.is ∙ ap (λ a. at_work still wrote.cells a wrote.col wrote.pending style false wrote.last) at.0
@@ -246,7 +292,7 @@ module _ (still : Constants) (prows pcols : ℕ) (over new : Places) (rows_in : 
           let row_back : r + 1 - 1 ≡ r = omega arith in
           let col_back : end + 1 - 1 ≡ end = omega arith in (
             None,
-            placing_is r end (drawn_to end) ∙ ap (changed_by (place_cursor (r + 1) (end + 1))) wrote.is
+            placing_is r end (written_to end) ∙ ap (changed_by (place_cursor (r + 1) (end + 1))) wrote.is
                 ∙ goes still wrote.cells wrote.row wrote.col wrote.pending style false wrote.last (r + 1) (end + 1) (omega arith) (omega (arith, r_in, rows_in)) (omega arith) (omega (arith, less, cols_in))
                 ∙ ap (λ a. at_work still wrote.cells a (end + 1 - 1) false style false None) row_back ∙ ap (λ a. at_work still wrote.cells r a false style false None) col_back,
           )
@@ -255,20 +301,20 @@ module _ (still : Constants) (prows pcols : ℕ) (over new : Places) (rows_in : 
       cells_left = mapped_cells rows cols wrote.cells (in_row r (erasure_source end cols))
 
       abbrev erasing : List Function
-      erasing = (if ends_at m r end then [] else placing_at r end ∷ []) ++ (styled_from style default_style ++ erase_line ∷ [])
+      erasing = (if (ends_at m r end && not doubt) then [] else placing_at r end ∷ []) ++ (styled_from style default_style ++ erase_line ∷ [])
 
-      erased_is : acted erasing (drawn_to end) ≡ at_work still cells_left r end false default_style false None
+      erased_is : acted erasing (written_to end) ≡ at_work still cells_left r end false default_style false None
       erased_is =
-          let to = if ends_at m r end then [] else placing_at r end ∷ [] in
-          let stood = stands_there (ends_at m r end) refl in
+          let to = if (ends_at m r end && not doubt) then [] else placing_at r end ∷ [] in
+          let stood = stands_there (ends_at m r end && not doubt) refl in
           let k = if same_style default_style style then stood.0 else None in
-          acted-append to (styled_from style default_style ++ erase_line ∷ []) (drawn_to end)
+          acted-append to (styled_from style default_style ++ erase_line ∷ []) (written_to end)
           ∙ ap (acted (styled_from style default_style ++ erase_line ∷ [])) stood.1
           ∙ acted-append (styled_from style default_style) (erase_line ∷ []) (ready_to style stood.0)
           ∙ ap (changed_by erase_line) (styled_is still wrote.cells r end false false default_style style stood.0 tt tt)
           ∙ erases_line still wrote.cells r end false default_style false k
 
-      row_erased : Finished default_style (acted erasing (drawn_to end))
+      row_erased : Finished default_style (acted erasing (written_to end))
       row_erased = record {
         works = record { cells = cells_left; row = r; col = end; pending = false; last = None; is = erased_is };
         here = λ j q. elim (cases_lt j end) [
@@ -285,7 +331,7 @@ module _ (still : Constants) (prows pcols : ℕ) (over new : Places) (rows_in : 
 
     finished : (b : Bool) → nat_lt end pcols ≡ b
         → Finished (if b then default_style else style)
-        (acted (if b then (if ends_at m r end then [] else placing_at r end ∷ []) ++ (styled_from style default_style ++ erase_line ∷ []) else []) (drawn_to end))
+        (acted (if b then (if (ends_at m r end && not doubt) then [] else placing_at r end ∷ []) ++ (styled_from style default_style ++ erase_line ∷ []) else []) (written_to end))
     finished true e = row_erased (ltb-true end pcols e)
     finished false e = let inside = plan.inside in whole_row (omega (arith, ltb-false end pcols e, inside))
 
@@ -295,12 +341,11 @@ module _ (still : Constants) (prows pcols : ℕ) (over new : Places) (rows_in : 
     unfolding row_functions row_style_left erasing_from style_left
     row_done =
         let own = style_in m new r g end in
-        let ending : Style → List Function = λ s. if nat_lt end pcols then (if ends_at m r end then [] else placing_at r end ∷ []) ++ (styled_from s default_style ++ erase_line ∷ []) else [] in
-        let is : acted (written_row m new r g end ++ ending own) t ≡ acted (ending style) (drawn_to end) =
-        acted-append (written_row m new r g end) (ending own) t ∙ ap (acted (ending own)) (row_same end plan.inside)
-        ∙ ap (λ s. acted (ending s) (drawn_to end)) (styles_same end) in
+        let ending : Style → List Function = λ s. if nat_lt end pcols then (if (ends_at m r end && not doubt) then [] else placing_at r end ∷ []) ++ (styled_from s default_style ++ erase_line ∷ []) else [] in
+        let is : acted (written_row m new r g end ++ ending own) t ≡ acted (ending style) (written_to end) =
+        acted-append (written_row m new r g end) (ending own) t ∙ ap (λ s. acted (ending s) (written_to end)) (styles_same end) in
         subst (λ u. Finished (if nat_lt end pcols then default_style else own) u) (sym is)
-        (subst (λ s. Finished (if nat_lt end pcols then default_style else s) (acted (ending style) (drawn_to end))) (sym (styles_same end))
+        (subst (λ s. Finished (if nat_lt end pcols then default_style else s) (acted (ending style) (written_to end))) (sym (styles_same end))
         (finished (nat_lt end pcols) refl))
 
     pub next_ready : Ready (suc r) (row_style_left marks new pcols r end g) (acted (row_functions marks new pcols r end g) t)

@@ -70,11 +70,11 @@ rendition_text t (p ∷ ps) some =
 
 -- ---- functions without a number
 
-hide-bytes : flat_map text_of (hiding true) ≡ 0x1B ∷ 0x5B ∷ 0x3F ∷ 0x32 ∷ 0x35 ∷ 0x6C ∷ []
+pub hide-bytes : flat_map text_of (hiding true) ≡ 0x1B ∷ 0x5B ∷ 0x3F ∷ 0x32 ∷ 0x35 ∷ 0x6C ∷ []
 unfolding digits
 hide-bytes = refl
 
-show-bytes : (visible : Bool) → flat_map text_of (revealing true visible) ≡ (if visible then 0x1B ∷ 0x5B ∷ 0x3F ∷ 0x32 ∷ 0x35 ∷ 0x68 ∷ [] else [])
+pub show-bytes : (visible : Bool) → flat_map text_of (revealing true visible) ≡ (if visible then 0x1B ∷ 0x5B ∷ 0x3F ∷ 0x32 ∷ 0x35 ∷ 0x68 ∷ [] else [])
 unfolding digits
 show-bytes true = refl
 show-bytes false = refl

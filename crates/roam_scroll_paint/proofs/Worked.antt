@@ -8,13 +8,16 @@ use Rattle.roam_cells.specs.Glyph.{Glyph, blank, default_style}
 use Rattle.roam_cells.specs.declared.styles.Style.{Style}
 use Rattle.roam_cells.specs.declared.styles.Colour.TheVariants.{Index, Rgb}
 use Rattle.roam_screens.specs.Screenshot.{Screenshot}
+use Rattle.roam_text.specs.declared.functions.Function.TheVariants.{Print}
+use Rattle.roam_term.specs.ControlFunctions.{csi, place_cursor}
 use Rattle.roam_term.specs.Ground.{shown_at}
 use Rattle.roam_paint.specs.Painting.{style_after}
 use Rattle.roam_scroll_paint.specs.declared.bands.Band.{Band}
 use Rattle.roam_scroll_paint.specs.Bands.{moved_source, moves_band}
+use Rattle.roam_scroll_paint.specs.Doubts.{is_doubtful_text, is_placed_first}
 use Rattle.roam_scroll_paint.specs.Sequences.{text_of}
 use Rattle.roam_scroll_paint.specs.Styles.{change_codes, adds, styled_from}
-use Rattle.roam_scroll_paint.specs.Rows.{written_cell, written_row, erasing_from, row_functions}
+use Rattle.roam_scroll_paint.specs.Rows.{written_cell, written_row, doubt_after, doubt_in, erase_line, erasing_from, row_functions}
 use Rattle.roam_scroll_paint.specs.Painting.{settling}
 
 -- ---- bands
@@ -117,20 +120,68 @@ abc = screen (cell 0x61 default_style ∷ cell 0x62 default_style ∷ cell 0x63 
 -- a and c are marked: ESC[1Ha ESC[1;3Hc
 row-two_runs : flat_map text_of (row_functions (true ∷ false ∷ true ∷ []) (shown_at abc) 8 0 8 default_style)
     ≡ 0x1B ∷ 0x5B ∷ 0x31 ∷ 0x48 ∷ 0x61 ∷ 0x1B ∷ 0x5B ∷ 0x31 ∷ 0x3B ∷ 0x33 ∷ 0x48 ∷ 0x63 ∷ []
-unfolding row_functions written_row written_cell erasing_from style_after change_codes adds char_width digits encode_utf8
+unfolding row_functions written_row written_cell erasing_from style_after doubt_in doubt_after is_doubtful_text change_codes adds char_width digits encode_utf8
 row-two_runs = refl
 
 -- the gap between them too, and the end is erased at the cursor: ESC[1Habc ESC[K
 row-gap : flat_map text_of (row_functions (true ∷ true ∷ true ∷ []) (shown_at abc) 8 0 3 default_style)
     ≡ 0x1B ∷ 0x5B ∷ 0x31 ∷ 0x48 ∷ 0x61 ∷ 0x62 ∷ 0x63 ∷ 0x1B ∷ 0x5B ∷ 0x4B ∷ []
-unfolding row_functions written_row written_cell erasing_from style_after change_codes adds char_width digits encode_utf8
+unfolding row_functions written_row written_cell erasing_from style_after doubt_in doubt_after is_doubtful_text change_codes adds char_width digits encode_utf8
 row-gap = refl
 
 -- the end alone is erased, in the default style: ESC[1;4H ESC[0m ESC[K
 row-end : flat_map text_of (row_functions [] (shown_at abc) 8 0 3 bold)
     ≡ 0x1B ∷ 0x5B ∷ 0x31 ∷ 0x3B ∷ 0x34 ∷ 0x48 ∷ 0x1B ∷ 0x5B ∷ 0x30 ∷ 0x6D ∷ 0x1B ∷ 0x5B ∷ 0x4B ∷ []
-unfolding row_functions written_row written_cell erasing_from style_after change_codes adds char_width digits encode_utf8
+unfolding row_functions written_row written_cell erasing_from style_after doubt_in doubt_after is_doubtful_text change_codes adds char_width digits encode_utf8
 row-end = refl
+
+-- ---- cells whose width terminals disagree on
+
+abbrev accented : Screenshot
+accented = screen (record { points = 0x65 ∷ 0x301 ∷ []; style = default_style; guarded = false } ∷ cell 0x66 default_style ∷ replicate 14 blank)
+
+row-joined : is_doubtful_text (0x65 ∷ 0x301 ∷ []) ≡ true
+unfolding is_doubtful_text
+row-joined = refl
+
+row-modifier : is_doubtful_text (0x1F3FD ∷ []) ≡ true
+unfolding is_doubtful_text
+row-modifier = refl
+
+row-regional : is_doubtful_text (0x1F1E9 ∷ []) ≡ true
+unfolding is_doubtful_text
+row-regional = refl
+
+row-letter : is_doubtful_text (0x65 ∷ []) ≡ false
+unfolding is_doubtful_text
+row-letter = refl
+
+-- behind e with an accent CUP comes: ESC[1He ESC[1;2Hf
+row-accent : flat_map text_of (row_functions (true ∷ true ∷ []) (shown_at accented) 8 0 8 default_style)
+    ≡ 0x1B ∷ 0x5B ∷ 0x31 ∷ 0x48 ∷ 0x65 ∷ 0xCC ∷ 0x81 ∷ 0x1B ∷ 0x5B ∷ 0x31 ∷ 0x3B ∷ 0x32 ∷ 0x48 ∷ 0x66 ∷ []
+unfolding row_functions written_row written_cell erasing_from style_after doubt_in doubt_after is_doubtful_text change_codes adds char_width digits encode_utf8
+row-accent = refl
+
+-- and before the end of the row is erased: ESC[1He ESC[1;2H ESC[K
+row-accent_end : flat_map text_of (row_functions (true ∷ []) (shown_at accented) 8 0 1 default_style)
+    ≡ 0x1B ∷ 0x5B ∷ 0x31 ∷ 0x48 ∷ 0x65 ∷ 0xCC ∷ 0x81 ∷ 0x1B ∷ 0x5B ∷ 0x31 ∷ 0x3B ∷ 0x32 ∷ 0x48 ∷ 0x1B ∷ 0x5B ∷ 0x4B ∷ []
+unfolding row_functions written_row written_cell erasing_from style_after doubt_in doubt_after is_doubtful_text change_codes adds char_width digits encode_utf8
+row-accent_end = refl
+
+-- SGR may come before CUP, a letter and EL may not
+row-light : is_placed_first (csi None (1 ∷ []) 0x6D ∷ place_cursor 1 2 ∷ Print 0x66 ∷ []) ≡ true
+unfolding is_placed_first
+row-light = refl
+
+row-no_letter : is_placed_first (Print 0x66 ∷ place_cursor 1 2 ∷ []) ≡ false
+unfolding is_placed_first char_width
+row-no_letter = refl
+
+row-no_erasure : is_placed_first (erase_line ∷ []) ≡ false
+unfolding is_placed_first
+row-no_erasure = refl
+
+-- ---- behind the rows
 
 -- behind the rows the default style, if another is set, and the cursor's place: ESC[0m ESC[1H
 row-settling : flat_map text_of (settling abc bold) ≡ 0x1B ∷ 0x5B ∷ 0x30 ∷ 0x6D ∷ 0x1B ∷ 0x5B ∷ 0x31 ∷ 0x48 ∷ []

@@ -1,11 +1,13 @@
 -- The meaning of: a text leads a terminal from one screen to another.
 use Rattle.std.specs.Prelude.{ℕ, ◌≤◌, List, ◌++◌, map, drop, length}
 use Rattle.roam_screens.specs.Screenshot.{Screenshot, IsScreenshot}
+use Rattle.roam_text.specs.Functions.{functions_of}
 use Rattle.roam_text.specs.Log.{Item, Byte}
 use Rattle.roam_term.specs.Ground.{IsSized}
 use Rattle.roam_term.specs.Terminal.{term}
 use Rattle.roam_paint.specs.Ground.{Displays}
 use Rattle.roam_paint.specs.Painting.{text_between}
+use Rattle.roam_scroll_paint.specs.Doubts.{ArePlacedBehind}
 use Rattle.roam_scroll_paint.specs.Painting.{IsPaintingText}
 
 -- after the text a ground terminal, as large as before, shows a screen
@@ -31,6 +33,12 @@ abbrev pub PaintingLeads : Type 0
 PaintingLeads =
     (old new : Screenshot) (text : List ℕ) → IsScreenshot old → IsScreenshot new → IsPaintingText old new text → Leads old new text
 
--- so does the text that writes each place which differs
+-- and its reader finds CUP behind each code point after which terminals disagree on the cursor's column
+abbrev pub PaintingPlaces : Type 0
+PaintingPlaces =
+    (old new : Screenshot) (text : List ℕ) → IsScreenshot new → IsPaintingText old new text
+    → ArePlacedBehind (functions_of (map Byte text))
+
+-- the text that writes each place which differs leads, too
 abbrev pub PaintLeads : Type 0
 PaintLeads = (old new : Screenshot) → IsScreenshot new → Leads old new (text_between old new)

@@ -1,7 +1,9 @@
 pub mod Bands
 pub mod Sequences
 pub mod Styles
+pub mod Doubts
 pub mod Rows
 pub mod Painting
 pub mod Leads
 pub mod Counting
+pub mod Short

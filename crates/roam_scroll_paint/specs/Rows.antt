@@ -1,5 +1,5 @@
 -- Rows are drawn one after another: the text of a row, and the erasure of its end.
-use Rattle.std.specs.Prelude.{◌≡◌, ℕ, zero, suc, ◌+◌, ◌-◌, ◌<◌, ◌≤◌, ◌==◌, ◌&&◌, nat_lt, Bool, true, false, if◌then◌else◌, List, [], ◌∷◌, ◌++◌, map, slice_index_or, None}
+use Rattle.std.specs.Prelude.{◌≡◌, ℕ, zero, suc, ◌+◌, ◌-◌, ◌<◌, ◌≤◌, ◌==◌, ◌&&◌, not, nat_lt, Bool, true, false, if◌then◌else◌, List, [], ◌∷◌, ◌++◌, map, slice_index_or, None}
 use Rattle.roam_cells.specs.Glyph.{blank, default_style}
 use Rattle.roam_cells.specs.Place.{row_of}
 use Rattle.roam_cells.specs.declared.styles.Style.{Style}
@@ -11,6 +11,7 @@ use Rattle.roam_paint.specs.Painting.{Places, same_size, is_drawn, goes_on, styl
 use Rattle.std.specs.List.{flat_map}
 use Rattle.roam_scroll_paint.specs.Sequences.{text_of}
 use Rattle.roam_scroll_paint.specs.Bands.{to_row}
+use Rattle.roam_scroll_paint.specs.Doubts.{is_doubtful}
 use Rattle.roam_scroll_paint.specs.Styles.{styled_from}
 
 -- the columns of a row that are written: those that are to show something else, and the gaps that are written through
@@ -24,19 +25,28 @@ is_marked marks r c = slice_index_or marks c false
 abbrev pub placing_at : ℕ → ℕ → Function
 placing_at r c = if c == 0 then to_row (r + 1) else place_cursor (r + 1) (c + 1)
 
--- the cursor goes to a column of a row, unless the text before ends there
-abbrev pub placed_in : (ℕ → ℕ → Bool) → ℕ → ℕ → List Function
-placed_in d r c = if goes_on d r c then [] else placing_at r c ∷ []
+-- whether terminals disagree on the width of the last cell that is drawn up to a place, by that before it
+unfoldable pub doubt_after : (ℕ → ℕ → Bool) → Places → ℕ → ℕ → Bool → Bool
+doubt_after d new r c b = if is_drawn d new r c then is_doubtful (new r c) else b
 
--- one place, with the style that is set before it
-unfoldable pub written_cell : (ℕ → ℕ → Bool) → Places → ℕ → ℕ → Style → List Function
-written_cell d new r c g =
-    if is_drawn d new r c then placed_in d r c ++ (styled_from g (new r c).style ++ map Print (new r c).points) else []
+-- and before a place of a row
+unfoldable pub doubt_in : (ℕ → ℕ → Bool) → Places → ℕ → ℕ → Bool
+doubt_in d new r zero = false
+doubt_in d new r (suc c) = doubt_after d new r c (doubt_in d new r c)
+
+-- the cursor goes to a column of a row, unless the text before ends there for every terminal
+abbrev pub placed_in : (ℕ → ℕ → Bool) → ℕ → ℕ → Bool → List Function
+placed_in d r c b = if (goes_on d r c && not b) then [] else placing_at r c ∷ []
+
+-- one place, with the style that is set before it, and whether terminals disagree on the width of the last cell
+unfoldable pub written_cell : (ℕ → ℕ → Bool) → Places → ℕ → ℕ → Style → Bool → List Function
+written_cell d new r c g b =
+    if is_drawn d new r c then placed_in d r c b ++ (styled_from g (new r c).style ++ map Print (new r c).points) else []
 
 -- the first places of a row
 unfoldable pub written_row : (ℕ → ℕ → Bool) → Places → ℕ → Style → ℕ → List Function
 written_row d new r g zero = []
-written_row d new r g (suc c) = written_row d new r g c ++ written_cell d new r c (style_in d new r g c)
+written_row d new r g (suc c) = written_row d new r g c ++ written_cell d new r c (style_in d new r g c) (doubt_in d new r c)
 
 -- all from the cursor's column on is erased (EL 0, ECMA-48 8.3.41)
 abbrev pub erase_line : Function
@@ -47,10 +57,10 @@ abbrev pub ends_at : (ℕ → ℕ → Bool) → ℕ → ℕ → Bool
 ends_at d r c = nat_lt 0 c && d r (c - 1)
 
 -- a row is erased from a column on, in the default style, if that is one of its columns
-unfoldable pub erasing_from : (ℕ → ℕ → Bool) → ℕ → ℕ → ℕ → Style → List Function
-erasing_from d r end cols g =
+unfoldable pub erasing_from : (ℕ → ℕ → Bool) → ℕ → ℕ → ℕ → Style → Bool → List Function
+erasing_from d r end cols g b =
     if nat_lt end cols
-    then (if ends_at d r end then [] else placing_at r end ∷ []) ++ (styled_from g default_style ++ erase_line ∷ [])
+    then (if (ends_at d r end && not b) then [] else placing_at r end ∷ []) ++ (styled_from g default_style ++ erase_line ∷ [])
     else []
 
 -- the style that is set afterwards
@@ -60,7 +70,8 @@ style_left end cols g = if nat_lt end cols then default_style else g
 -- a row: the text before a column, and the erasure from there on
 unfoldable pub row_functions : Marks → Places → ℕ → ℕ → ℕ → Style → List Function
 row_functions marks new cols r end g =
-    written_row (is_marked marks) new r g end ++ erasing_from (is_marked marks) r end cols (style_in (is_marked marks) new r g end)
+    written_row (is_marked marks) new r g end
+    ++ erasing_from (is_marked marks) r end cols (style_in (is_marked marks) new r g end) (doubt_in (is_marked marks) new r end)
 
 -- the style after it
 unfoldable pub row_style_left : Marks → Places → ℕ → ℕ → ℕ → Style → Style

@@ -1,18 +1,22 @@
 //! The columns of a row to write, and the beginning of its erased end: the columns that differ, and gaps that are shorter than a move.
-ghost use Rattle.std.specs.Prelude.{◌≡◌, ℕ, ◌+◌, ◌<◌, ◌≤◌, length, slice_index_or, true, false};
+ghost use Rattle.std.specs.Prelude.{◌≡◌, ℕ, ◌+◌, ◌<◌, ◌≤◌, length, slice_index_or, true, false, not};
 ghost use Rattle.std.specs.Char.{encode_utf8};
 ghost use Rattle.std.specs.List.{flat_map};
 ghost use Rattle.roam_scroll_paint.specs.Counting.{digits_of, move_size};
 ghost use Rattle.roam_cells.specs.Glyph.{blank};
 ghost use Rattle.roam_cells.specs.Place.{glyph_at};
+ghost use Rattle.roam_cells.specs.Same.{same};
 ghost use Rattle.roam_scroll_paint.specs.Rows.{KeepsMarks};
 
+use crate::doubts::is_doubtful;
 use roam_cells::Cell;
 
 /// The most columns of a gap that is written through.
 const WIDEST_GAP: usize = 8;
 /// The assumed cost of another style in a gap, in bytes.
 const STYLE_COST: usize = 6;
+/// The bytes of the longest CUP, ESC [ 200 ; 500 H.
+const PLACING_COST: usize = 10;
 
 /// Marks the columns in which two rows of one length differ, and no others.
 pub fn mark_differences(marks: &mut [bool], over: &[Cell], cells: &[Cell])
@@ -20,6 +24,8 @@ pub fn mark_differences(marks: &mut [bool], over: &[Cell], cells: &[Cell])
     requires same { length over.now ≡ length cells.now }
     ensures covers { (c : ℕ) → c < length cells.now → slice_index_or marks.new c false ≡ false
         → glyph_at over.now c ≡ glyph_at cells.now c }
+    ensures differences { (c : ℕ) → c < length cells.now → slice_index_or marks.new c false
+        ≡ not (same (glyph_at over.now c) (glyph_at cells.now c)) }
 {
     for col in 0..cells.len() {
         marks[col] = is_other(&over[col], &cells[col]);
@@ -28,6 +34,7 @@ pub fn mark_differences(marks: &mut [bool], over: &[Cell], cells: &[Cell])
 
 fn is_other(one: &Cell, other: &Cell) -> bool
     ensures same { result ≡ false → one.now ≡ other.now }
+    ensures other { result ≡ not (same one.now other.now) }
 {
     !one.is_same(other)
 }
@@ -59,7 +66,13 @@ fn style_cost(one: u64, other: u64) -> usize {
     if one == other { 0 } else { STYLE_COST }
 }
 
-// Returns the cost of the columns from one on and before another: their bytes, and the styles that only they need.
+// Returns the cost of what stands behind a cell: CUP if terminals disagree on its width.
+fn doubt_cost(cell: &Cell) -> usize {
+    if is_doubtful(cell) { PLACING_COST } else { 0 }
+}
+
+// Returns the cost of the columns from one on and before another: their bytes, the styles that only they need, and CUP behind doubtful
+// cells.
 fn gap_cost(cells: &[Cell], from: usize, to: usize) -> usize
     requires before { 0 < from }
     requires some { from < to }
@@ -68,10 +81,11 @@ fn gap_cost(cells: &[Cell], from: usize, to: usize) -> usize
     let mut style = cells[from - 1].style_number();
     let last = cells[to].style_number();
     let without = style_cost(style, last);
-    let mut cost = 0usize;
+    let mut cost = doubt_cost(&cells[from - 1]);
     for col in from..to {
         let next = cells[col].style_number();
         cost = cost.saturating_add(bytes_of(&cells[col]));
+        cost = cost.saturating_add(doubt_cost(&cells[col]));
         cost = cost.saturating_add(style_cost(style, next));
         style = next;
     }

@@ -7,14 +7,22 @@ ghost use Rattle.roam_term.specs.Ground.{shown_at};
 ghost use Rattle.roam_paint.specs.Painting.{is_drawn, goes_on, style_after, style_in};
 ghost use Rattle.roam_scroll_paint.specs.Sequences.{text_of};
 ghost use Rattle.roam_scroll_paint.specs.Styles.{styled_from};
-ghost use Rattle.roam_scroll_paint.specs.Rows.{is_marked, placing_at, placed_in, written_cell, written_row, ends_at, erasing_from, style_left, erase_line, row_functions, row_style_left};
+ghost use Rattle.roam_scroll_paint.specs.Rows.{is_marked, placing_at, placed_in, written_cell, written_row, doubt_after, doubt_in, ends_at, erasing_from, style_left, erase_line, row_functions, row_style_left};
 
+use crate::doubts::is_doubtful;
 use crate::renditions::push_styled_from;
 use crate::sequences::{push_erase_line, push_placing_at};
 use roam_cells::{Cell, Style};
 use roam_paint::{cell_of, push_points};
 use roam_screens::Seen;
 use std::alloc::AllocError;
+
+// What some columns leave: the style that is set, and whether terminals disagree on the width of the last cell.
+#[derive(Clone, Copy)]
+struct Left {
+    style: Style,
+    doubtful: bool,
+}
 
 /// Returns true if a column is marked; those behind the last aren't.
 pub fn mark_at(marks: &[bool], col: usize) -> bool
@@ -66,31 +74,37 @@ fn write_cell(
     Ok(())
 }
 
-// One column, with the style that is set before it; answers the style that is set after it.
-#[tactic(auto, unfolding(crate::specs::Rows::written_cell, roam_paint::specs::Painting::style_after))]
+// One column, with what those before it leave; returns what it leaves.
+#[tactic(auto, unfolding(crate::specs::Rows::written_cell, crate::specs::Rows::doubt_after, roam_paint::specs::Painting::style_after))]
 fn write_place<N: Seen>(
     text: &mut Vec<u8>,
     new: &N,
     row: usize,
     col: usize,
     marks: &[bool],
-    style: Style,
-) -> Result<Style, AllocError>
+    left: Left,
+) -> Result<Left, AllocError>
     requires inside { (row < (N.screen new.now).rows) × (col < (N.screen new.now).cols) }
     ensures text { OnOk result (text.new.items ≡ text.old.items ++ flat_map text_of
-        (written_cell (is_marked marks.now) (shown_at (N.screen new.now)) row col style)) }
-    ensures style { IfOk result (λ s. s ≡ style_after (is_marked marks.now) (shown_at (N.screen new.now)) row col style) }
+        (written_cell (is_marked marks.now) (shown_at (N.screen new.now)) row col left.style left.doubtful)) }
+    ensures style { IfOk result (λ l. l.style ≡ style_after (is_marked marks.now) (shown_at (N.screen new.now)) row col left.style) }
+    ensures doubt { IfOk result (λ l. l.doubtful ≡ doubt_after (is_marked marks.now) (shown_at (N.screen new.now)) row col left.doubtful) }
 {
     new.facts();
     let cell = cell_of(new, row, col);
     if !is_drawn(cell, mark_at(marks, col), mark_at(marks, col + 1)) {
-        return Ok(style);
+        return Ok(left);
     }
-    write_cell(text, goes_on(marks, row, col), style, row, col, cell)?;
-    Ok(cell.style())
+    // The outer terminal's cursor may be elsewhere behind a doubtful cell.
+    let stays = goes_on(marks, row, col) && !left.doubtful;
+    write_cell(text, stays, left.style, row, col, cell)?;
+    Ok(Left {
+        style: cell.style(),
+        doubtful: is_doubtful(cell),
+    })
 }
 
-// The marked columns of a row before one; answers the style that is set after them.
+// The marked columns of a row before one; returns what they leave.
 fn write_row<N: Seen>(
     text: &mut Vec<u8>,
     new: &N,
@@ -98,18 +112,22 @@ fn write_row<N: Seen>(
     marks: &[bool],
     end: usize,
     style: Style,
-) -> Result<Style, AllocError>
+) -> Result<Left, AllocError>
     requires row { row < (N.screen new.now).rows }
     requires end { end ≤ (N.screen new.now).cols }
     ensures text { OnOk result (text.new.items ≡ text.old.items ++ flat_map text_of
         (written_row (is_marked marks.now) (shown_at (N.screen new.now)) row style end)) }
-    ensures style { IfOk result (λ s. s ≡ style_in (is_marked marks.now) (shown_at (N.screen new.now)) row style end) }
+    ensures style { IfOk result (λ l. l.style ≡ style_in (is_marked marks.now) (shown_at (N.screen new.now)) row style end) }
+    ensures doubt { IfOk result (λ l. l.doubtful ≡ doubt_in (is_marked marks.now) (shown_at (N.screen new.now)) row end) }
 {
-    let mut set = style;
+    let mut left = Left {
+        style,
+        doubtful: false,
+    };
     for col in 0..end {
-        set = write_place(text, new, row, col, marks, set)?;
+        left = write_place(text, new, row, col, marks, left)?;
     }
-    Ok(set)
+    Ok(left)
 }
 
 // Returns true if the cursor is at a column since the text before ends there.
@@ -145,17 +163,18 @@ fn erase_from(
     end: usize,
     cols: usize,
     marks: &[bool],
-    style: Style,
+    left: Left,
 ) -> Result<Style, AllocError>
     requires few { (row < 1000) × (cols < 1000) }
     ensures text { OnOk result (text.new.items ≡ text.old.items ++ flat_map text_of
-        (erasing_from (is_marked marks.now) row end cols style)) }
-    ensures style { IfOk result (λ s. s ≡ style_left end cols style) }
+        (erasing_from (is_marked marks.now) row end cols left.style left.doubtful)) }
+    ensures style { IfOk result (λ s. s ≡ style_left end cols left.style) }
 {
     if cols <= end {
-        return Ok(style);
+        return Ok(left.style);
     }
-    push_end(text, ends_at(marks, row, end), row, end, style)?;
+    let stands = ends_at(marks, row, end) && !left.doubtful;
+    push_end(text, stands, row, end, left.style)?;
     Ok(Style::default())
 }
 
@@ -175,7 +194,7 @@ pub fn push_row<N: Seen>(
     ensures style { IfOk result (λ s. s ≡ row_style_left marks.now (shown_at (N.screen new.now)) (N.screen new.now).cols row end style) }
 {
     new.facts();
-    let set = write_row(text, new, row, marks, end, style)?;
-    let left = erase_from(text, row, end, usize::from(new.cols()), marks, set)?;
-    Ok(left)
+    let left = write_row(text, new, row, marks, end, style)?;
+    let set = erase_from(text, row, end, usize::from(new.cols()), marks, left)?;
+    Ok(set)
 }

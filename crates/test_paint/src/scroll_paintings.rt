@@ -68,6 +68,33 @@ half of an old pair is written over, and its other half is written too
 a wide cell over two narrow ones
 2 8 xx\x1B[1;3H\x1B[7mc|x中d|\x1B[1;2H中d\x1B[1;5H
 
+behind a letter with a joined accent CUP comes
+2 8 |e\u{301}f|\x1B[1He\u{301}\x1B[1;2Hf\x1B[1;3H
+
+and behind VS16
+2 8 |\u{2764}\u{FE0F}x|\x1B[1H\u{2764}\u{FE0F}\x1B[1;2Hx\x1B[1;3H
+
+and behind each part of a ZWJ sequence that ends in ZWJ
+2 8 |\u{1F469}\u{200D}\u{1F469}x|\x1B[1H\u{1F469}\u{200D}\x1B[1;3H\u{1F469}x\x1B[1;6H
+
+and behind an emoji modifier
+2 8 |\u{1F44D}\u{1F3FD}x|\x1B[1H\u{1F44D}\u{1F3FD}\x1B[1;5Hx\x1B[1;6H
+
+and behind each regional indicator
+2 8 |\u{1F1E9}\u{1F1EA}x|\x1B[1H\u{1F1E9}\x1B[1;2H\u{1F1EA}\x1B[1;3Hx\x1B[1;4H
+
+and before another style
+2 8 |e\u{301}\x1B[1mf|\x1B[1He\u{301}\x1B[1;2H\x1B[1mf\x1B[0m\x1B[1;3H
+
+and before the erased end of a row
+2 8 abcdefgh|e\u{301}|\x1B[1He\u{301}\x1B[1;2H\x1B[K\x1B[1;2H
+
+a gap with a joined accent is moved over
+2 8 ae\u{301}c|xe\u{301}z|\x1B[1Hx\x1B[1;3Hz\x1B[1;4H
+
+and a gap behind one
+2 8 abc|e\u{301}bz|\x1B[1He\u{301}\x1B[1;3Hz\x1B[1;4H
+
 the cursor is hidden where it was visible
 2 8 |\x1B[?25l|\x1B[?25l\x1B[1H
 
@@ -82,6 +109,11 @@ rows go down
 
 rows go down by two between a first and a last row
 6 20 ffffffffffffffff\r\naaaaaaaaaaaaaaaa\r\nbbbbbbbbbbbbbbbb\r\ncccccccccccccccc\r\ndddddddddddddddd\r\nffffffffffffffff|ffffffffffffffff\r\n\r\n\r\naaaaaaaaaaaaaaaa\r\nbbbbbbbbbbbbbbbb\r\nffffffffffffffff|\x1B[2;5r\x1B[2H\x1BM\x1BM\x1B[r\x1B[6;17H";
+
+// Three rows would go up by 97 rows, with an LF for each. They are written, and CUP comes behind a joined accent.
+const FAR: &str = "rows that go far
+100 8 \x1B[98He\u{301}bcd\r\nefgh\r\nijkl|e\u{301}bcd\r\nefgh\r\nijkl|\
+\x1B[?25l\x1B[1He\u{301}\x1B[1;2Hbcd\x1B[2Hefgh\x1B[3Hijkl\x1B[98H    \x1B[99H    \x1B[100H    \x1B[3;5H\x1B[?25h";
 
 // Rows that go up and down with wide and joined characters, styles and blank ends; other sizes.
 const PAIRS: &str = "\
@@ -109,18 +141,39 @@ fn text_between(alloc: Global, old: &Shot, new: &Shot) -> Result<Vec<u8>, Fault>
     Ok(text)
 }
 
-// Returns how much longer than the text that leaves nothing out this text between two screens is.
+// Returns how many cells of a screen have more than one code point, an emoji modifier or a regional indicator.
+fn doubtful_cells(shown: &Shot) -> usize {
+    let mut count = 0usize;
+    for row in 1..shown.rows().saturating_add(1) {
+        for col in 1..shown.cols().saturating_add(1) {
+            if let Some(cell) = shown.at(row, col) {
+                count = count.saturating_add(usize::from(is_doubtful(cell.chars().as_slice())));
+            }
+        }
+    }
+    count
+}
+
+fn is_doubtful(points: &[char]) -> bool {
+    match points {
+        [] => false,
+        [point] => matches!(*point, '\u{1F3FB}'..='\u{1F3FF}' | '\u{1F1E6}'..='\u{1F1FF}'),
+        _ => true,
+    }
+}
+
+// Returns how much longer this text between two screens is than the text that leaves nothing out, with CUP of ten bytes for each cell on
+// whose width terminals disagree.
 fn other_length(alloc: Global, old: &Shot, new: &Shot, text: &[u8]) -> Other {
     let mut plain = Vec::from_slice(alloc, b"before")?;
     paint(old, new, &mut plain)?;
-    if text.len() <= plain.len() {
+    let most = plain
+        .len()
+        .saturating_add(doubtful_cells(new).saturating_mul(10));
+    if text.len() <= most {
         return Ok(None);
     }
-    Ok(Some(format!(in alloc;
-        "a text of {} bytes in place of {}",
-        text.len(),
-        plain.len()
-    )?))
+    Ok(Some(format!(in alloc; "a text of {} bytes in place of {}", text.len(), most)?))
 }
 
 fn other_painted(alloc: Global, term: &mut Term, old: &Shot, new: &Shot) -> Other {
@@ -176,7 +229,8 @@ fn other_by(alloc: Global, term: &mut Term, old: &Shot, new: &Shot) -> Other {
 }
 
 fn other_led(alloc: Global, old: &Shot, new: &Shot) -> Other {
-    let mut term = Term::new(alloc, 7, 20, 0)?;
+    let rows = old.rows().max(new.rows()).max(7);
+    let mut term = Term::new(alloc, rows, 20, 0)?;
     other_by(alloc, &mut term, old, new)
 }
 
@@ -236,6 +290,11 @@ fn texts(rt: HostRuntime) {
     for case in TEXTS.split("\n\n") {
         assert_eq!(rt; other_of_case(rt.alloc(), case), Ok(None), "{case:?}");
     }
+}
+
+#[test]
+fn rows_that_go_far(rt: HostRuntime) {
+    assert_eq!(rt; other_of_case(rt.alloc(), FAR), Ok(None), "{FAR:?}");
 }
 
 // Paints behind a text; if memory is refused, returns how long the text is then, and paints again.
