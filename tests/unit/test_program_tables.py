@@ -2,6 +2,7 @@
 import contextlib
 import io
 import pathlib
+import subprocess
 import sys
 import unittest
 from unittest import mock
@@ -30,6 +31,11 @@ class Played(unittest.TestCase):
         """A line that is not true is shown, with what was seen."""
         self.assertEqual(self.played("file one a", "holds one b"), "line 2\n  expected: holds one b\n  seen: b'a'")
         self.assertRegex(self.played("holds none b"), r"^line 1\n  expected: holds none b\n  seen: FileNotFoundError")
+
+    def test_endless(self):
+        """A run without an end in time fails its line, and the other cases are played."""
+        with mock.patch.object(tool.Stage, "does", side_effect=subprocess.TimeoutExpired("roam", 60)):
+            self.assertRegex(self.played("passes attach") or "", r"^line 1\n  expected: passes attach\n  seen: TimeoutExpired")
 
     def test_malformed(self):
         """A line without meaning, an unknown escape, and an actor that is missing are errors of the table."""
