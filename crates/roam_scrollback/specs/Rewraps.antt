@@ -2,6 +2,7 @@
 -- width (this project's profile).
 use Rattle.std.specs.Prelude.{◌≡◌, ◌⊎◌, ℕ, zero, suc, ◌+◌, ◌-◌, ◌==◌, ◌&&◌, ◌<◌, ◌≤◌, max, not, Bool, true, false, List, [], ◌∷◌, ◌++◌, codes, drop, length, map, take, None, if◌then◌else◌}
 use Rattle.roam_cells.specs.Glyph.{Glyph, IsStyle}
+use Rattle.roam_cells.specs.Limits.{IsSize}
 use Rattle.roam_cells.specs.Place.{cell_at, row_of}
 use Rattle.roam_charset.specs.Sets.{set_in}
 use Rattle.roam_charset.specs.declared.charsets.Charset.TheVariants.{Ascii}
@@ -11,7 +12,8 @@ use Rattle.roam_grid.specs.Screen.{Screen}
 use Rattle.roam_repaint.specs.Repainted.{MayPend, column_after}
 use Rattle.roam_repaint.specs.Repainting.{Repaint, repaint_text}
 use Rattle.roam_rewrap.specs.Lines.{TextRow, lines_of}
-use Rattle.roam_rewrap.specs.Windows.{ReflowView, reflowed, shown_rows}
+use Rattle.roam_rewrap.specs.Windows.{LeavesRangeAt, ReflowView, reflowed, shown_rows}
+use Rattle.roam_rewrap.specs.declared.places.ScreenPosition.{ScreenPosition}
 use Rattle.roam_screens.specs.Screenshot.{IsScreenshot}
 use Rattle.roam_scrollback.specs.Lines.{LinesView, Writes, left_of}
 use Rattle.roam_scrollback.specs.RowText.{text_cells, used}
@@ -113,6 +115,39 @@ pub record IsPrepared (l : Live) (wraps : List Wrap) (kept : List TextRow) (rows
   pub is : reflow ≡ reflowed (text_from first height kept l wraps)
       (record { row = back + l.screen.row; col = columns_before l.screen }) rows cols l.modes.cursor_visible
   pub brings : IsRewrapText l reflow text
+
+-- ---- a terminal that keeps its size
+
+-- no text leads to a terminal's screen: the guard is on (DECSCA), or rows count from a margin (DECOM; VT220 Programmer Reference)
+abbrev pub HasNoText : Live → Type 0
+HasNoText l = (l.pen.guarded ≡ true) ⊎ (l.modes.origin ≡ true)
+
+-- text makes no screen at a size, or 64 bits do not hold the cursor's line or its cells (this project's profile)
+abbrev pub HasNoReflow : List TextRow → ScreenPosition → ℕ → ℕ → Bool → Type 0
+HasNoReflow text cursor rows cols visible =
+    LeavesRangeAt text cursor ⊎ (¬ IsScreenshot (reflowed text cursor rows cols visible).shot)
+
+-- the kept rows that come back and the screen's rows make no screen at a size
+pub record HasNoScreen (l : Live) (wraps : List Wrap) (kept : List TextRow) (rows cols : ℕ) : Type 0 where
+  pub height : ℕ
+  pub is_height : IsHeight l.screen height
+  pub first : ℕ
+  pub back : ℕ
+  pub counted : first + back ≡ length kept
+  pub blank : height < l.screen.rows → back ≡ 0
+  pub line : height ≡ l.screen.rows → begins_line (take first (kept ++ screen_text height l.screen wraps)) ≡ true
+  pub none : HasNoReflow (text_from first height kept l wraps)
+      (record { row = back + l.screen.row; col = columns_before l.screen }) rows cols l.modes.cursor_visible
+
+-- there is no text or no screen of a terminal for a size
+abbrev pub IsUnprepared : Live → List Wrap → List TextRow → ℕ → ℕ → Type 0
+IsUnprepared l wraps kept rows cols = HasNoText l ⊎ HasNoScreen l wraps kept rows cols
+
+-- a source is refused a size: that is no size of a screen, or there is no text or no screen of the source for it
+abbrev pub IsRefused : SourceView → List TextRow → ℕ → ℕ → Type 0
+IsRefused s kept rows cols = (¬ IsSize rows cols) ⊎ IsUnprepared s.live s.wraps kept rows cols
+
+-- ---- a terminal at another size
 
 -- A source is brought to another size. The newest kept rows are taken back, and they and the screen's rows wrap at the new width. The rows
 -- that leave then are written, and the text makes a terminal of that size what this one becomes.

@@ -1,12 +1,12 @@
 //! The main screen at another size, without cutting text.
-ghost use Rattle.std.specs.Prelude.{◌≡◌, ◌<◌, ◌≤◌, ◌+◌, ◌-◌, ◌∷◌, ◌++◌, IfOk, IfSome, OnOk, IsTrue, drop, false, length, map, take, true};
+ghost use Rattle.std.specs.Prelude.{◌≡◌, ◌<◌, ◌≤◌, ◌+◌, ◌-◌, ◌∷◌, ◌++◌, IfNone, IfOk, IfSome, OnOk, IsTrue, drop, false, length, map, take, true};
 ghost use Rattle.roam_cells.specs.Limits.{IsSize, most_rows};
 ghost use Rattle.roam_cells.specs.Glyph.{IsStyle};
 ghost use Rattle.roam_repaint.specs.Repainted.{MayPend};
 ghost use Rattle.roam_repaint.specs.Repainting.{repaint_text};
 ghost use Rattle.roam_rewrap.specs.Windows.{reflowed, shown_rows};
 ghost use Rattle.roam_scrollback.specs.Lines.{Writes, left_of};
-ghost use Rattle.roam_scrollback.specs.Rewraps.{IsHeight, IsPrepared, IsRewrapText, begins_line, closing, columns_before, ends_at_cursor, opening, screen_cells, screen_text};
+ghost use Rattle.roam_scrollback.specs.Rewraps.{HasNoReflow, HasNoText, IsHeight, IsPrepared, IsRewrapText, IsUnprepared, begins_line, closing, columns_before, ends_at_cursor, opening, screen_cells, screen_text};
 ghost use Rattle.roam_scrollback.specs.Wraps.{wraps_of};
 
 use crate::kept::RecentRows;
@@ -37,7 +37,7 @@ pub enum NotRewrapped {
     Later,
     /// The other screen is shown.
     OtherScreen,
-    /// The size is none, a cell is guarded, the guard is on, or rows count from a margin.
+    /// The size is none, the guard is on, rows count from a margin, or the text makes no screen, for example with a guarded cell.
     Refused,
     /// Memory ran out.
     NoMemory,
@@ -157,6 +157,7 @@ fn first_row(all: &[Row], kept: usize, is_full: bool, rows: usize, cols: usize) 
 // The style that is set, if the guard is off.
 fn plain_style(canvas: &Canvas) -> Option<Style>
     ensures plain { IfSome result (λ style. (style ≡ canvas.now.live.pen.style) × (canvas.now.live.pen.guarded ≡ false) × IsStyle style) }
+    ensures none { IfNone result (canvas.now.live.pen.guarded ≡ true) }
 {
     let ink = canvas.inked('a')?;
     if ink.guard() {
@@ -208,6 +209,7 @@ fn ending_of(reflow: &Reflow, style: Style, wraps: bool) -> Ending
 // Returns the text that leads a terminal to a screen, and leaves its modes; `None` if the guard is on, or rows count from a margin.
 fn text_of(alloc: Global, canvas: &Canvas, reflow: &Reflow) -> Result<Option<Vec<u8>>, Fault>
     ensures text { IfOk result (λ made. IfSome made (λ text. IsRewrapText canvas.now.live reflow.now text.items)) }
+    ensures none { IfOk result (λ made. IfNone made (HasNoText canvas.now.live)) }
 {
     let modes = canvas.modes();
     let Some(style) = plain_style(canvas) else {
@@ -257,7 +259,7 @@ fn all_text(
     Ok(all)
 }
 
-// Text from a row on, at a size.
+// Returns text from a row on, at a size; `None` if it makes no screen there.
 fn reflow_from(
     alloc: Global,
     all: &[Row],
@@ -270,11 +272,13 @@ fn reflow_from(
     requires size { IsSize rows cols }
     requires within { first ≤ length all.now }
     ensures reflowed { IfOk result (λ made. IfSome made (λ reflow. reflow ≡ reflowed (drop first all.now) cursor rows cols visible)) }
+    ensures none { IfOk result (λ made. IfNone made (HasNoReflow (drop first all.now) cursor rows cols visible)) }
 {
     Reflow::of(alloc, &all[first..], cursor, rows, cols, visible)
 }
 
-/// Returns the main screen of a terminal at another size; `None` if a cell is guarded, the guard is on, or rows count from a margin.
+/// Returns the main screen of a terminal at another size. `None` only if the guard is on, if rows count from a margin, or if its text makes
+/// no screen at that size, for example with a guarded cell.
 pub fn prepare(
     alloc: Global,
     surface: &Surface,
@@ -285,6 +289,7 @@ pub fn prepare(
     requires size { IsSize rows cols }
     ensures prepared { IfOk result (λ made. IfSome made (λ prepared. IsPrepared surface.now.live surface.now.wraps kept.now rows cols
         prepared.first prepared.back prepared.reflow prepared.text.items)) }
+    ensures none { IfOk result (λ made. IfNone made (IsUnprepared surface.now.live surface.now.wraps kept.now rows cols)) }
 {
     let canvas = surface.canvas();
     let grid = canvas.grid();

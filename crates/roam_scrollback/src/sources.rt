@@ -8,7 +8,7 @@ ghost use Rattle.roam_text.specs.Stands.{Stands as Reads};
 ghost use Rattle.roam_text.specs.Dispatched.{function_of, functions_by};
 ghost use Rattle.roam_term.specs.Terminal.{changed_by, live_after};
 ghost use Rattle.roam_scrollback.specs.Lines.{Writes, is_full};
-ghost use Rattle.roam_scrollback.specs.Rewraps.{Follows, IsLater, IsRewrapped};
+ghost use Rattle.roam_scrollback.specs.Rewraps.{Follows, IsLater, IsRefused, IsRewrapped};
 ghost use Rattle.roam_scrollback.specs.Sources.{IsCleared, IsSource, Sheds, clears, rows_leaving, rows_shown, rows_through, wraps_after, wraps_through};
 
 use crate::lines::LeftLines;
@@ -337,6 +337,7 @@ impl RowSource {
         ensures err { OnErr result ((self.new ≡ self.old) × (lines.new ≡ lines.old)) }
         ensures other { IsErrOf result NotRewrapped.OtherScreen → self.old.live.alternate ≡ true }
         ensures later { IsErrOf result NotRewrapped.Later → IsLater self.old }
+        ensures refused { IsErrOf result NotRewrapped.Refused → IsRefused self.old lines.old.kept rows cols }
     {
         if !is_size(rows, cols) {
             return Err(NotRewrapped::Refused);

@@ -1,7 +1,7 @@
-use Rattle.std.proofs.Common.{false, ℕ, List, [], ◌∷◌, ◌++◌, map, sym, ap, subst, ◌∙◌}
+use Rattle.std.proofs.Common.{false, ℕ, List, [], ◌∷◌, ◌++◌, map, sym, ap, subst, inr, ◌∙◌}
 use Rattle.roam_rewrap.specs.Lines.{TextRow}
 use Rattle.roam_text.specs.Log.{Byte, Resized}
-use Rattle.roam_scrollback.specs.Rewraps.{Follows, IsPrepared}
+use Rattle.roam_scrollback.specs.Rewraps.{Follows, IsPrepared, IsUnprepared}
 use Rattle.roam_scrollback.specs.Sources.{Sheds, SourceView, SurfaceView}
 use Rattle.roam_scrollback.proofs.Following.{follows-as, follows-sheds, follows-then}
 use Rattle.roam_scrollback.proofs.sources.RowSource.rewrap.Goals as goal
@@ -43,3 +43,11 @@ returns-clause-rewrapped c =
       wraps = ap (λ (s : SurfaceView). s.wraps) c.wrap_as.ensures.wraps ∙ c.wraps_of.ensures.wraps;
       written = c.push_left.ensures.written;
     })
+
+pub returns-in_default-prepared-clause-refused : goal.returns-in_default-prepared-clause-refused
+returns-in_default-prepared-clause-refused c refused =
+    let surface = c.self.inside.surface in
+    let none : IsUnprepared surface.live surface.wraps c.kept.result.now c.args.rows c.args.cols =
+    rw c.in_default-prepared.is at c.in-Ok.ensures.none in
+    rw (← c.self.view_is)
+    (inr (subst (λ (kept : List TextRow). IsUnprepared surface.live surface.wraps kept c.args.rows c.args.cols) c.kept.ensures.kept none))
