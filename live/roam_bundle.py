@@ -50,7 +50,7 @@ ROOTS = {
         "config.command_table", "config.formats", "config.loader", "config.parser", "frontend.borders", "frontend.command_line",
         "frontend.copymode.actions", "frontend.copymode.controller", "frontend.copymode.keys", "frontend.copymode.motions",
         "frontend.copymode.search", "frontend.resize_keys", "frontend.spawn_commands", "input.key_names", "protocol.screen_cells"))),
-    "host": ((), (f"{PACKAGE}.host.window", f"{PACKAGE}.host.windows")),
+    "host": ((), (f"{PACKAGE}.host.window", f"{PACKAGE}.host.windows", f"{PACKAGE}.host.kept_state")),
 }
 
 # A bundle begins with the length of its head, in so many bytes; and the most bytes of a head.

@@ -17,11 +17,11 @@ from roam_live.common.suppress import suppress
 TYPE_CHECKING = False
 if TYPE_CHECKING:
     from collections.abc import Callable
-    from socket import AF_UNIX, SHUT_WR, SO_PEERCRED, SO_SNDBUF, SOCK_STREAM, SOL_SOCKET, socket as SocketBase
+    from socket import AF_UNIX, MSG_PEEK, SHUT_WR, SO_PEERCRED, SO_SNDBUF, SOCK_STREAM, SOL_SOCKET, socket as SocketBase
 else:
-    from _socket import AF_UNIX, SHUT_WR, SO_PEERCRED, SO_SNDBUF, SOCK_STREAM, SOL_SOCKET, socket as SocketBase
+    from _socket import AF_UNIX, MSG_PEEK, SHUT_WR, SO_PEERCRED, SO_SNDBUF, SOCK_STREAM, SOL_SOCKET, socket as SocketBase
 
-__all__ = ["SHUT_WR", "SO_SNDBUF", "SOL_SOCKET"]
+__all__ = ["MSG_PEEK", "SHUT_WR", "SO_SNDBUF", "SOL_SOCKET"]
 
 # Seconds to wait for a socket that is not there yet, and seconds until the wait is reported.
 LONGEST_WAIT = 10.0
@@ -169,14 +169,22 @@ def listening(path: str | os.PathLike[str]) -> UnixSocket:
     return one
 
 
+def heir_of(held: int) -> UnixSocket:
+    """Return the listening socket of an earlier process. It names that process as its peer until this one listens, too."""
+    one = UnixSocket(held)
+    one.listen(16)
+    one.setblocking(False)
+    return one
+
+
 class Listener:
     """Accepts connections of this user while there is room; others wait. With `is_told` the owner calls `room_changed`; otherwise the loop
     asks before each wait."""
 
     def __init__(self, loop: Loop, path: str | os.PathLike[str], takes: Callable[[UnixSocket], object], has_room: Callable[[], bool],
-                 refused: Callable[[OSError], object], is_told: bool = False) -> None:
+                 refused: Callable[[OSError], object], is_told: bool = False, held: int | None = None) -> None:
         self.loop, self.path, self.takes, self.has_room, self.refused, self.is_told = loop, path, takes, has_room, refused, is_told
-        self.end = listening(path)
+        self.end = listening(path) if held is None else heir_of(held)
         self.made = os.lstat(path)
         self.is_deaf = False
         self.join()

@@ -1,16 +1,19 @@
 """The parts that all windows of a pty host share: its loop, the scrollback, the socket, and processes after a hangup."""
 from __future__ import annotations
 
+import os
+
 from roam_live.common.errors import reason, say
 from roam_live.common.event_loop import Loop
 from roam_live.common.fault_log import FaultLog
 from roam_live.common.io import read
 from roam_live.common.signals import signal
 from roam_live.common.suppress import suppress
+from roam_live.host.kept_state import KeptState
 from roam_live.host.options import Spare, has_ended
+from roam_live.host.pane_hold import transit_of
 from roam_live.host.scrollback import Scrollback, pane_of_key
 from roam_live.host.socket_server import HostSocket
-from roam_live.host.state import SessionState
 from roam_live.protocol.panes import OTHER
 from roam_live.session.tmp_keepalive import LOOKS
 
@@ -36,9 +39,10 @@ class Common:
     Those are its loop, the scrollback, the socket `host`, the processes after a hangup, and reserved descriptors.
     """
 
-    def __init__(self, wakeup: int, loop: Loop | None = None) -> None:
-        self.wakeup, self.loop = wakeup, loop or Loop()
+    def __init__(self, wakeup: int, kept: KeptState) -> None:
+        self.wakeup, self.loop, self.kept, self.link = wakeup, kept.loop, kept, kept.link
         self.faults = FaultLog(self.loop.clock)
+        # Servers and clients that this host has started and that may have ended.
         self.hung: list[int] = []
         self.is_over = False
         # The refusals of the system that were already reported.
@@ -49,8 +53,10 @@ class Common:
         with suppress(OSError):
             self.voice.keep()
             self.spare.keep()
-        self.state = SessionState()
-        self.socket = HostSocket(self.loop, state=self.state)
+        self.transit = transit_of(self.link)
+        self.state = kept.state
+        self.socket = HostSocket(self.loop, state=self.state, link=self.link)
+        self.socket.changed, self.socket.stores = kept.touch, kept.write
         self.rows = Scrollback(self.loop, self.tell)
         self.rows.is_other = self.shows_other
         self.socket.offer_rows(self.rows)
@@ -132,20 +138,21 @@ class Common:
         if any(number in LEAVING for number in read(self.wakeup) or b""):
             self.is_over = True
         self.hung = [process for process in self.hung if not has_ended(process)]
-        for window in self.windows():
-            self.loop.is_done(window.reap)
 
     def turn(self) -> None:
         """Wait until something is ready, and handle it."""
         self.loop.turn()
 
     def run(self) -> int:
-        """Run the shells of a session of one window until it ends."""
+        """Run the shells of a session of one window until it ends. After a failure they go on, and another host takes them over."""
+        self.link.guarded()
         try:
             while not self.is_over and not any(window.is_over for window in self.windows()):
                 self.turn()
-        finally:
+        except KeyboardInterrupt:
             self.close()
+            raise
+        self.close()
         return 0
 
     def end_logs(self) -> None:
@@ -165,3 +172,6 @@ class Common:
             window.close()
         self.socket.close()
         self.rows.close()
+        self.link.bye()
+        with suppress(OSError):
+            os.unlink(self.kept.path)

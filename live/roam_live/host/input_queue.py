@@ -63,8 +63,16 @@ class TypedQueue:
     def __len__(self) -> int:
         return self.typed + sum(len(part.data) for part in self.parts if isinstance(part, PendingPaste))
 
-    def take(self, typed: bytes) -> bool:
-        """Queue input, with texts at the positions of their placeholders, and return True if all of it fits.
+    def waits_for_more(self) -> bool:
+        """Return True if texts or typed bytes wait here, or the start of a placeholder."""
+        return bool(self.parts or self.placeholders.rest)
+
+    def is_meant(self, typed: bytes) -> bool:
+        """Return True if input may have a placeholder, or an interrupt that drops the unread part of a text."""
+        return b"\xc2" in typed or self.is_pasted and INTERRUPT in typed
+
+    def take(self, typed: bytes, before: int = 0) -> bool:
+        """Queue input behind `before` unread bytes, with texts at the positions of their placeholders. Return True if all of it fits.
 
         The placeholder of an unknown text is dropped.
         """
@@ -73,7 +81,7 @@ class TypedQueue:
             if place % 2:
                 self.place(part.decode())
             elif part:
-                is_kept = self.add(part) and is_kept
+                is_kept = self.add(part, before) and is_kept
         return is_kept
 
     def place(self, name: str) -> None:
@@ -82,8 +90,9 @@ class TypedQueue:
         if text:
             self.parts.append(text)
 
-    def add(self, typed: bytes) -> bool:
-        """Queue bytes up to the limit, and return True if all fit. An interrupt drops the unread part of earlier texts."""
+    def add(self, typed: bytes, waiting: int = 0) -> bool:
+        """Queue bytes up to the limit, less those that wait elsewhere, and return True if all fit. An interrupt drops the unread part of
+        earlier texts."""
         if INTERRUPT in typed:
             typed = self.interrupted(typed)
         if not self.parts or not isinstance(self.parts[-1], bytearray):
@@ -91,7 +100,7 @@ class TypedQueue:
         last = self.parts[-1]
         assert isinstance(last, bytearray)
         before = len(last)
-        is_kept = keep(last, typed, UNREAD_LIMIT - self.typed + before)
+        is_kept = keep(last, typed, UNREAD_LIMIT - waiting - self.typed + before)
         self.typed += len(last) - before
         if not last:
             self.parts.pop()

@@ -50,15 +50,6 @@ def surroundings(asked: Options, pane: int, pane_environment: PaneEnvironment) -
     return {**kept, **spawn.names(), **pane_environment.set_values(), AGENT: agent_in(asked.common), PANE: f"{asked.dir}:{pane}"}
 
 
-def entered(folder: str) -> dict[str, str]:
-    """Enter a folder, and return the variables that describe it; nothing if that fails."""
-    try:
-        os.chdir(folder)
-    except OSError:
-        return {}
-    return {"PWD": folder}
-
-
 class Spare:
     """A descriptor in reserve, for steps that have to succeed even without a free one."""
 

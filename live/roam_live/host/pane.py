@@ -1,4 +1,4 @@
-"""A pane of a session at the pty host: the command on its pseudo-terminal, the pane's socket, and the queues for both."""
+"""A pane of a session at the pty host: the command on its pseudo-terminal, the pane's socket, and the bytes for both."""
 from __future__ import annotations
 
 import fcntl
@@ -7,16 +7,19 @@ import os
 import struct
 import termios
 
-from roam_live.common import spawn, tty
-from roam_live.common.errors import reason, say
+from roam_live.common import tty
+from roam_live.common.errors import say
 from roam_live.common.event_loop import Loop, always, comes
 from roam_live.common.fault_log import SoonFaults
-from roam_live.common.io import MOST_READ, UNREAD_LIMIT, read, write
+from roam_live.common.io import UNREAD_LIMIT, read
 from roam_live.common.signals import signal
 from roam_live.common.suppress import suppress
-from roam_live.common.unix_socket import SO_SNDBUF, SOL_SOCKET, connected_now
-from roam_live.host.input_queue import TypedQueue
-from roam_live.host.options import Options, entered, surroundings
+from roam_live.common.unix_socket import MSG_PEEK, SO_SNDBUF, SOL_SOCKET, UnixSocket, connected_now
+from roam_live.host.holder_link import RUNS, Kept
+from roam_live.host.input_queue import INTERRUPT, TypedQueue
+from roam_live.host.options import Options, surroundings
+from roam_live.host.pane_hold import PaneHold
+from roam_live.host.pump import ByteLog
 from roam_live.host.state import PaneState
 from roam_live.session.environment import PaneEnvironment
 from roam_live.session.foreground import group_in_front
@@ -26,10 +29,14 @@ if TYPE_CHECKING:
     import socket
     from collections.abc import Callable
 
+
 # Bytes that may wait for a pane; above that the command's output stays unread. The user still sees these bytes and those in the socket
 # after an interrupt, so the limit is low.
 LIMIT = 16384
 SOCKET_LIMIT = 8192
+
+# The most bytes of input that are looked at, and then passed on, at once.
+MOST_PEEKED = 4096
 
 # Input typed before a shell is back has all arrived once nothing comes for so many seconds. A client repeats unaccepted input.
 SETTLES = 0.5
@@ -48,6 +55,7 @@ MOST_LAST = 1 << 16
 LAST_LATER = 0.25
 GIVEN_UP = b"\r\n[closed after internal errors; a key starts the command again]\r\n"
 DROPPED = b"\r\n[a new shell; what was typed since the last one ended is dropped]\r\n"
+ENDED = b"\r\n[ended]"
 NOT_RUN = "[not run: {}; a key tries again]\r\n"
 
 
@@ -58,32 +66,39 @@ def say_in(path: str, text: str) -> None:
 
 
 class PaneCommand:
-    """A pane: its command on a pseudo-terminal, the pane's socket, and the queues for both.
+    """A pane: its command on a pseudo-terminal, the pane's socket, and the bytes for both.
 
-    It has no socket before it is connected, and no terminal before its command is run.
+    It has no socket and no logs before it is connected, and no terminal before its command is run. The holder has all of them, too.
     """
 
-    def __init__(self, asked: Options, loop: Loop, state: PaneState, is_again: bool, typed: TypedQueue) -> None:
-        self.asked, self.loop, self.state, self.is_again = asked, loop, state, is_again
+    def __init__(self, asked: Options, loop: Loop, state: PaneState, is_again: bool, typed: TypedQueue, hold: PaneHold) -> None:
+        self.asked, self.loop, self.state, self.is_again, self.held = asked, loop, state, is_again, hold
         self.path = f"{asked.dir}/p{state.number}"
         self.named = asked.named(state.number)
         self.peer: socket.socket | None = None
         self.terminal: int | None = None
+        # A descriptor of the command's process, which the holder gets with the terminal; and true while the holder starts the command.
+        self.file: int | None = None
+        self.is_starting = False
         self.is_connected = self.is_told = False
-        self.to_pane, self.to_terminal = bytearray(), typed
+        # The bytes for the pane, and those that were typed. Behind these come texts, and what is typed after them.
+        self.output: ByteLog | None = None
+        self.typed: ByteLog | None = None
+        self.to_terminal = typed
         typed.drops_unread = self.drops_unread
         # True if input was dropped since its programs last read all.
         self.is_dropping = False
         # The bytes read since the command has ended, the moment when the terminal was first empty, and a last line to show.
         self.last_read, self.empty_at, self.last_words = 0, math.inf, b""
-        # The number of bytes written there; True while input for an earlier host may still arrive.
-        self.written = 0
+        # True while input for an earlier host may still arrive.
         self.is_settling = False
         # The moment of the next request to close it.
         self.asked_until = 0.0
         # Flags for input or output, and for output, since the last check. `touches` is called then, and at the end of a command.
         self.is_touched = self.has_news = False
         self.touches: Callable[[], object] = lambda: None
+        # Called once its command is started, or has ended: that is part of the host's state.
+        self.changes: Callable[[], object] = lambda: None
         # The environment that attaching front ends sent, for new panes.
         self.pane_environment = PaneEnvironment()
         # Applies the server's reports on the panes that preceded the input.
@@ -99,13 +114,27 @@ class PaneCommand:
         self.gives_up: Callable[[], object] = lambda: None
 
     def connect(self, look: Callable[[], object]) -> None:
-        """Connect to the pane. A call checks later whether the server reads the output."""
-        self.peer = connected_now(self.path)
-        self.peer.setsockopt(SOL_SOCKET, SO_SNDBUF, SOCKET_LIMIT)
+        """Connect to the pane, or take over the connection of an earlier host. A call checks later whether the server reads the output."""
+        if not self.output or not self.typed:
+            self.output, self.typed = self.held.opened_logs()
+        kept = self.held.link.claim(self.held.socket)
+        peer = self.peer = UnixSocket(kept.ends[0]) if kept else connected_now(self.path)
+        peer.setblocking(False)
+        peer.setsockopt(SOL_SOCKET, SO_SNDBUF, SOCKET_LIMIT)
+        if not kept:
+            self.held.link.put(self.held.socket, [peer.fileno()])
         self.is_connected = True
         # Input is read however much waits. Otherwise a command that does not read would stop the server.
-        self.loop.add(self.peer, self.hear, self.write_pane, has_more=lambda: self.to_pane, fails=self.fail, is_told=True)
+        self.loop.add(peer, self.hear, self.write_pane, has_more=self.waits, fails=self.fail, is_told=True)
         self.loop.later(f"look at {self.named}", READ_WAIT, look)
+
+    def waits(self) -> int:
+        """Return the number of bytes that wait for the pane."""
+        return self.output.waits() if self.output else 0
+
+    def written(self) -> int:
+        """Return the number of bytes that the pane has accepted."""
+        return self.output.sent + self.output.passed if self.output else 0
 
     def settle(self) -> None:
         """Wait until earlier input has arrived, and drop it."""
@@ -125,11 +154,13 @@ class PaneCommand:
 
     def show_alone(self, text: bytes) -> None:
         """Send text to the pane, and not to the scrollback rows."""
-        is_first = not self.to_pane
-        self.to_pane += text
+        if not self.output:
+            return
+        is_first = not self.output.waits()
+        self.output.append(text)
         if is_first:
             self.write_pane()
-        if self.to_pane:
+        if self.output.waits():
             self.see_to_ends()
 
     def see_to_ends(self) -> None:
@@ -139,26 +170,68 @@ class PaneCommand:
                 self.loop.changed(end)
 
     def run(self) -> None:
-        """Run the command. If that fails, print the reason in the pane."""
-        try:
-            self.state.process, self.terminal = spawn.forked(self.state.size)
-        except OSError as fault:
-            self.show(NOT_RUN.format(reason(fault)).encode())
+        """Have the holder run the command. If that fails, print the reason in the pane."""
+        environment = surroundings(self.asked, self.state.number, self.pane_environment)
+        words = self.state.command or self.asked.command
+        instead = "" if self.state.command else self.asked.instead or ""
+        text = [self.state.folder, instead, str(len(words)), *words, *(f"{name}={value}" for name, value in environment.items())]
+        self.is_starting = True
+        size = self.state.size
+        self.held.spawn(size, b"\0".join(map(os.fsencode, text)), lambda kept, why: self.started(size, kept, why), self.ended)
+
+    def started(self, size: tty.Size, kept: Kept | None, why: str) -> None:
+        """Continue with the command that the holder has started at a size."""
+        self.is_starting = False
+        if not kept:
+            self.end_programs()
+            self.show(NOT_RUN.format(why).encode())
             return
-        if self.state.process == 0:
-            try:
-                environment = {**surroundings(self.asked, self.state.number, self.pane_environment), **entered(self.state.folder)}
-                spawn.become(self.state.command or self.asked.command, environment, None if self.state.command else self.asked.instead)
-            finally:
-                os._exit(127)
-        os.set_inheritable(self.terminal, False)
-        os.set_blocking(self.terminal, False)
-        self.loop.add(self.terminal, self.hear_terminal, self.write_terminal, has_more=lambda: self.to_terminal.parts,
-                      hears=self.has_room, fails=self.fail, is_told=True)
+        self.follow(kept)
+        if self.terminal is not None and size != self.state.size:
+            with suppress(OSError):
+                tty.set_size(self.terminal, *self.state.size)
+        self.write_terminal()
+        self.changes()
+        self.touches()
+
+    def adopt(self) -> bool:
+        """Continue with the command that an earlier host had here, and return True if there is one, or if it has ended."""
+        kept = self.held.claimed_program(self.ended)
+        if not kept:
+            return self.state.has_ended
+        self.state.has_ended = False
+        with suppress(OSError):
+            rows, cols, _, _ = struct.unpack("HHHH", fcntl.ioctl(kept.ends[0], termios.TIOCGWINSZ, bytes(8)))
+            self.state.size = rows, cols
+        self.follow(kept)
+        self.write_terminal()
+        self.see_to_ends()
+        return True
+
+    def follow(self, kept: Kept) -> None:
+        """Follow the terminal of a command, unless that is closed, and its process."""
+        self.state.process, self.file = kept.process, kept.ends[-1]
+        if len(kept.ends) > 1:
+            self.terminal = kept.ends[0]
+            self.loop.add(self.terminal, self.hear_terminal, self.write_terminal, has_more=self.is_typed, hears=self.has_room,
+                          fails=self.fail, is_told=True)
+        if kept.end != RUNS:
+            self.ended(kept.end)
+
+    def is_typed(self) -> bool:
+        """Return True if input waits for the programs."""
+        return bool(self.to_terminal.parts) or self.typed is not None and self.typed.waits() > 0
+
+    def ended(self, end: str) -> None:
+        """Record the end of the command's process: `unknown`, or its wait status."""
+        if self.runs():
+            self.ends(b"" if self.asked.close else ENDED)
+            self.changes()
+            self.touches()
 
     def has_room(self) -> bool:
         """Return True if more output is read now."""
-        return len(self.to_pane) < LIMIT and self.quota != 0 and self.hears()
+        return self.waits() < LIMIT and self.quota != 0 and self.hears()
 
     def hold(self, quota: int, passed_on: Callable[[], object] = lambda: None) -> None:
         """Read at most `quota` more bytes of output until `release`; call `passed_on` once some were read."""
@@ -179,19 +252,32 @@ class PaneCommand:
 
     def close_terminal(self) -> None:
         """Close the terminal, which hangs up the remaining programs."""
+        self.is_starting = False
         if self.terminal is not None:
+            self.held.close(self.held.terminal)
             self.loop.remove(self.terminal)
             os.close(self.terminal)
             self.terminal = None
         self.to_terminal.clear()
+        if self.typed:
+            self.typed.drop()
+
+    def close_program(self) -> None:
+        """Follow the command's process no longer."""
+        self.held.drop(self.held.terminal)
+        if self.file is not None:
+            os.close(self.file)
+            self.file = None
 
     def close_peer(self) -> None:
         """Close the connection to the pane, which accepts no more."""
+        self.held.drop(self.held.socket)
         if self.peer:
             self.loop.remove(self.peer)
             self.peer.close()
             self.peer = None
-        self.to_pane.clear()
+        if self.output:
+            self.output.drop()
         self.see_to_ends()
 
     def fail(self, fault: Exception) -> None:
@@ -208,7 +294,8 @@ class PaneCommand:
     def give_up(self) -> None:
         """End the programs after too many failures. The next key restarts the command."""
         self.end_programs()
-        self.to_pane.clear()
+        if self.output:
+            self.output.drop()
         self.state.process, self.state.has_ended = None, False
         self.show(GIVEN_UP)
 
@@ -218,27 +305,29 @@ class PaneCommand:
             self.loop.drop(f"{what} {self.named}")
         self.close_peer()
         self.end_programs()
+        self.held.drop(self.held.logs)
+        for log in (self.output, self.typed):
+            if log:
+                log.close()
+        self.output = self.typed = None
 
     def end_programs(self) -> None:
         """End the pane's programs."""
-        self.close_terminal()
-        if self.state.process is not None and self.runs():
+        if self.file is not None and self.runs():
             for number in (signal.SIGHUP, signal.SIGCONT):
                 # A process that now belongs to another user gets only the terminal's hangup.
                 with suppress(OSError):
-                    os.kill(self.state.process, number)
+                    signal.pidfd_send_signal(self.file, number)
+        self.close_terminal()
+        self.close_program()
 
     def runs(self) -> bool:
         """Return True if its command was spawned and has not ended."""
         return self.state.process is not None and not self.state.has_ended
 
-    def running(self) -> list[int]:
-        """Return the process of its command, if it runs."""
-        return [self.state.process] if self.state.process is not None and not self.state.has_ended else []
-
     def is_typed_into(self) -> bool:
-        """Return True if a program may read the input."""
-        return self.terminal is not None and not self.state.has_ended
+        """Return True if a program reads the input, or will."""
+        return (self.terminal is not None or self.is_starting) and not self.state.has_ended
 
     def ends(self, words: bytes = b"") -> None:
         """Record that the command has ended: type nothing more, and read its last output as the pane takes it. `words` are shown after it.
@@ -265,24 +354,28 @@ class PaneCommand:
         self.last_read += count
         self.empty_at = min(self.empty_at, now) if is_empty else self.empty_at
         if self.last_read >= MOST_LAST or is_empty and now >= self.empty_at + LAST_WAIT:
-            self.take(b"")
+            self.close_terminal()
+            self.finish()
         elif is_empty:
             self.loop.at(f"last of {self.named}", self.empty_at + LAST_WAIT, self.read_last)
+        else:
+            self.loop.soon(self.read_last)
 
     def finish(self) -> None:
         """Show the last line, after all output of an ended command."""
         self.loop.drop(f"last of {self.named}")
+        self.close_program()
         self.show(self.last_words)
         self.last_words = b""
         self.touches()
 
     def hear(self) -> None:
-        """Take input. If no command could be spawned, a key tries again."""
+        """Take input. If no command could be started, a key tries again."""
         self.follows()
-        if not self.peer:
-            # According to the reports, the pane is gone.
+        if not self.peer or self.is_passed_on():
+            # According to the reports, the pane may be gone.
             return
-        typed = read(self.peer.fileno())
+        typed = read(self.peer.fileno(), MOST_PEEKED)
         if typed:
             self.touch()
         if typed == b"":
@@ -294,6 +387,25 @@ class PaneCommand:
         elif typed and self.state.process is None:
             self.run()
 
+    def is_passed_on(self) -> bool:
+        """Pass on input that has no placeholder and is not behind a text, and return True if that is done."""
+        queue, log = self.to_terminal, self.typed
+        if not self.peer or not log or not self.is_typed_into() or self.is_settling or queue.waits_for_more():
+            return False
+        try:
+            typed = self.peer.recv(MOST_PEEKED, MSG_PEEK)
+        except OSError:
+            return False
+        if not typed or queue.is_meant(typed) or log.waits() + len(typed) > UNREAD_LIMIT:
+            return False
+        left = len(typed)
+        while left and (count := log.take(self.held.transit, self.peer.fileno(), left)):
+            left -= count
+        queue.behind += len(typed) - left
+        self.touch()
+        self.write_terminal()
+        return True
+
     def touch(self) -> None:
         """Record input or output."""
         self.is_touched = True
@@ -301,57 +413,76 @@ class PaneCommand:
 
     def hear_terminal(self) -> None:
         """Take the programs' output up to the limit. A program that writes line by line produces little at once."""
-        chunks: list[bytes] = []
-        room, written = LIMIT - len(self.to_pane), None
+        if not self.output:
+            return
+        room, start = LIMIT - self.output.waits(), self.output.position()
         if self.quota is not None:
             room = min(room, self.quota)
-        while self.terminal is not None and room > 0:
-            written = read(self.terminal, MOST_READ if self.quota is None else room)
-            if not written:
-                break
-            chunks.append(written)
-            room -= len(written)
-        if chunks:
-            self.take(b"".join(chunks))
-        if chunks and self.quota:
+        if self.terminal is None or room <= 0:
+            return
+        count = self.output.take(self.held.transit, self.terminal, room)
+        if count:
+            self.take(self.output.copy(start))
+        if count and self.quota:
             self.quota = 0
             self.passed_on()
-        if written == b"":
-            self.take(written)
+        if count == 0:
+            self.close_terminal()
+            if self.state.has_ended:
+                self.finish()
         elif self.state.has_ended:
-            self.note_last(sum(map(len, chunks)), room > 0)
+            self.note_last(count or 0, self.output.is_drained)
+
+    def take(self, written: bytes) -> None:
+        """Send output on, which is in the log, and hand a copy to the scrollback."""
+        self.has_news = True
+        self.write_pane()
+        self.touch()
+        self.keeps(written)
 
     def write_terminal(self) -> None:
-        """Write as much as the programs accept. If the terminal is gone, drop the rest."""
-        if self.terminal is not None:
+        """Type as much as the programs accept. If the terminal is gone, drop the rest."""
+        if self.terminal is None or not self.typed:
+            return
+        try:
+            if self.typed.waits():
+                self.typed.send(self.terminal, UNREAD_LIMIT)
+        except OSError:
+            self.typed.drop()
+        if not self.typed.waits():
             self.to_terminal.write(self.terminal)
-            self.is_dropping = self.is_dropping and bool(self.to_terminal)
-            if self.to_terminal.parts:
-                self.loop.changed(self.terminal)
+        self.is_dropping = self.is_dropping and self.is_typed()
+        if self.is_typed():
+            self.loop.changed(self.terminal)
 
     def write_pane(self) -> None:
-        """Write as much of the queue as the pane accepts now."""
-        waiting = len(self.to_pane)
-        if self.peer and waiting and not write(self.peer.fileno(), self.to_pane):
-            self.close_peer()
-        self.written += waiting - len(self.to_pane)
-        if waiting >= LIMIT:
+        """Send as much as the pane accepts now. At most twice SOCKET_LIMIT bytes are unread in its socket, as the system counts them."""
+        waiting = self.waits()
+        if self.peer and self.output and waiting:
+            try:
+                self.output.send(self.peer.fileno(), max(0, 2 * SOCKET_LIMIT - self.unread()))
+            except OSError:
+                self.close_peer()
+        if waiting >= LIMIT > self.waits() or self.waits():
             self.see_to_ends()
-        if self.state.has_ended and not self.to_pane:
+        if self.state.has_ended and not self.waits():
             self.touches()
+
+    def unread(self) -> int:
+        """Return the number of bytes in the pane's socket that the server has not read."""
+        with suppress(OSError):
+            count: int = struct.unpack("i", fcntl.ioctl(self.peer.fileno() if self.peer else -1, termios.TIOCOUTQ, bytes(4)))[0]
+            return count
+        return 0
 
     def is_unread(self) -> bool:
         """Return True if output in the pane's socket, no more than it buffers, is still unread."""
-        if not self.peer or not 0 < self.written <= 2 * SOCKET_LIMIT:
-            return False
-        with suppress(OSError):
-            waiting: int = struct.unpack("i", fcntl.ioctl(self.peer, termios.TIOCOUTQ, bytes(4)))[0]
-            return waiting > 0
-        return False
+        return self.peer is not None and 0 < self.written() <= 2 * SOCKET_LIMIT and self.unread() > 0
 
     def wait_typed(self, typed: bytes) -> None:
         """Queue input for the programs. Beyond the limit it is dropped, which is reported once until they have read all."""
-        if not self.to_terminal.take(typed) and not self.is_dropping:
+        before = self.typed.waits() if self.typed else 0
+        if not self.to_terminal.take(typed, before) and not self.is_dropping:
             self.is_dropping = True
             say(f"{self.named}: its program does not read input; above {UNREAD_LIMIT} bytes it is dropped")
         if self.to_terminal.parts:
@@ -384,14 +515,3 @@ class PaneCommand:
     def in_front(self) -> list[int | None]:
         """Return the processes whose working folder is the default of a new pane: the first foreground one, and this pane's command."""
         return [group_in_front(self.terminal), self.state.process] if self.terminal is not None else []
-
-    def take(self, written: bytes | None) -> None:
-        """Take the programs' output. Once no program has the terminal open, close it."""
-        if written == b"":
-            self.close_terminal()
-            if self.state.has_ended:
-                self.finish()
-        elif written:
-            self.has_news = True
-            self.touch()
-            self.show(written)

@@ -12,8 +12,9 @@ from roam_live.common.errors import Fault, log_to, reason
 from roam_live.common.files import replace_text
 from roam_live.common.process import begun
 from roam_live.host.window import MENDED, UNMENDED
-from roam_live.session.names import BUILD, WINDOWS_VERSION, windows_folder
-from roam_live.session.roles import ROLES
+from roam_live.session.names import BUILD, REPLACED, WINDOWS_VERSION, windows_folder
+from roam_live.session.processes import noted_in
+from roam_live.session.roles import HOLDER, ROLES
 
 TYPE_CHECKING = False
 if TYPE_CHECKING:
@@ -82,6 +83,7 @@ class Mending:
             raise Fault(TAKEN.format(os.path.basename(common)))
         renew_log(common)
         self.note(common)
+        self.windows.common.kept.settle()
         for window in self.there():
             window.processes.make_folder()
             window.processes.note()
@@ -103,15 +105,32 @@ class Mending:
         """Write the note of this process, and the window used last."""
         asked = self.windows.asked
         command = [] if asked.instead else asked.command
-        own = {"host": [os.getpid(), begun(os.getpid())]}
         import json
 
         from roam_live.session.start_limits import current_limits
 
-        state = {"version": WINDOWS_VERSION, "command": command, BUILD: self.build, **current_limits(), **own}
+        state = {"version": WINDOWS_VERSION, "command": command, BUILD: self.build, **current_limits(), **self.own()}
 
         replace_text(os.path.join(common, "state.json"), json.dumps(state))
         os.makedirs(windows_folder(common), 0o700, exist_ok=True)
         if self.windows.state.last_window:
             self.windows.note_last()
         self.windows.lasting.own = self.windows.lasting.found()
+
+    def own(self) -> dict[str, object]:
+        """Return this process, the holder, and the number of replaced hosts, in the form of a note."""
+        link, found = self.windows.common.link, {}
+        for role, process in (("host", os.getpid()), (HOLDER, link.process)):
+            if process:
+                found[role] = [process, begun(process)]
+        return {**found, REPLACED: self.windows.state.replaced} if self.windows.state.replaced else {**found}
+
+    def note_holder(self) -> None:
+        """Add the holder, and this process if the holder has started it, to the note."""
+        path = os.path.join(self.windows.asked.common, "state.json")
+        import json
+
+        try:
+            replace_text(path, json.dumps({**(noted_in(path) or {"version": WINDOWS_VERSION, "command": []}), **self.own()}))
+        except OSError as fault:
+            self.tell(f"the holder cannot be recorded: {reason(fault)}")

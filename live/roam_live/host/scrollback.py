@@ -331,6 +331,12 @@ class Scrollback:
         self.end_terminal(pane)
         self.answer_all(pane)
 
+    def miss(self, number: int) -> None:
+        """Record that the output of a pane so far is unknown here."""
+        pane = self.panes.get(number)
+        if pane:
+            pane.lacks, pane.is_whole = True, False
+
     def end_terminal(self, pane: PaneScrollback) -> None:
         """End the terminal of a pane. Earlier output of it may still come."""
         self.end_second(pane)

@@ -18,14 +18,15 @@ from roam_live.host.state import SessionState
 from roam_live.host.uploads import Uploads
 from roam_live.protocol.colours import Colours
 from roam_live.protocol.host_lines import BAD_LINE, COMMANDS, SESSION, led, parted
-from roam_live.protocol.paste_text import random_name
 from roam_live.protocol.presence import CLIENTS, LEAVE, LEAVE_OTHERS, WHO, Attended, Presence, presence_said
 from roam_live.session.environment import PaneEnvironment
 
 TYPE_CHECKING = False
 if TYPE_CHECKING:
     import socket
+    from collections.abc import Callable
 
+    from roam_live.host.holder_link import HolderLink
     from roam_live.host.scrollback import Scrollback
     from roam_live.host.scrollback_store import PaneRows
     from roam_live.host.window_channel import WindowChannel
@@ -44,6 +45,9 @@ LOG_WAIT = 1.0
 # A host that replaces another waits so many seconds for the terminals to reconnect before it reports the other terminals of the session.
 RECONNECTS = 4.0
 
+# The name of the socket at the holder.
+LISTENER = "listener"
+
 # The timer for requests about rows.
 ROWS_DUE = "rows are asked for"
 
@@ -57,8 +61,9 @@ class HostSocket:
     A channel has the state of one window. If windows can be opened, `lines` answers requests about them.
     """
 
-    def __init__(self, loop: Loop, rows: Scrollback | None = None, state: SessionState | None = None) -> None:
-        self.loop, self.state = loop, state or SessionState()
+    def __init__(self, loop: Loop, rows: Scrollback | None = None, state: SessionState | None = None,
+                 link: HolderLink | None = None) -> None:
+        self.loop, self.state, self.link = loop, state or SessionState(), link
         self.rows: Scrollback | None = None
         if rows:
             self.offer_rows(rows)
@@ -66,8 +71,6 @@ class HostSocket:
         self.peers: list[HostPeer] = []
         self.channels: dict[int, WindowChannel] = {}
         self.last = 0
-        # Reconnecting terminals compare it with the name of their earlier host.
-        self.name = random_name()
         self.pane_environment = PaneEnvironment(self.state.environment)
         self.uploads = Uploads(self)
         self.colours = Colours(self.state.colours)
@@ -75,6 +78,10 @@ class HostSocket:
         # The moment from which the terminals of the session are known.
         self.knows_at = 0.0
         self.lines: WindowLines | None = None
+        # Called after a line that may have changed the state.
+        self.changed: Callable[[], object] = lambda: None
+        # Called before the answer that a text is stored.
+        self.stores: Callable[[], object] = lambda: None
 
     def offer_rows(self, rows: Scrollback) -> None:
         """Answer requests about these scrollback rows."""
@@ -87,8 +94,11 @@ class HostSocket:
         """Listen in a session's folder, unless that is done. If another process listens there, no terminals are known."""
         if self.listener:
             return
+        path, kept = os.path.join(folder, "host"), self.link.claim(LISTENER) if self.link else None
+        held = kept.ends[0] if kept and os.path.lexists(path) else None
         try:
-            self.listener = Listener(self.loop, os.path.join(folder, "host"), self.take, self.has_room, lambda fault: None, True)
+            self.listener = Listener(self.loop, path, self.take, self.has_room, lambda fault: None, True, held)
+            self.keep_listener()
         except (Fault, OSError) as fault:
             say(f"this pty host cannot accept connections: {reason(fault)}")
 
@@ -100,6 +110,12 @@ class HostSocket:
         """Bind the removed socket again in a folder; Fault or OSError if that fails."""
         if self.listener and not self.is_found():
             self.listener.move(os.path.join(folder, "host"))
+            self.keep_listener()
+
+    def keep_listener(self) -> None:
+        """Have the holder keep the socket. Connections wait there for the next host."""
+        if self.link and self.listener:
+            self.link.put(LISTENER, [self.listener.end.fileno()])
 
     def has_room(self) -> bool:
         """Return True if another connection fits."""
@@ -177,6 +193,7 @@ class HostSocket:
                 continue
             peer.said = number
             self.take_line(peer, number, line)
+            self.changed()
 
     def take_line(self, peer: HostPeer, number: int, line: str) -> None:
         """Take a line of a connected peer, about a window or the session."""
@@ -195,7 +212,7 @@ class HostSocket:
             self.comes(peer, presence)
         elif line == WHO:
             peer.asks = True
-            self.send(peer, [f"host {self.name}"], SESSION)
+            self.send(peer, [f"host {self.state.name}"], SESSION)
         else:
             peer.asks_commands = True
         if peer.channel:
@@ -396,5 +413,7 @@ class HostSocket:
         for channel in list(self.channels.values()):
             channel.close()
         if self.listener:
+            if self.link:
+                self.link.drop(LISTENER)
             self.listener.close()
             self.listener = None

@@ -26,10 +26,12 @@ LOOKS_SECONDS = 0.1
 class StartCommands:
     """Shell commands, some at a time. A call takes the message about each that fails."""
 
-    def __init__(self, loop: Loop, commands: list[str], tells: Callable[[str], object]) -> None:
+    def __init__(self, loop: Loop, commands: list[str], tells: Callable[[str], object], files: int) -> None:
         self.loop, self.waiting, self.tells = loop, list(commands), tells
         # By process, the command, the pipe with its output, and the newest bytes of that.
         self.runs: dict[int, tuple[str, int, bytes]] = {}
+        # The limit of open files before this process raised its own.
+        self.files = files
         self.begin()
 
     def begin(self) -> None:
@@ -48,7 +50,7 @@ class StartCommands:
         actions = [(os.POSIX_SPAWN_OPEN, 0, os.devnull, os.O_RDONLY, 0), (os.POSIX_SPAWN_DUP2, its_output, 1),
                    (os.POSIX_SPAWN_DUP2, its_output, 2)]
         try:
-            process = os.posix_spawn("/bin/sh", ["sh", "-c", command], known, file_actions=actions, setsid=True,
+            process = os.posix_spawn("/bin/sh", ["sh", "-c", f"ulimit -S -n {self.files}\n{command}"], known, file_actions=actions, setsid=True,
                                      setsigdef=[signal.SIGPIPE, signal.SIGHUP, signal.SIGTERM])
         except BaseException:
             os.close(output)

@@ -13,7 +13,7 @@ from roam_live.protocol.colours import NUMBERS, colour_of
 from roam_live.protocol.panes import MOST_PANES
 from roam_live.protocol.paste_text import (BUFFER_EMPTY, BUFFER_TOO_LONG, BUFFERS_TOO_MANY, CLOSES, INSERTED, LOST, MOST_BUFFER,
                                            MOST_BUFFERS, MOST_BYTES, MOST_COMING, MOST_SPENT, MOST_TEXTS, OPENS, SAMPLE, STORED,
-                                           without_brackets)
+                                           random_name, without_brackets)
 from roam_live.protocol.window_lines import LONGEST_NAME, MOST_WINDOWS
 from roam_live.protocol.zoom_record import MOST_ASKED, NO_ZOOM, NONE, ZOOM, ZOOMED, ZoomNote, note_in
 from roam_live.session.environment import LONGEST_VALUE, NAMES, own_values, tellable
@@ -202,8 +202,9 @@ class NotedZoom(StateRecord):
 
 
 class PaneState(StateRecord):
-    """A pane: its generation, its size, and the command on its terminal."""
+    """A pane: its id, which no other pane of this user has; its generation, its size, and the command on its terminal."""
 
+    id: int = field(number_from(0, MOST_NUMBER))
     number: int = field(PANE)
     generation: int = field(number_from(0, MOST_GENERATION))
     size: Size = field(SIZE)
@@ -243,6 +244,8 @@ class SessionState(StateRecord):
     """A session."""
 
     version: int = field(one_of(VERSION), lambda: VERSION)
+    # The name of its hosts. Reconnecting terminals compare it with the name of their earlier host.
+    name: str = field(NAMED, random_name)
     windows: dict[int, WindowState] = field(map_of(decimal(WINDOW), record_of(WindowState), MOST_WINDOWS), dict)
     # The window used last, 0 if unknown.
     last_window: int = field(WINDOW, int)
@@ -253,6 +256,8 @@ class SessionState(StateRecord):
     # Waiting texts by name, and the fate of the last finished ones.
     pastes: dict[str, PendingPaste] = field(map_of(NAMED, record_of(PendingPaste), MOST_TEXTS), dict)
     spent_pastes: dict[str, str] = field(map_of(NAMED, one_of(INSERTED, LOST), MOST_SPENT), dict)
+    # The number of hosts that followed one which had ended.
+    replaced: int = field(number_from(0, MOST_NUMBER), int)
     # True once the shell commands of the settings file were run.
     has_run_settings: bool = field(flag, bool)
 

@@ -33,6 +33,7 @@ class Uploads:
     def __init__(self, socket: HostSocket) -> None:
         self.socket = socket
         self.texts, self.buffers = PendingPastes(socket.state, socket.loop, self.tell_text), socket.state.buffers
+        self.texts.changes = lambda: socket.changed()
 
     def coming(self, is_buffer: bool) -> int:
         """Return how many bytes of texts, or of buffers, are arriving."""
@@ -122,10 +123,12 @@ class Uploads:
             return
         if upload.is_buffer:
             told = f"none {upload.refusal}" if upload.refusal else f"{self.buffers.add(bytes(upload.data))} {upload.length}"
+            self.socket.stores()
             self.socket.send(peer, [f"buffer add {told}"])
             return
         if upload.is_kept:
             self.texts.take(PendingPaste.of(upload.name, upload.data, upload.is_plain))
+            self.socket.stores()
         state = self.texts.state(upload.name)
         self.socket.send(peer, [f"refused {upload.name} {upload.refusal}" if upload.refusal else f"{state} {upload.name}"])
 
@@ -154,6 +157,8 @@ class PendingPastes:
     def __init__(self, state: SessionState, loop: Loop, tells: Callable[[str, str], object]) -> None:
         self.texts, self.spent = state.pastes, state.spent_pastes
         self.loop, self.tells = loop, tells
+        # Called after a change.
+        self.changes: Callable[[], object] = lambda: None
         for text in self.texts.values():
             self.renew(text)
 
@@ -187,6 +192,7 @@ class PendingPastes:
             return None
         text.is_placed = True
         self.renew(text)
+        self.changes()
         self.tells(name, INSERTED)
         return text
 
@@ -196,6 +202,7 @@ class PendingPastes:
             self.spent[text.name] = INSERTED if text.is_placed else LOST
         while len(self.spent) > MOST_SPENT:
             del self.spent[next(iter(self.spent))]
+        self.changes()
 
     def tend(self) -> None:
         """Drop texts that have waited too long, and schedule the next check."""

@@ -12,8 +12,9 @@ from roam_live.common.suppress import suppress
 from roam_live.host.common import Common
 from roam_live.host.foreground_watch import Fronts
 from roam_live.host.input_queue import TypedQueue
-from roam_live.host.options import Options, has_ended
+from roam_live.host.options import Options
 from roam_live.host.pane import PaneCommand, say_in
+from roam_live.host.pane_hold import TERMINAL, PaneHold, drop_left
 from roam_live.host.rewrap import PaneResizer
 from roam_live.host.scrollback import pane_key
 from roam_live.host.state import PaneState
@@ -21,7 +22,7 @@ from roam_live.host.window_channel import WindowChannel
 from roam_live.protocol.panes import BRACKETED, FOCUS, MODES, OTHER, PanesState, Rect
 from roam_live.protocol.panes_client import PROBE, HostSubscription
 from roam_live.protocol.queries import holds_frames, query_in
-from roam_live.session.foreground import working_folder
+from roam_live.session.foreground import pane_of, working_folder
 from roam_live.session.roles import SERVER
 from roam_live.session.tmp_keepalive import Lasting
 
@@ -44,7 +45,6 @@ ROUSED, ROUSED_EACH = 2, 1.0
 MENDED = "the session's socket was removed, as by a cleaner of old files, and has been restored"
 UNMENDED = "the session's socket was removed and cannot be restored: {}"
 UNREAD = "{} is not shown: the server does not read it; it may have no free descriptor"
-ENDED = b"\r\n[ended]"
 NOT_CONNECTED = "[not run: {}; tried again]\r\n"
 NOT_FOLLOWED = "[no shell: the server's panes are not reported: {}; tried again]\r\n"
 
@@ -61,6 +61,8 @@ class WindowHost:
         self.state = common.state.window(asked.window)
         self.lasting = Lasting(asked.dir)
         self.panes: dict[int, PaneCommand] = {}
+        # The panes of an earlier host that the server hasn't reported yet.
+        self.left = set(self.state.panes)
         self.resizers: dict[int, PaneResizer] = {}
         # The panes without a report since the last subscription.
         self.untold: set[int] = set()
@@ -121,10 +123,12 @@ class WindowHost:
             before, self.state.focus, self.is_again = self.state.focus, int(words[1]), False
             self.report_focus(before)
             self.state.history = [self.state.focus] + [pane for pane in self.state.history if pane != self.state.focus]
+            self.common.kept.touch()
             # The focus follows the reports of all panes.
             for number in self.untold & self.panes.keys():
                 self.drop(number)
             self.untold.clear()
+            self.drop_left()
         elif words[1:] == ["gone"]:
             self.drop(int(words[0]))
         elif words[0].isdigit() and len(words) == 6:
@@ -161,17 +165,59 @@ class WindowHost:
             folder, begins = self.folder_of_new(), self.handed_to(rect)
             self.drop(number)
             typed = TypedQueue(self.common.socket.uploads.texts, lambda: self.panes_state.has_set(number, BRACKETED))
-            state = PaneState(number=number, generation=generation, size=size, folder=begins and begins.folder or folder,
-                              command=begins.command() if begins else [])
+            state = self.left_at(number, generation) or PaneState(
+                id=self.id_for(number), number=number, generation=generation, size=size, folder=begins and begins.folder or folder,
+                command=begins.command() if begins else [])
             self.state.panes[number] = state
-            pane = self.panes[number] = PaneCommand(self.asked, self.loop, state, self.is_again, typed)
+            hold = PaneHold(self.common.link, self.common.transit, state.id)
+            pane = self.panes[number] = PaneCommand(self.asked, self.loop, state, self.is_again, typed, hold)
             pane.follows, pane.pane_environment = self.follow_now, self.common.socket.pane_environment
             pane.gives_up, pane.touches = functools.partial(self.give_up, pane), functools.partial(self.note, pane)
+            pane.changes = self.common.kept.write
             key = self.key(number)
             self.rows.begin(key, generation, size)
             pane.keeps, pane.hears = lambda data: self.rows.feed(key, data), self.rows.hears
             self.resizers[number] = PaneResizer(self.loop, self.rows, key, pane)
+            # Another host finds the pane's program by this.
+            self.common.kept.write()
             self.begin(pane)
+            if pane.state.size != size:
+                self.resizers[number].resize(size)
+
+    def left_at(self, number: int, generation: int) -> PaneState | None:
+        """Return the state of a pane generation that an earlier host had. Drop what is left of another generation."""
+        if number not in self.left:
+            return None
+        self.left.remove(number)
+        state = self.state.panes[number]
+        if state.generation != generation:
+            self.hang_up_left(number)
+            return None
+        state.process = None
+        return state
+
+    def id_for(self, number: int) -> int:
+        """Return the id of a pane without a state. If that is lost, a program that is left there shows the id in its environment."""
+        if self.common.kept.is_lost:
+            for name, kept in self.common.link.left.items():
+                kind, _, found = name.partition(":%")
+                if kind == TERMINAL and pane_of(str(kept.process)) == (self.asked.dir, number):
+                    return int(found)
+        return self.common.kept.next_id()
+
+    def drop_left(self) -> None:
+        """Hang up the programs of panes that closed while there was no host."""
+        for number in self.left:
+            self.hang_up_left(number)
+        self.left.clear()
+
+    def hang_up_left(self, number: int) -> None:
+        """Hang up the programs of a pane of an earlier host."""
+        process = drop_left(self.common.link, self.state.panes.pop(number).id)
+        if process:
+            for sent in (signal.SIGHUP, signal.SIGCONT):
+                with suppress(OSError):
+                    os.kill(process, sent)
 
     def awaited_size(self, told: Size) -> Size:
         """Return the size of a reported pane, or the awaited one until it is reported."""
@@ -188,7 +234,7 @@ class WindowHost:
 
     def has_begun(self) -> bool:
         """Return True if a pane's command was run, even if it has ended, or the pane shows the reason of a failure."""
-        return any(pane.is_connected and (pane.state.process is not None or pane.is_again or pane.to_pane or pane.written)
+        return any(pane.is_connected and (pane.state.process is not None or pane.is_again or pane.waits() or pane.written())
                    for pane in self.panes.values())
 
     def folder_of_new(self) -> str:
@@ -225,7 +271,9 @@ class WindowHost:
                 pane.is_told = True
                 say_in(pane.path, NOT_CONNECTED.format(reason(fault)))
         else:
-            if pane.is_again:
+            if pane.adopt():
+                self.rows.miss(self.key(pane.state.number))
+            elif pane.is_again:
                 pane.settle()
             else:
                 pane.run()
@@ -251,13 +299,12 @@ class WindowHost:
             self.resizers.pop(number).close()
             self.rows.drop(self.key(number))
             pane.hang_up()
-            self.common.hung += pane.running()
+            self.common.kept.touch()
 
     def give_up(self, pane: PaneCommand) -> None:
         """End the programs of a pane after too many exceptions, and close it. The only pane of a window stays and shows a line instead."""
         if self.panes.get(pane.state.number) is not pane:
             return
-        self.common.hung += pane.running()
         pane.give_up()
         pane.state.has_ended = self.asked.close and len(self.panes) > 1
         self.note(pane)
@@ -309,15 +356,9 @@ class WindowHost:
         for pane in self.panes.values():
             pane.asked_until = 0.0
 
-    def reap(self) -> None:
-        """Handle ended commands."""
-        for pane in self.panes.values():
-            if any(map(has_ended, pane.running())):
-                pane.ends(b"" if self.asked.close else ENDED)
-
     def done(self) -> list[PaneCommand]:
         """Return the panes whose command has ended, and whose last output is written."""
-        return [pane for pane in self.panes.values() if pane.state.has_ended and pane.terminal is None and not pane.to_pane]
+        return [pane for pane in self.panes.values() if pane.state.has_ended and pane.terminal is None and not pane.waits()]
 
     def close_ended(self) -> None:
         """Close the panes whose commands have ended; the last one's end is the session's."""

@@ -15,8 +15,10 @@ from roam_live.config.user_file import OWN
 from roam_live.host.common import Common
 from roam_live.host.hosted_window import ENDING, OPENING, OPENS, THERE, HostedWindow, SizeAct, WindowProcesses
 from roam_live.host.options import Options
+from roam_live.host.pane_hold import drop_left
 from roam_live.host.repair import Mending
 from roam_live.host.scrollback import pane_of_key
+from roam_live.host.socket_server import RECONNECTS
 from roam_live.host.state import WindowState
 from roam_live.host.window import WindowHost
 from roam_live.host.window_commands import WindowLines
@@ -65,7 +67,10 @@ class Windows:
         self.spare: WindowProcesses | None = None
         self.spared_at = 0.0
         self.lasting = Lasting(asked.common)
-        common.see_to(Mending(self).look)
+        mending = Mending(self)
+        common.see_to(mending.look)
+        common.link.notes = mending.note_holder
+        mending.note_holder()
         common.see_to(self.make_last)
         self.lines = common.socket.lines = WindowLines(self, common.socket)
         if asked.is_first:
@@ -199,9 +204,11 @@ class Windows:
     def take_over(self) -> None:
         """Adopt the windows of an ended host whose servers run, and remove the rest of the others."""
         for number in numbers_in(self.folder):
-            processes = WindowProcesses(self.asked.common, WindowState(number=number))
+            processes = WindowProcesses(self.asked.common, self.state.windows.get(number) or WindowState(number=number))
             processes.find()
             if not processes.runs(SERVER) or processes.is_spare():
+                self.drop_panes(processes.state)
+                self.state.windows.pop(number, None)
                 processes.end(signal.SIGKILL)
                 processes.clean()
                 continue
@@ -209,6 +216,13 @@ class Windows:
             window.is_again, window.has_client = True, False
             self.common.socket.await_terminals()
             self.await_(window, OPENS)
+        for number in self.state.windows.keys() - self.windows.keys():
+            self.drop_panes(self.state.windows.pop(number))
+
+    def drop_panes(self, window: WindowState) -> None:
+        """Hang up the programs of a window that ended while there was no host."""
+        for pane in window.panes.values():
+            drop_left(self.common.link, pane.id)
 
     def await_first(self) -> None:
         """Wait for the first window, whose server another process is about to spawn."""
@@ -431,19 +445,30 @@ class Windows:
         self.lasting.look()
 
     def run(self) -> int:
-        """Run the windows until the last of them ends. After a failure they stay, and another host adopts them."""
-        try:
-            if not self.windows:
-                self.open(None, 0, self.first)
-            self.run_settings()
-            while not self.common.is_over:
-                self.loop.turn()
-            self.end_all()
-        finally:
-            self.common.close()
+        """Run the windows until the last of them ends. After a failure they go on, and another host takes them over."""
+        if self.common.link.is_resumed:
+            say("this pty host replaces one that ended; the programs continue")
+        if self.common.kept.notices:
+            # The terminals have reconnected by then.
+            self.loop.later("notices", RECONNECTS, self.tell_notices)
+        if not self.windows and self.common.link.is_resumed:
+            # The last window ended while there was no host.
+            self.common.is_over = True
+        elif not self.windows:
+            self.open(None, 0, self.first)
+        self.run_settings()
+        while not self.common.is_over:
+            self.loop.turn()
+        self.end_all()
+        self.common.close()
         if self.refusal:
             raise Fault(f"cannot open a window: {self.refusal}")
         return 0
+
+    def tell_notices(self) -> None:
+        """Tell what the end of an earlier host has cost."""
+        for notice in self.common.kept.notices:
+            self.common.tell(notice)
 
     def run_settings(self) -> None:
         """Run the shell commands of the settings file, once in a session's life."""
@@ -451,7 +476,7 @@ class Windows:
         if is_new and OWN.found and OWN.found.runs:
             from roam_live.host.start_commands import StartCommands
 
-            StartCommands(self.loop, OWN.found.runs, self.common.tell)
+            StartCommands(self.loop, OWN.found.runs, self.common.tell, self.common.link.most_files)
 
     def first(self, number: int, why: str) -> None:
         """Handle the first window, without which there is no session."""

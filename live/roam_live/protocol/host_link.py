@@ -5,6 +5,7 @@ import os
 
 from roam_live.common.event_loop import Loop
 from roam_live.common.io import read
+from roam_live.common.retry import Retry
 from roam_live.common.unix_socket import connected_to, is_anybody
 from roam_live.protocol.colours import COLOUR, Colours, told_in
 from roam_live.protocol.host_lines import SESSION, led
@@ -36,6 +37,9 @@ ANSWERS = (STORED, INSERTED, LOST, REFUSED)
 NO_HOST, LATER = "no host", "later"
 STORES_AGAIN = 0.3
 
+# Seconds after which the end of a connection is no failure.
+SOUND = 1.0
+
 # After so many failed connections in a row one may still come soon.
 FEW = 2
 
@@ -55,6 +59,8 @@ class HostLink(Subscription):
                  is_peer: Callable[[int], bool] = is_anybody) -> None:
         path = self.path = os.path.join(folder, "host") if folder else ""
         super().__init__(lambda: connected_to(path, is_peer), loop, lambda lines: None, self.forget)
+        # Another host follows one that was killed at once, at the same socket.
+        self.soon = Retry(sound=SOUND)
         self.begun = loop.clock()
         self.name, self.size, self.kind = terminal_name(), size, "read-only" if is_read_only else "read-write"
         # The views of each window that the user has visited, and of the current one.

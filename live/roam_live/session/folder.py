@@ -15,7 +15,7 @@ from roam_live.common.unix_socket import is_listened
 from roam_live.protocol.panes import ASKED, MOST_CLIENTS, asked_places
 from roam_live.session.environment import LINK
 from roam_live.session.front_end_lock import FRONT_ENDS, has_front_ends
-from roam_live.session.names import BUILD, LONGEST_PATH, REMOTE_CLIENTS, WINDOWS_VERSION
+from roam_live.session.names import BUILD, HOST_STATE, LONGEST_PATH, REMOTE_CLIENTS, WINDOWS_VERSION
 from roam_live.session.processes import START_WAIT, Processes
 from roam_live.session.roles import ROLES, client_words
 
@@ -32,7 +32,7 @@ ROOM_ASKED = 0.25
 # Seconds that the log of an ended session stays. Then the files that are written by way of a second file, whose name has a pid at its end;
 # a killed process leaves that one.
 LOG_KEPT = 86400.0
-WRITTEN = ("ended", "state.json", "session")
+WRITTEN = ("ended", "state.json", "session", HOST_STATE)
 
 # From this many clients on, `mux ls` prints the number that a server knows.
 MANY_CLIENTS = 32
@@ -234,7 +234,7 @@ class SessionFolder(Processes):
         if self.is_served():
             raise Fault(f"a process answers at {self.folder / 'clients'}; nothing was removed there")
         relays = self.folder / "relays"
-        notes = [self.folder / name for name in (*SOCKETS, LINK, REMOTE_CLIENTS, "session", "session.new", "state.json")]
+        notes = [self.folder / name for name in (*SOCKETS, LINK, REMOTE_CLIENTS, HOST_STATE, "session", "session.new", "state.json")]
         for path in [*(relays.iterdir() if relays.is_dir() else ()), *notes]:
             path.unlink(missing_ok=True)
 

@@ -4,9 +4,11 @@ from __future__ import annotations
 import os
 
 from roam_live.common.file_path import FilePath
+from roam_live.common.json_reader import read_json
 from roam_live.common.named_fields import NamedFields
 from roam_live.common.suppress import suppress
 from roam_live.common.text import printable
+from roam_live.session.names import HOST_STATE
 
 TYPE_CHECKING = False
 if TYPE_CHECKING:
@@ -25,20 +27,21 @@ STATE, GROUP, SESSION, FOREGROUND = 0, 2, 3, 5
 MOST_NAMED = 3
 
 
-def busy_panes(host: int, folder: str = "") -> dict[int, str] | None:
+def busy_panes(session: str, folder: str = "") -> dict[int, str] | None:
     """Return the panes in which a program other than a shell has the terminal, and its name.
 
-    The pty host's pid selects them, and a folder a single window. None if the system hides them, or hides the pane of such a program.
+    The session's folder selects them, and a window's folder a single window. None if the state of the pty host is unreadable, or if the
+    system hides the pane of such a program.
     """
-    busy = busy_programs(host)
+    busy = busy_programs(session)
     return None if busy is None else {pane: name for (where, pane), name in busy.items() if folder in ("", where)}
 
 
-def busy_programs(host: int) -> dict[tuple[str, int], str] | None:
+def busy_programs(session: str) -> dict[tuple[str, int], str] | None:
     """Return the same for all windows, by their folders and panes."""
     try:
-        own = FilePath(f"/proc/{host}/task/{host}/children").read_text(encoding="utf-8").split()
-    except OSError:
+        own = kept_programs(session)
+    except (OSError, ValueError, LookupError, TypeError, AttributeError):
         return None
     jobs = jobs_of(int(process) for process in own)
     found = {}
@@ -48,9 +51,16 @@ def busy_programs(host: int) -> dict[tuple[str, int], str] | None:
             if pane is None:
                 return None
             found[pane] = names
-    # A child that is about to execute a pane's command has no pane yet, and neither do other processes.
+    # A process that is about to execute a pane's command has no pane yet, and neither has another one of this number.
     found.pop(NOWHERE, None)
     return found
+
+
+def kept_programs(session: str) -> list[str]:
+    """Return the processes of the panes' commands, from the state of a session's pty host."""
+    state = read_json(FilePath(os.path.join(session, HOST_STATE)).read_text())
+    panes = [pane for window in state["windows"].values() for pane in window["panes"].values()]
+    return [str(pane["process"]) for pane in panes if pane["process"] and not pane["has_ended"]]
 
 
 def running(process: str, jobs: list[str]) -> str:

@@ -18,6 +18,12 @@ if TYPE_CHECKING:
 # The pauses before an ended pty host is restarted. The first one shows if the session itself has ended.
 PAUSES = (0.3, 1, 2, 4, 8, 15)
 
+# Seconds after which the end of a host is no failure.
+SOUND = 1.0
+
+REPLACED = "the pty host was replaced; the programs continue"
+ANEW = "the pty host was restarted: the shells are new, and input typed in between was dropped"
+
 # Seconds from typed input to the check for a stopped host, and between later checks. A user who types needs the reason for the silence.
 LOOKS = 4.0
 LOOKED = "host is stopped"
@@ -31,7 +37,7 @@ class HostWatchdog:
         self.session, self.loop, self.tells = session, loop, tells
         self.file: int | None = None
         # The number of early ends, or failed starts, in a row.
-        self.retry = Retry(PAUSES)
+        self.retry = Retry(PAUSES, SOUND)
         self.follow()
 
     def follow(self) -> bool:
@@ -75,11 +81,12 @@ class HostWatchdog:
             self.loop.later(LOOKED, LOOKS, self.look)
 
     def revive(self) -> None:
-        """Restart the pty host."""
+        """Restart the pty host, if no holder does."""
+        has_holder = bool(self.session.process("holder"))
         try:
             if self.session.revive_host():
                 if self.follow():
-                    self.tells("the pty host was restarted: the shells are new, and input typed in between was dropped")
+                    self.tells(REPLACED if has_holder else ANEW)
                 return
         except (Fault, OSError) as fault:
             why = reason(fault).removeprefix(f"session {self.session.name}: ")

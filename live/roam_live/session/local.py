@@ -12,10 +12,10 @@ from roam_live.common.suppress import suppress
 from roam_live.common.unix_socket import is_listened
 from roam_live.protocol.window_lines import MOST_WINDOWS, name_in
 from roam_live.session.folder import SessionFolder
-from roam_live.session.names import (BUILD, JOINED, LONGEST_PATH, SPARE, WINDOWS, WINDOWS_VERSION, base, check_name, is_spare_server,
-                                     numbers_in)
+from roam_live.session.names import (BUILD, JOINED, LONGEST_PATH, REPLACED, SPARE, WINDOWS, WINDOWS_VERSION, base, check_name,
+                                     is_spare_server, numbers_in)
 from roam_live.session.processes import end_left, noted_in
-from roam_live.session.roles import ROLES, host_words, server_words
+from roam_live.session.roles import HOLDER, ROLES, host_words, server_words
 
 TYPE_CHECKING = False
 if TYPE_CHECKING:
@@ -29,8 +29,9 @@ HOST_TOOL = b"pane_shells"
 # The interpreter and its options precede it, in fewer words.
 MOST_WORDS = 8
 
-# Seconds to wait for the pty host once it has nothing left to serve.
+# Seconds to wait for the pty host once it has nothing left to serve, and for the holder to start one.
 END_SOON = 1.0
+HOST_SOON = 3.0
 
 
 class SessionEnded(Fault):
@@ -96,7 +97,8 @@ class LocalSession(SessionFolder):
         with suppress(OSError):
             state = noted_in(self.note)
         if self.is_of_other(state):
-            raise Fault(f"session {self.name}: its files were removed, and another session has its name; `mux kill {self.name}` ends that one")
+            raise Fault(f"session {self.name}: its files were removed, and another session has its name; "
+                        f"`mux kill {self.name}` ends that one")
 
     def last(self) -> int:
         """Return the number of the window used last, as far as it is recorded."""
@@ -115,7 +117,7 @@ class LocalSession(SessionFolder):
 
         Those are known again afterwards.
         """
-        if self.process(self.served):
+        if self.process(self.served) or self.process(HOLDER):
             return True
         self.demand_read()
         with suppress(Fault):
@@ -169,7 +171,11 @@ class LocalSession(SessionFolder):
         self.spawned("host", host_words(self.folder, state.get("command", ()), more), begin)
 
     def demand_host(self) -> None:
-        """Check that the pty host runs, and that there is a window."""
+        """Check that the pty host runs, and that there is a window. A holder starts the host."""
+        end = time.monotonic() + HOST_SOON
+        while not self.runs("host") and self.process(HOLDER) and time.monotonic() < end:
+            time.sleep(0.01)
+            self.read()
         if not self.runs("host"):
             before = self.logged()
             self.spawn_host()
@@ -194,7 +200,7 @@ class LocalSession(SessionFolder):
     def revive_host(self) -> bool:
         """Restart the pty host if it has ended, and return True if it runs. It adopts the windows."""
         with suppress(BlockingIOError), self.locked(may_wait=False):
-            if not self.runs("host") and self.find():
+            if not self.runs("host") and not self.process(HOLDER) and self.find():
                 self.spawn_host()
         return self.runs("host")
 
@@ -206,8 +212,7 @@ class LocalSession(SessionFolder):
         """Return the windows and panes that run a program other than a shell, with its name; None if unknown."""
         from roam_live.session.foreground import busy_programs
 
-        host = self.process("host")
-        busy = busy_programs(host) if host else {}
+        busy = busy_programs(str(self.folder)) if self.runs("host") or self.process(HOLDER) else {}
         numbers = {str(window.folder): window.number for window in self.all_windows()}
         return None if busy is None else {(numbers.get(folder, 0), pane): name for (folder, pane), name in busy.items()}
 
@@ -233,6 +238,10 @@ class LocalSession(SessionFolder):
         self.note_end()
         scrollback_processes = self.scrollback_processes()
         self.end(self.served)
+        # A host that didn't end by itself has not told the holder, which starts another one.
+        for role in (HOLDER, self.served):
+            self.read()
+            self.end(role)
         for window in self.all_windows():
             window.end_all()
         end_left(scrollback_processes)
@@ -247,6 +256,12 @@ class LocalSession(SessionFolder):
         super().clean()
 
     # ---- its line in `mux ls`
+
+    def lacking(self) -> str:
+        """Return the remark of `mux ls` on a pty host that does not run, or that follows others which ended."""
+        count = (self.state or {}).get(REPLACED)
+        told = f", its pty host was replaced {'once' if count == 1 else f'{count} times'}"
+        return super().lacking() or (told if type(count) is int and count > 0 else "")
 
     def shown_window(self, windows: list[SessionFolder]) -> SessionFolder:
         """Return the window used last."""
@@ -317,7 +332,7 @@ class Window(SessionFolder):
 
     def process(self, role: str) -> int | None:
         """Return the process of a role; None if none runs."""
-        if role == "host" and self.session:
+        if role in ("host", HOLDER) and self.session:
             self.session.read()
             return self.session.process(role)
         return super().process(role)
@@ -328,13 +343,13 @@ class Window(SessionFolder):
 
         host = self.process("host")
         if self.session:
-            return busy_panes(host, str(self.folder)) if host else {}
+            return busy_panes(str(self.session.folder), str(self.folder)) if host or self.process(HOLDER) else {}
         if host is None and not self.is_found and (self.served in (self.state or {}) or "host" in (self.state or {})):
             # Its pty host has ended.
             return {}
         with suppress(Fault):
             host = self.listener(ROLES["host"].socket) if host is None else host
-        return None if host is None else busy_panes(host)
+        return None if host is None else busy_panes(str(self.folder))
 
     # ---- its processes
 

@@ -97,8 +97,14 @@ REMOTE_CLIENTS = "remote_clients"
 # The key in a session's note for the build of roam that last started its pty host or relay.
 BUILD = "build"
 
+# The key for the number of pty hosts that followed one which had ended, while the programs went on.
+REPLACED = "replaced"
+
 # The format version of such a session's note.
 WINDOWS_VERSION = 4
+
+# The file with the state of a pty host, which another one reads.
+HOST_STATE = "host.json"
 
 # The folder of window folders in a session's folder, and the numbers that name them.
 WINDOWS = "w"

@@ -27,6 +27,7 @@ ROLES = {role.name: role for role in (
     ProcessRole("server", "the server", "clients", "mux, for the first window; the pty host", "with its window"),
     ProcessRole("client", "the client process", "terminals", "mux, a front end or the pty host", "with its server"),
     ProcessRole("host", "the pty host", "host", "mux, a front end or the far relay", "with the last window"),
+    ProcessRole("holder", "the holder", "", "the pty host", "with the last window"),
     ProcessRole("relay", "the relay", "clients", "mux ssh", "an hour after the last terminal, or with the session"),
     ProcessRole("rows", "the scrollback process", "", "the pty host", "with the pty host"),
 )}
@@ -34,8 +35,11 @@ ROLES = {role.name: role for role in (
 # The roles of a window's processes.
 SERVER, CLIENT = "server", "client"
 
+# The role of the process that keeps a session's programs and starts its pty hosts.
+HOLDER = "holder"
+
 # The roles that a note may contain.
-NOTED = ("server", "relay", "host", "client")
+NOTED = ("server", "relay", "host", "client", HOLDER)
 
 
 def server_words(folder: Folder) -> list[str]:

@@ -12,6 +12,9 @@ from roam_live.common.suppress import suppress
 # The keys in the note.
 UMASK, LIMITS = "umask", "limits"
 
+# The most files that a process of a session opens.
+MOST_FILES = 1 << 14
+
 # The limits by the names of getrlimit(2).
 KINDS = {name: number for name, number in vars(resource).items() if name.startswith("RLIMIT_")}
 
@@ -42,6 +45,16 @@ def set_limit(number: int, soft: int, hard: int) -> None:
     own = resource.getrlimit(number)[1]
     with suppress(ValueError, OSError):
         resource.setrlimit(number, (own if is_above(soft, own) else soft, own))
+
+
+def raise_own() -> None:
+    """Let this process open as many files as it may, up to MOST_FILES, and write as large ones. A session of many panes needs that."""
+    soft, hard = resource.getrlimit(resource.RLIMIT_NOFILE)
+    most = MOST_FILES if hard == resource.RLIM_INFINITY else min(MOST_FILES, hard)
+    if is_above(most, soft):
+        set_limit(resource.RLIMIT_NOFILE, most, hard)
+    hard = resource.getrlimit(resource.RLIMIT_FSIZE)[1]
+    set_limit(resource.RLIMIT_FSIZE, hard, hard)
 
 
 def is_above(one: int, other: int) -> bool:

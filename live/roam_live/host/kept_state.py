@@ -1,0 +1,145 @@
+"""The file with the state of a pty host, which another host needs besides the descriptors at the holder.
+
+Texts are in memfds at the holder: the file has their names and lengths. It is written before a program is started, and soon after other
+changes.
+"""
+from __future__ import annotations
+
+import os
+
+from roam_live.common.errors import Fault, reason, say
+from roam_live.common.event_loop import Loop
+from roam_live.common.files import replace_text
+from roam_live.common.record import plain
+from roam_live.common.suppress import suppress
+from roam_live.host.holder_link import HolderLink, memfd_of
+from roam_live.host.state import MOST_STATE, SessionState, state_in
+from roam_live.protocol.paste_text import INSERTED
+from roam_live.session.names import HOST_STATE
+from roam_live.session.pane_ids import new_id
+
+# Seconds from a change to its write.
+SOON = 0.2
+WRITES = "the state is written"
+
+# A state that can't be read is kept under this name.
+BAD = "host.bad"
+
+# The names of texts at the holder, without their own.
+PASTE, BUFFER = "paste", "buffer"
+
+
+class KeptState:
+    """The state of a session's host, and its file."""
+
+    def __init__(self, folder: str, link: HolderLink, loop: Loop) -> None:
+        self.path, self.link, self.loop = os.path.join(folder, HOST_STATE), link, loop
+        # The folder may be another session's by now, after its own was removed.
+        self.folder = os.stat(folder)
+        self.state = SessionState()
+        self.was = ""
+        # Notices for the user about the end of an earlier host.
+        self.notices: list[str] = []
+        # The reason that the file can't be written now.
+        self.refused = ""
+        # True if the state of an earlier host isn't used.
+        self.is_lost = False
+        if link.is_resumed:
+            self.resume()
+        self.last_id = max((pane.id for window in self.state.windows.values() for pane in window.panes.values()), default=-1)
+
+    # ---- the state of an earlier host
+
+    def resume(self) -> None:
+        """Read the state of an earlier host. One that can't be read is kept beside it."""
+        try:
+            if self.link.is_bare:
+                raise Fault("pty hosts failed too often with it")
+            with open(self.path, encoding="utf-8") as file:
+                self.state = state_in(file.read(MOST_STATE))
+        except (Fault, OSError, ValueError) as fault:
+            self.is_lost = True
+            why = reason(fault) if isinstance(fault, OSError) else fault
+            self.notices.append(f"the state of the pty host before is not used, and is kept as {BAD}: {why}")
+            with suppress(OSError):
+                os.rename(self.path, os.path.join(os.path.dirname(self.path), BAD))
+        self.state.replaced += 1
+        self.claim_texts()
+
+    def claim_texts(self) -> None:
+        """Take the texts from the holder. One that was being typed is over: the rest of it is lost."""
+        if any(paste.is_placed for paste in self.state.pastes.values()):
+            self.notices.append("a paste was cut, since the pty host ended while it was typed")
+        for name, paste in list(self.state.pastes.items()):
+            data = self.text_of(f"{PASTE}:{name}")
+            if data is None or paste.is_placed:
+                del self.state.pastes[name]
+                self.state.spent_pastes[name] = INSERTED
+                self.link.drop(f"{PASTE}:{name}")
+            else:
+                paste.data[:] = data
+        texts = self.state.buffers.texts
+        for number in list(texts):
+            found = self.text_of(f"{BUFFER}:{number}")
+            if found is None:
+                del texts[number]
+            else:
+                texts[number] = found
+
+    def text_of(self, name: str) -> bytes | None:
+        """Return a text at the holder; None if it is not there."""
+        kept = self.link.claim(name)
+        return os.pread(kept.ends[0], os.fstat(kept.ends[0]).st_size, 0) if kept and kept.ends else None
+
+    # ---- its file
+
+    def next_id(self) -> int:
+        """Return the id of a new pane."""
+        self.last_id = new_id(self.last_id)
+        return self.last_id
+
+    def touch(self) -> None:
+        """Write the state soon."""
+        if WRITES not in self.loop.due:
+            self.loop.later(WRITES, SOON, self.write)
+
+    def write(self) -> None:
+        """Write the state if it has changed, and give the holder the texts before."""
+        self.loop.drop(WRITES)
+        self.keep_texts()
+        import json
+
+        state = plain(self.state)
+        assert isinstance(state, dict)
+        for paste in state["pastes"].values():
+            paste["data"] = ""
+        state["buffers"]["texts"] = dict.fromkeys(state["buffers"]["texts"], "")
+        text = json.dumps(state)
+        if text == self.was:
+            return
+        try:
+            if os.path.samestat(self.folder, os.stat(os.path.dirname(self.path))):
+                replace_text(self.path, text)
+                self.was, self.refused = text, ""
+        except OSError as fault:
+            if self.refused != reason(fault):
+                say(f"{self.path} cannot be written: {reason(fault)}")
+            self.refused = reason(fault)
+
+    def settle(self) -> None:
+        """Write it into the folder that this session has made anew."""
+        self.folder, self.was = os.stat(os.path.dirname(self.path)), ""
+        self.write()
+
+    def keep_texts(self) -> None:
+        """Give the holder the texts that it hasn't, and drop those that are gone."""
+        texts: dict[str, bytes] = {f"{PASTE}:{name}": bytes(paste.data) for name, paste in self.state.pastes.items() if not paste.is_placed}
+        texts |= {f"{BUFFER}:{number}": data for number, data in self.state.buffers.texts.items()}
+        for name in [name for name in self.link.own if name.partition(":")[0] in (PASTE, BUFFER) and name not in texts]:
+            kept = self.link.own[name]
+            self.link.drop(name)
+            for end in kept.ends:
+                os.close(end)
+        for name in texts.keys() - self.link.own.keys():
+            with suppress(OSError):
+                self.link.put(name, [memfd_of(texts[name])])
