@@ -105,15 +105,6 @@ def children(process):
     return [int(word) for word in pathlib.Path(f"/proc/{process}/task/{process}/children").read_text(encoding="utf-8").split()]
 
 
-def is_command(process):
-    """Return True if a process is a pane's, by its arguments: not a scrollback process, a server or a client process."""
-    try:
-        words = pathlib.Path(f"/proc/{process}/cmdline").read_bytes().split(b"\0")
-    except OSError:
-        return True
-    return words[1:2] not in ([b"rows"], [b"serve"], [b"attach"])
-
-
 def is_scrollback_process(process):
     """Return True if a process is a scrollback process, by its arguments."""
     try:
@@ -122,9 +113,9 @@ def is_scrollback_process(process):
         return False
 
 
-def commands(host):
-    """Return the commands of panes that the pty host has started, without its other children."""
-    return [process for process in children(host) if is_command(process)]
+def commands(name):
+    """Return the commands of a session's panes, which its holder has started."""
+    return children(noted(name)["holder"][0])
 
 
 def listed():

@@ -4,6 +4,7 @@ import functools
 import importlib.machinery
 import importlib.util
 import io
+import itertools
 import os
 import pathlib
 import re
@@ -19,6 +20,8 @@ from unittest import mock
 
 from roam_live.common.event_loop import Loop
 from roam_live.common.process import TOOLS
+from roam_live.host.holder_link import HolderLink, Kept
+from roam_live.host.kept_state import KeptState
 from roam_live.protocol.host_client import HostClient
 from roam_live.protocol.host_link import HostLink
 
@@ -67,6 +70,52 @@ class StillLoop(Loop):
         """Take so many turns."""
         for _ in range(count):
             self.turn()
+
+
+class PlayedHolder(HolderLink):
+    """The host's end of a holder that doesn't exist. A call returns the process and the terminal of each program, or raises OSError.
+
+    It records the lines to the holder, and the process of each pidfd, which is another file here.
+    """
+
+    def __init__(self, loop: Loop, forked: "typing.Callable[[tuple[int, int]], tuple[int, int]]") -> None:
+        self.forked = forked
+        self.lines: "list[str]" = []
+        self.files: "dict[int, int]" = {}
+        super().__init__(loop)
+
+    def start(self) -> None:
+        """Start none."""
+        self.process = 17
+
+    def send(self, line: bytes, ends: object = (), text: "bytes | None" = None) -> None:
+        """Record a line."""
+        self.lines.append(line.decode())
+
+    def spawn(self, name: str, size: "tuple[int, int]", text: bytes, started: "typing.Callable[[Kept | None, str], object]") -> None:
+        """Start a program at once."""
+        self.lines.append(f"spawn {name}")
+        try:
+            process, terminal = self.forked(size)
+        except OSError as fault:
+            started(None, fault.strerror)
+            return
+        file = os.open(os.devnull, os.O_RDONLY)
+        self.files[file] = process
+        self.own[name] = Kept([terminal, file], process)
+        started(self.own[name], "")
+
+    def ends(self, process: int, end: str = "0") -> None:
+        """End a program."""
+        for name in [name for name, kept in self.own.items() if kept.process == process]:
+            self.take_end(name, end)
+
+
+def kept_by(folder: "str | os.PathLike[str]", loop: Loop, forked: "typing.Callable[[tuple[int, int]], tuple[int, int]]") -> KeptState:
+    """Return the state of a host whose programs come from a call. The ids of its panes are 1, 2 and so on."""
+    kept = KeptState(str(folder), PlayedHolder(loop, forked), loop)
+    kept.next_id = itertools.count(1).__next__  # type: ignore[method-assign]
+    return kept
 
 
 class Case(unittest.TestCase):

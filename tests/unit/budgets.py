@@ -21,8 +21,8 @@ USUAL = {
     "mux send --help": (39400, 493),
     "front end: a key and its echo": (2995, 6),
     "front end: a painting of 200 bytes": (1294, 3),
-    "pty host: a key and its echo": (1946, 8),
-    "pty host: 200 bytes of output": (827, 4),
+    "pty host: a key and its echo": (2560, 16),
+    "pty host: 200 bytes of output": (1060, 7),
 }
 
 # The most counts that the tests accept, in parts of the usual ones: a regression that a user may feel is larger.

@@ -33,6 +33,7 @@ BEGIN = "the reset with which the start itself begins a record `anew`; another c
 # Each use: the file, the assigned name or the enclosing function, and its kind, `re` or an escape.
 KNOWN = {
     ("roam_live/common/patterns.py", "LazyPattern.__getattr__", "re"): "compiles the pattern of another module, which is listed there",
+    ("roam_live/session/pane_ids.py", "ID", "re"): "reads the ids of panes in the state that a pty host wrote as JSON",
     ("roam_live/frontend/outer_terminal.py", "", "ESC"): WRITES,
     ("roam_live/frontend/outer_terminal.py", "shaped", "ESC"): WRITES,
     ("roam_live/frontend/outer_terminal.py", "titled", "ESC"): WRITES,

@@ -226,6 +226,8 @@ class PtyHost(Limited, Host):
         for number in range(2, MANY + 2):
             self.window(number)
         self.turn(5)
+        # Otherwise a timer writes the state later.
+        self.host.common.kept.write()
 
     def test_costs(self):
         """They are within their limits, also with twelve windows beside; each turn has one ready end."""

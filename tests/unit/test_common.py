@@ -1,5 +1,6 @@
 """The common code of the tools for programs, sockets and processes: server addresses, presence notes, and the ends of tools."""
 import fcntl
+import json
 import os
 import pathlib
 import signal
@@ -489,6 +490,13 @@ class Steps(Case):
         self.assertEqual({signal.getsignal(number) for number in before}, {signal.SIG_DFL})
 
 
+def state_of(*processes):
+    """Return the state of a pty host whose panes run these processes, and one whose command has ended."""
+    found = [(one, False) for one in processes] + [(None, False), (8, True)]
+    panes = [{"process": process, "has_ended": has_ended} for process, has_ended in found]
+    return json.dumps({"windows": {"1": {"panes": dict(enumerate(panes))}}})
+
+
 class Running(Case):
     """The programs in panes."""
 
@@ -504,16 +512,16 @@ class Running(Case):
         self.patch_of(FilePath, "read_bytes", lambda path: (lambda text: text.encode() if isinstance(text, str) else text)(read(path)))
 
     def test_busy(self):
-        """The panes with a program other than a shell in the foreground, among the pty host's children."""
+        """The panes with a program other than a shell in the foreground, among those of the pty host's state."""
         stat = "({0}) S 1 {1} {1} 34816 {2} 4194304"
         panes = {f"{one}0/environ": f"A=b\0ROAM_PANE=/x:y/main:{one}\0" for one in range(1, 5)}
-        self.proc({"7/task/7/children": "10 20 30 40 50 ", **panes,
+        self.proc({"/s/host.json": state_of(10, 20, 30, 40, 50), **panes,
                    "10/stat": "10 " + stat.format("sh", 10, 10), "10/comm": "bash\n", "20/stat": "20 " + stat.format("a) (b", 20, 21),
                    "21/comm": "vi\n", "30/stat": "30 " + stat.format("-zsh", 30, 30), "30/comm": "-zsh\n",
                    "40/stat": "40 " + stat.format("sh", 40, 41), "50/stat": "50 " + stat.format("sh", 50, 50), "50/comm": "vi\n"})
         self.environment(SHELL="/opt/mine")
-        self.assertEqual(foreground.busy_panes(7), {2: "vi", 4: "a program"})
-        self.assertIsNone(foreground.busy_panes(8))
+        self.assertEqual(foreground.busy_panes("/s"), {2: "vi", 4: "a program"})
+        self.assertIsNone(foreground.busy_panes("/other"))
         self.assertEqual((foreground.foreground(10), foreground.foreground(99)), ("bash", ""))
         self.assertEqual((foreground.pane_of(30), foreground.pane_of(50)), (("/x:y/main", 3), ("", 0)))
 
@@ -534,12 +542,12 @@ class Running(Case):
             stats[number] = f"{number} ({name}) {state} 7 {group} {session} 34817 {front} 4194304 1 0"
         names = {f"{number}/comm": text.partition("(")[2].rpartition(")")[0] + "\n" for number, text in stats.items()}
         texts = {f"{number}/stat": text for number, text in stats.items()}
-        self.proc({"7/task/7/children": "10 20 30 40 50 60 ", **panes, **texts, **names})
+        self.proc({"/s/host.json": state_of(10, 20, 30, 40, 50, 60), **panes, **texts, **names})
         self.assertEqual([foreground.jobs_of([leader])[leader] for leader in (10, 20, 30, 40, 50, 60, 70)],
                          [["vim (stopped)"], ["(a) (background)", "make (background)"], [], ["fish", "vi (stopped)"], [],
                           ["cat (background)"], []])
-        self.assertEqual(foreground.busy_panes(7), {1: "vim (stopped)", 2: "(a) (background), make (background)", 4: "fish, vi (stopped)",
-                                                  6: "htop, cat (background)"})
+        self.assertEqual(foreground.busy_panes("/s"), {1: "vim (stopped)", 2: "(a) (background), make (background)",
+                                                       4: "fish, vi (stopped)", 6: "htop, cat (background)"})
 
     def test_many_jobs(self):
         """A question names three jobs of a pane, and the number of further ones."""

@@ -1,9 +1,11 @@
 """The pty host of a session: its processes and their folders, the queue of a program that doesn't read, and its reports."""
 import contextlib
 import io
+import json
 import os
 import pathlib
 import pty
+import signal
 import socket
 import subprocess
 import sys
@@ -11,10 +13,11 @@ import tempfile
 import unittest
 import unittest.mock
 
-from aids import StillLoop, comes
+from aids import PlayedHolder, StillLoop, comes
 from roam_live.common.process import TOOLS
 from roam_live.host import pane as host_pane
 from roam_live.host.input_queue import TypedQueue
+from roam_live.host.pane_hold import PaneHold
 from roam_live.host.state import PaneState, SessionState
 from roam_live.host.uploads import PendingPastes
 from roam_live.session.environment import PaneEnvironment
@@ -69,16 +72,6 @@ class Working(unittest.TestCase):
             os.close(master)
         self.assertIsNone(group_in_front(1 << 20))
 
-    def test_entered(self):
-        """A folder that is entered is in the environment; a failed one changes nothing."""
-        here = os.getcwd()
-        self.addCleanup(os.chdir, here)
-        for folder in ("", str(self.folder / "none")):
-            self.assertEqual(host_pane.entered(folder), {})
-            self.assertEqual(os.getcwd(), here)
-        self.assertEqual(host_pane.entered(str(self.folder)), {"PWD": str(self.folder)})
-        self.assertEqual(os.getcwd(), str(self.folder))
-
 
 class Typed(unittest.TestCase):
     """Input that a pane's programs do not read."""
@@ -86,8 +79,9 @@ class Typed(unittest.TestCase):
     def test_dropped(self):
         """65,536 bytes wait; more is dropped, which is reported once until all is read."""
         typed = TypedQueue(PendingPastes(SessionState(), StillLoop(), lambda name, word: None), lambda: False)
-        state = PaneState(number=4, generation=1, size=(23, 80))
-        pane = host_pane.PaneCommand(host_pane.Options(folder="/no"), StillLoop(), state, False, typed)
+        state = PaneState(id=7, number=4, generation=1, size=(23, 80))
+        hold = PaneHold(PlayedHolder(StillLoop(), lambda size: (70, 71)), unittest.mock.Mock(), 7)
+        pane = host_pane.PaneCommand(host_pane.Options(folder="/no"), StillLoop(), state, False, typed, hold)
         said = io.StringIO()
         with contextlib.redirect_stderr(said):
             for _ in range(3):
@@ -115,13 +109,13 @@ class Server:
         one = socket.socket(socket.AF_UNIX, socket.SOCK_STREAM)
         one.bind(str(self.folder / name))
         one.listen()
-        one.settimeout(10)
+        one.settimeout(30)
         return one
 
     def taken(self, name):
         """Return the connection at a socket."""
         one = self.listeners[name].accept()[0]
-        one.settimeout(10)
+        one.settimeout(30)
         return one
 
     def close(self):
@@ -147,7 +141,8 @@ class Kept(unittest.TestCase):
         with open(self.folder / "said", "wb") as said:
             process = subprocess.Popen(words, stdout=said, stderr=said, env=known)
         self.addCleanup(process.wait)
-        self.addCleanup(process.kill)
+        # It ends its holder, too.
+        self.addCleanup(process.terminate)
         return process
 
     def said(self):
@@ -224,18 +219,46 @@ class Kept(unittest.TestCase):
         subscriber = self.told(b"1 1 1 23 80 1\nfocus 1\n")
         there = os.fsencode(os.path.realpath(self.folder / "there"))
         self.assertTrue(self.shows(self.server.taken("p1"), there + b"=" + there + b"."))
-        child = int(self.children_of(self.held_process())[0])
+        child = json.loads((self.folder / "host.json").read_text(encoding="utf-8"))["windows"]["0"]["panes"]["1"]["process"]
         self.assertTrue(comes(lambda: os.readlink(f"/proc/{child}/cwd") == "/usr"))
         subscriber.send(b"1 1 1 23 39 1\n2 1 41 23 39 1\nfocus 2\n")
         self.assertTrue(self.shows(self.server.taken("p2"), b"/usr=/usr."))
 
-    def held_process(self):
-        """Return the tool's process."""
-        own = pathlib.Path(f"/proc/{os.getpid()}/task/{os.getpid()}/children").read_text(encoding="utf-8").split()
-        return next(one for one in own if b"pane_shells" in pathlib.Path(f"/proc/{one}/cmdline").read_bytes())
+    def host(self):
+        """Return the pty host that the state of its programs' holder belongs to: the newest one."""
+        own = [int(name) for name in os.listdir("/proc") if name.isdigit()]
+        return max((one for one in own if is_tool(one, str(self.folder))), default=0)
 
-    def children_of(self, process):
-        """Return the children of a process."""
-        path = pathlib.Path(f"/proc/{process}/task/{process}/children")
-        comes(lambda: path.read_text(encoding="utf-8").split())
-        return path.read_text(encoding="utf-8").split()
+    def test_killed(self):
+        """A host that is killed ends no program: another one has its terminal, its connection, and what was printed and typed meanwhile."""
+        process = self.run_tool("--server", str(os.getpid()), str(self.folder), "sh", "-c", "stty raw -echo; echo here; exec cat")
+        subscriber = self.told(b"1 1 1 23 80 1\nfocus 1\n")
+        pane = self.server.taken("p1")
+        self.assertTrue(self.shows(pane, b"here"))
+        for count in range(5):
+            before = self.host()
+            pane.send(b"before%d " % count)
+            if count == 3:
+                # Without the state a program is known by its environment.
+                (self.folder / "host.json").write_text("{", encoding="ascii")
+            os.kill(before, signal.SIGKILL)
+            if before == process.pid:
+                process.wait()
+            pane.send(b"between%d " % count)
+            subscriber = self.told(b"1 1 1 23 80 1\nfocus 1\n")
+            pane.send(b"after%d." % count)
+            self.assertTrue(self.shows(pane, b"before%d between%d after%d." % (count, count, count)), count)
+            self.assertTrue(comes(lambda: self.host() not in (0, before)))
+        subscriber.close()
+        os.kill(self.host(), signal.SIGTERM)
+        self.assertEqual(pane.recv(16), b"")
+        self.assertTrue(comes(lambda: not self.host() and not (self.folder / "host.json").exists()))
+
+
+def is_tool(process, folder):
+    """Return True if a process is the pty host of a folder."""
+    try:
+        words = pathlib.Path(f"/proc/{process}/cmdline").read_bytes().split(b"\0")
+    except OSError:
+        return False
+    return any(word.endswith(b"/pane_shells") for word in words[:4]) and os.fsencode(folder) in words

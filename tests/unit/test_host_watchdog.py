@@ -22,7 +22,7 @@ class AnySession:
 
     def process(self, role):
         """Return the process of a role."""
-        return self.processes[role]
+        return self.processes.get(role)
 
     def owns_host(self):
         """Return True if it is restarted here."""

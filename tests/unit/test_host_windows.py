@@ -12,7 +12,7 @@ import sys
 from unittest import mock
 
 import aids
-from aids import Asker, Case, StillLoop, unled
+from aids import Asker, Case, StillLoop, kept_by, unled
 from roam_live.common import files, process as common_process
 from roam_live.common.errors import Fault
 from roam_live.common.process import begun, note_ends
@@ -47,15 +47,14 @@ class Played(Case):
         self.folder, self.said = self.made_folder(), self.heard()
         self.wakeup = self.pipe()[0]
         self.made, self.spawned, self.killed = [], [], []
-        self.patch_of(host_pane.spawn, "forked", side_effect=self.forked)
-        for module in (host_window, host_common):
-            self.patch_of(module, "has_ended", return_value=False)
+        self.patch_of(host_common, "has_ended", return_value=False)
+        self.patch_of(host_pane.signal, "pidfd_send_signal", side_effect=lambda file, number: os.kill(self.common.link.files[file], number))
         self.patch_of(WindowProcesses, "spawn", lambda processes, role, words: self.spawn(processes, role))
         self.patch_of(roles, "program", lambda: "/roam")
         self.patch_of(hosted_window, "is_running", lambda process, moment: process in self.alive)
         self.patch("os.kill", self.kill)
         self.alive, self.servers = set(), {}
-        self.common = host_window.Common(self.wakeup, StillLoop(lambda: self.now))
+        self.common = host_window.Common(self.wakeup, kept_by(self.folder, StillLoop(lambda: self.now), self.forked))
         self.windows = Windows(host_pane.Options(folder=str(self.folder), command=["sh"]), self.common)
         self.addCleanup(self.leave)
 
@@ -311,14 +310,13 @@ class Opened(Played):
         """A window whose first command ends before the host has looked is opened, and ends as intended."""
         told = []
         self.windows.open(None, 0, lambda *words: told.append(words))
-        ends = self.patch_of(host_window, "has_ended", return_value=True)
         with mock.patch.object(WindowHost, "has_begun", return_value=False):
             self.comes_up(1)
-        self.assertEqual(self.windows.windows[1].host.panes[1].written, 0)
+        self.assertEqual(self.windows.windows[1].host.panes[1].written(), 0)
         os.close(self.made[0][1].detach())
-        self.windows.windows[1].host.reap()
+        self.common.link.ends(71)
         self.turns(6)
-        self.assertEqual((told, ends.called, self.common.is_over), ([(1, "")], True, True))
+        self.assertEqual((told, self.common.is_over), ([(1, "")], True))
 
     def test_given_and_ended(self):
         """A session whose first server ends before the host has seen it fails at once, and not after ten seconds."""
@@ -575,7 +573,7 @@ class Told(Played):
         one.send(b"who\nhere a:/dev/pts/1 24 80 read-write\n")
         two.send(b"who\nhere b:/dev/pts/2 24 80 read-write\n")
         self.turns(2)
-        told = f"host {self.common.socket.name}\nothers 0\n".encode()
+        told = f"host {self.common.state.name}\nothers 0\n".encode()
         self.assertEqual([read_now(one), read_now(two)], [told, told])
         self.assertEqual(host_pane.surroundings(self.windows.windows[2].host.asked, 3, mock.Mock(set_values=dict))["ROAM_PANE"],
                          f"{self.folder}/w/2:3")
@@ -622,7 +620,7 @@ class Told(Played):
         """A terminal that comes before its window is there once that opens; without a number it goes to the one used last."""
         self.opened()
         early = self.asker(2, b"here a:/dev/pts/1 24 80 read-write\nwho\n")
-        self.assertEqual(aids.read_now(early), f"0 host {self.common.socket.name}\n".encode())
+        self.assertEqual(aids.read_now(early), f"0 host {self.common.state.name}\n".encode())
         self.opened((24, 80))
         self.assertTrue(self.windows.windows[2].has_terminals())
         nameless = self.asker(0, b"here b:/dev/pts/2 24 80 read-write\nwho\n")

@@ -11,6 +11,7 @@ from roam_live.common import tty
 from roam_live.common.event_loop import comes
 from roam_live.host import input_queue, pane
 from roam_live.host.input_queue import Placeholders, TypedQueue
+from roam_live.host.pane_hold import PaneHold
 from roam_live.host.state import PaneState, PendingPaste, SessionState
 from roam_live.host.uploads import KEPT, PendingPastes
 from roam_live.protocol import paste_text
@@ -103,7 +104,8 @@ class Unread(Case):
         self.texts = PendingPastes(SessionState(), self.loop, lambda name, word: None)
         self.queue = TypedQueue(self.texts, lambda: True)
         asked = pane.Options(folder="/nowhere", command=["sh"])
-        self.pane = pane.PaneCommand(asked, self.loop, PaneState(number=1, generation=4, size=(24, 80)), False, self.queue)
+        state, hold = PaneState(id=7, number=1, generation=4, size=(24, 80)), PaneHold(mock.Mock(), mock.Mock(), 7)
+        self.pane = pane.PaneCommand(asked, self.loop, state, False, self.queue, hold)
         self.master, self.slave = os.openpty()
         for end in (self.master, self.slave):
             self.addCleanup(os.close, end)

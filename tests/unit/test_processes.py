@@ -111,7 +111,7 @@ class Read(Based):
         busy = self.patch("roam_live.session.foreground.busy_panes", return_value={1: "vi"})
         self.note(server=OWN, host=OWN)
         self.assertEqual(self.session().busy(), {1: "vi"})
-        busy.assert_called_once_with(os.getpid())
+        busy.assert_called_once_with(str(self.folder))
         self.assertIsNone(RemoteSession(self.base / "ssh:a:b").busy())
 
     def test_busy_unknown(self):
@@ -260,7 +260,7 @@ class Starts(Based):
         self.assertEqual(roles.relay_words("d", "l", 5, "h", ["ssh"]),
                          [f"{tools}/relay", "--alone", "5", "--log", "l", "--host=h", "--dir", "d", "-", "ssh"])
         self.assertEqual({name: role.socket for name, role in roles.ROLES.items()},
-                         {"server": "clients", "client": "terminals", "host": "host", "relay": "clients", "rows": ""})
+                         {"server": "clients", "client": "terminals", "host": "host", "holder": "", "relay": "clients", "rows": ""})
 
     def test_terminals(self):
         """The client process is started if it is missing, and awaited."""

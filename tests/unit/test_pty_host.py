@@ -6,14 +6,15 @@ import socket
 import struct
 from unittest import mock
 
-from aids import Asker, Case, StillLoop, led_text, loaded, read_now, unled
+from aids import Asker, Case, PlayedHolder, StillLoop, kept_by, led_text, loaded, read_now, unled
 from filtered import played
 from roam_live.common.errors import Fault
 from roam_live.common.event_loop import READ, WRITE
 from roam_live.common.process import begun
 from roam_live.common.record import written
-from roam_live.host import common, options, pane as host_pane, scrollback, window
+from roam_live.host import options, pane as host_pane, scrollback, window
 from roam_live.host.input_queue import TypedQueue
+from roam_live.host.pane_hold import PaneHold
 from roam_live.host.state import PaneState, SessionState, state_in
 from roam_live.host.uploads import PendingPastes
 from roam_live.session import tmp_keepalive
@@ -42,18 +43,17 @@ class Host(Case):
         self.wakeup, self.wakes = self.pipe()
         self.said = self.heard()
         self.made = []
-        self.patch_of(host_pane.spawn, "forked", side_effect=self.forked)
         self.kills = self.patch("os.kill")
-        self.ended = {}
-        for module in (window, common):
-            self.patch_of(module, "has_ended", side_effect=lambda process: self.ended.get(process, False))
+        self.patch_of(host_pane.signal, "pidfd_send_signal", side_effect=lambda file, number: os.kill(self.link.files[file], number))
         self.host = self.kept()
         self.server = self.taken(self.listeners["panes"])
 
     def kept(self, **more):
         """Return a host."""
         asked = host_pane.Options(folder=str(self.folder), command=["sh"], **more)
-        host = window.WindowHost(asked, window.Common(self.wakeup, StillLoop()))
+        kept = kept_by(self.folder, StillLoop(), lambda size: self.forked(size))
+        self.link = kept.link
+        host = window.WindowHost(asked, window.Common(self.wakeup, kept))
         self.addCleanup(self.leave, host)
         return host
 
@@ -122,7 +122,8 @@ class Panes(Host):
         panes = self.begin()
         self.tell("2 gone", "focus 1")
         self.assertEqual([call[0] for call in self.kills.call_args_list], [(72, signal.SIGHUP), (72, signal.SIGCONT)])
-        self.assertEqual((panes[1].recv(1), list(self.host.panes), self.host.common.hung), (b"", [1], [72]))
+        self.assertEqual((panes[1].recv(1), list(self.host.panes)), (b"", [1]))
+        self.assertEqual(self.link.lines[-3:], ["close terminal:%2", "drop terminal:%2", "drop logs:%2"])
         self.tell("1 1 1 23 80 6", "focus 1")
         self.assertEqual((panes[0].recv(1), self.host.panes[1].state.process, self.host.panes[1].state.generation), (b"", 73, 6))
         self.kills.side_effect = PermissionError(1, "another's")
@@ -134,7 +135,7 @@ class Panes(Host):
         one = Asker(self, self.folder)
         one.send(b"here a:/dev/pts/1 24 80 read-write\nwho\n")
         self.turn()
-        self.assertEqual(unled(read_now(one)), f"host {self.host.common.socket.name}\nothers 0\n".encode())
+        self.assertEqual(unled(read_now(one)), f"host {self.host.common.state.name}\nothers 0\n".encode())
 
     def test_commands(self):
         """It reports foreground programs, and looks them up again after input or output."""
@@ -248,20 +249,20 @@ class Panes(Host):
         """A pane that takes nothing has 16,384 bytes wait, and then its program waits; one that reads nothing 65,536."""
         pane = self.host.panes.get(1) or (self.begin(), self.host.panes[1])[1]
         peer, terminal = (self.host.loop.sources[end] for end in (pane.peer.fileno(), pane.terminal))
-        pane.to_pane += bytes(16383)
+        pane.output.append(bytes(16383))
         self.assertEqual((peer.events(), terminal.events()), (READ | WRITE, READ))
-        pane.to_pane += b"x"
+        pane.output.append(b"x")
         self.assertEqual((peer.events(), terminal.events()), (READ | WRITE, 0))
-        pane.to_pane.clear()
+        pane.output.drop()
         self.assertEqual((peer.events(), terminal.events()), (READ, READ))
         pane.to_terminal.take(b"x")
         self.assertEqual((peer.events(), terminal.events()), (READ, READ | WRITE))
-        pane.to_pane += b"x"
+        pane.output.append(b"x")
         self.assertEqual((peer.events(), terminal.events()), (READ | WRITE, READ | WRITE))
         pane.is_dropping = True
         pane.see_to_ends()
         self.turn(1)
-        self.assertEqual((len(pane.to_terminal), pane.is_dropping, pane.written), (0, False, 1))
+        self.assertEqual((len(pane.to_terminal), pane.is_dropping, pane.written()), (0, False, 16385))
 
     def test_no_reader(self):
         """Input that a pane's program doesn't read is still taken from the server, and dropped above a limit; other panes continue."""
@@ -270,13 +271,13 @@ class Panes(Host):
             panes[0].send(b"x" * 4000)
             self.turn(2)
         pane = self.host.panes[1]
-        self.assertEqual(len(pane.to_terminal), 65536)
+        self.assertEqual(pane.typed.waits() + len(pane.to_terminal), 65536)
         panes[1].send(b"goes on")
         self.turn()
         self.assertEqual(read_now(self.made[1]), b"goes on")
         self.assertEqual(self.said.getvalue().count("pane 1: its program does not read input; above 65536 bytes it is dropped\n"), 1)
         self.assertTrue(pane.is_dropping)
-        while pane.to_terminal:
+        while pane.is_typed():
             read_now(self.made[0])
             self.turn()
         self.assertFalse(pane.is_dropping)
@@ -351,7 +352,7 @@ class Panes(Host):
         self.assertEqual(self.said.getvalue().count("is not shown"), 1)
         pane = self.host.panes[1]
         for written, unread in ((0, False), (1, True), (16384, True), (16385, False)):
-            pane.written = written
+            pane.output.sent = written
             with mock.patch.object(host_pane.fcntl, "ioctl", return_value=struct.pack("i", 1)):
                 self.assertEqual(pane.is_unread(), unread, written)
 
@@ -361,11 +362,11 @@ class Refused(Host):
 
     def test_command(self):
         """A command that fails to start is reported in its pane, and a key retries it."""
-        self.patch_of(host_pane.spawn, "forked", side_effect=OSError(11, "Resource temporarily unavailable"))
+        self.link.forked = mock.Mock(side_effect=OSError(11, "Resource temporarily unavailable"))
         panes = self.begin()
         self.turn()
         self.assertEqual(read_now(panes[0]), b"[not run: Resource temporarily unavailable; a key tries again]\r\n")
-        self.patch_of(host_pane.spawn, "forked", side_effect=self.forked)
+        self.link.forked = self.forked
         panes[0].send(b"x")
         self.turn()
         self.assertEqual((self.host.panes[1].state.process, self.host.panes[2].state.process, read_now(self.made[0])), (71, None, b""))
@@ -421,10 +422,9 @@ class Ended(Host):
 
     def end(self, process, is_left=False):
         """End a command, with nobody else at its terminal."""
-        self.ended[process] = True
         if not is_left:
             self.made[process - 71].close()
-        os.write(self.wakes, bytes([signal.SIGCHLD]))
+        self.link.ends(process)
         self.turn()
 
     def test_stays(self):
@@ -485,7 +485,7 @@ class Ended(Host):
         self.assertEqual((self.host.loop.due["last of pane 1"][0], pane.terminal is None), (self.now + 0.25, False))
         pane.hears = lambda: True
         self.now += 0.25
-        self.turn(1)
+        self.turn(2)
         self.assertIsNone(pane.terminal)
         self.assertNotIn("last of pane 1", self.host.loop.due)
 
@@ -619,6 +619,7 @@ class Waits(Host):
 
     def test_moments(self):
         self.begin()
+        self.host.common.kept.write()
         self.host.lasting.due = 160.0
         self.assertAlmostEqual(self.wait_time(), 3.0)
         self.now += 3.0
@@ -670,10 +671,9 @@ class Rows(Host):
         self.assertEqual(self.handed(), b"size 0 10 39\n")
         self.made[0].send(b"last")
         self.turn()
-        self.ended[71] = True
-        os.write(self.wakes, bytes([signal.SIGCHLD]))
-        self.assertEqual(self.handed(), b"bytes 0 %d\nlast%s" % (4 + len(window.ENDED), window.ENDED))
-        self.assertEqual(read_now(panes[0]), b"outlast" + window.ENDED)
+        self.link.ends(71)
+        self.assertEqual(self.handed(), b"bytes 0 %d\nlast%s" % (4 + len(host_pane.ENDED), host_pane.ENDED))
+        self.assertEqual(read_now(panes[0]), b"outlast" + host_pane.ENDED)
 
     def test_behind(self):
         """A pane isn't read while the scrollback process is behind, for a second at most."""
@@ -769,6 +769,7 @@ class Words(Case):
         folder = self.made_folder()
         self.words("pane_shells", str(folder))
         made, woken = self.patch_of(tool, "kept", return_value=0), self.patch_of(tool, "woken", return_value=self.pipe()[0])
+        self.patch_of(tool, "HolderLink", lambda loop: PlayedHolder(loop, mock.Mock()))
         self.assertEqual(tool.main(), 0)
         self.assertEqual(os.listdir(folder), [])
         self.assertEqual((made.call_args[0][0].dir, woken.call_args[0]), (str(folder), (signal.SIGCHLD, signal.SIGTERM, signal.SIGHUP)))
@@ -783,19 +784,17 @@ class Words(Case):
         self.assertTrue(options.has_ended(process.pid))
         self.assertFalse(options.has_ended(self.process().pid))
 
-    def test_child(self):
-        """The child executes the command, with the pane's size and in its folder, and ends if that fails."""
-        asked = host_pane.Options(folder="/d", command=["vi"])
-        pane = host_pane.PaneCommand(asked, StillLoop(), PaneState(number=3, generation=1, size=(5, 40), folder="/tmp"), False, queue())
-        with mock.patch.object(host_pane.spawn, "forked", return_value=(0, 0)) as forks, \
-                mock.patch.object(host_pane.spawn, "become") as becomes, \
-                mock.patch.object(host_pane.os, "_exit", side_effect=InterruptedError) as exits, \
-                mock.patch.object(host_pane.os, "chdir") as enters:
-            with self.assertRaises(InterruptedError):
+    def test_spawned(self):
+        """The holder gets the pane's size and folder, the command with the shell instead, and the environment."""
+        for command, folder, expected in ((["vi"], "/tmp", ["/tmp", "", "1", "vi"]), ([], "", ["", "/bin/sh", "1", "/bin/zsh"])):
+            with mock.patch.dict(os.environ, {"SHELL": "/bin/zsh"}):
+                asked = host_pane.Options(folder="/d", command=command)
+            link = PlayedHolder(StillLoop(), lambda size: (70, 71))
+            state = PaneState(id=7, number=3, generation=1, size=(5, 40), folder=folder)
+            pane = host_pane.PaneCommand(asked, StillLoop(), state, False, queue(), PaneHold(link, mock.Mock(), 7))
+            with mock.patch.object(link, "spawn") as spawns:
                 pane.run()
-        exits.assert_called_once_with(127)
-        enters.assert_called_once_with("/tmp")
-        forks.assert_called_once_with((5, 40))
-        command, environment, instead = becomes.call_args[0]
-        self.assertEqual((command, instead), (["vi"], None))
-        self.assertEqual((environment["PWD"], environment["ROAM_PANE"]), ("/tmp", "/d:3"))
+            name, size, text, _ = spawns.call_args[0]
+            *words, environment = text.decode().split("\0", 4)
+            self.assertEqual((name, size, words), ("terminal:%7", (5, 40), expected))
+            self.assertIn("ROAM_PANE=/d:3", environment.split("\0"))

@@ -21,7 +21,8 @@ class PlayedPane(PaneCommand):
     def __init__(self, loop):
         asked = mock.Mock(dir="/none")
         asked.named.return_value = "pane 1"
-        super().__init__(asked, loop, PaneState(number=1, generation=5, size=WIDE), False, mock.Mock())
+        super().__init__(asked, loop, PaneState(id=7, number=1, generation=5, size=WIDE), False, mock.Mock(),
+                         mock.Mock())
         self.sizes, self.shown = [], []
 
     def resize(self, size):

@@ -54,6 +54,12 @@ class Folder(unittest.TestCase):
         self.addCleanup(listener.close)
         listener.bind(str(self.folder / "host"))
         listener.listen()
+        self.keep_state()
+
+    def keep_state(self, *processes):
+        """Write the state of a pty host whose panes run these processes."""
+        panes = {one: {"process": process.pid, "has_ended": False} for one, process in enumerate(processes, 1)}
+        (self.folder / "host.json").write_text(json.dumps({"windows": {"0": {"panes": panes}}}), encoding="ascii")
 
     def child(self, **environment):
         """Return a child of this process that isn't a shell."""
@@ -84,23 +90,26 @@ class Busy(Folder):
         """The pty host is found by its socket."""
         self.keep_host()
         self.assertEqual(self.by_hand().busy(), {})
-        self.child(ROAM_PANE=f"{self.folder}:2")
+        self.keep_state(self.child(ROAM_PANE=f"{self.folder}:2"))
         self.assertEqual(self.by_hand().busy(), {2: "a program"})
 
     def test_untold(self):
-        """The system may hide the programs, or the pane of one."""
-        self.assertIsNone(busy_panes(1 << 30))
-        self.child(ROAM_PANE=f"{self.folder}:2")
+        """The state of the host may be unreadable or malformed, and the system may hide the pane of a program."""
+        self.assertIsNone(busy_panes(str(self.folder)))
+        for text in ("{", "[]", "{}", '{"windows": 1}', '{"windows": {"1": {"panes": {"1": {}}}}}'):
+            (self.folder / "host.json").write_text(text, encoding="ascii")
+            self.assertIsNone(busy_panes(str(self.folder)), text)
+        self.keep_state(self.child(ROAM_PANE=f"{self.folder}:2"))
         with mock.patch("roam_live.common.file_path.FilePath.read_bytes", side_effect=PermissionError):
-            self.assertIsNone(busy_panes(os.getpid()))
+            self.assertIsNone(busy_panes(str(self.folder)))
 
     def test_no_pane_yet(self):
         """A process about to execute a pane's command, and an ended one, are in no pane."""
-        self.child()
         ended = self.child(ROAM_PANE=f"{self.folder}:2")
         ended.kill()
         os.waitid(os.P_PID, ended.pid, os.WEXITED | os.WNOWAIT)
-        self.assertEqual(busy_panes(os.getpid()), {})
+        self.keep_state(self.child(), ended)
+        self.assertEqual(busy_panes(str(self.folder)), {})
 
     def test_elsewhere(self):
         """The programs of a remote session, or one at a port, are unknown."""

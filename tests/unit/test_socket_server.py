@@ -40,7 +40,7 @@ class Sockets(Case):
         self.socket = HostSocket(self.loop, rows)
         self.channel = WindowChannel(self.socket)
         self.socket.listen(self.folder)
-        self.socket.name = name
+        self.socket.state.name = name
         self.addCleanup(self.socket.close)
 
     def connect(self, text=b""):
@@ -181,7 +181,7 @@ class Fronts(Case):
         self.loop, self.told = StillLoop(lambda: self.now), []
         self.fronts = foreground_watch.Fronts(self.loop, lambda *words: self.told.append(words))
         self.fronts.is_wanted = True
-        self.pane = mock.Mock(state=PaneState(number=3, generation=7, size=(24, 80)), terminal=5)
+        self.pane = mock.Mock(state=PaneState(id=7, number=3, generation=7, size=(24, 80)), terminal=5)
         self.looks = self.patch_of(foreground_watch, "group_in_front", return_value=70)
         self.patch_of(foreground_watch, "name_of", side_effect=lambda group: f"a{group}")
 
@@ -454,7 +454,7 @@ class Links(Sockets):
         values = self.socket.pane_environment.values
         self.assertEqual((values["DISPLAY"], values["SSH_CONNECTION"]), (":7", ""))
         for name, wanted in ((NAMED, "later"), ("another", ":7")):
-            self.socket.name, values["DISPLAY"] = name, "later"
+            self.socket.state.name, values["DISPLAY"] = name, "later"
             one.lost("ended")
             self.now += PAUSES[-1]
             self.turn(one)
@@ -471,7 +471,7 @@ class Links(Sockets):
         self.assertEqual(one.waiting, b"colour background 1e1e/1e1e/2e2e\n")
         self.turn(one, watcher)
         self.assertEqual(self.socket.colours.known, {"foreground": "ffff/ffff/ffff", "background": "1e1e/1e1e/2e2e"})
-        self.socket.name, self.socket.colours.known = "another", {}
+        self.socket.state.name, self.socket.colours.known = "another", {}
         one.lost("ended")
         self.now += PAUSES[-1]
         self.turn(one)

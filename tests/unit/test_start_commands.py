@@ -17,7 +17,7 @@ class Started(Case):
 
     def run_all(self, *commands):
         """Run commands to their ends."""
-        runs = StartCommands(self.loop, list(commands), self.told.append)
+        runs = StartCommands(self.loop, list(commands), self.told.append, 64)
         until = time.monotonic() + 20
         while (runs.runs or runs.waiting) and time.monotonic() < until:
             self.loop.later("look", 0.05, lambda: None)
@@ -26,10 +26,10 @@ class Started(Case):
 
     def test_once(self):
         """Each runs once, in a session of its own, without a terminal and without a pane's name; nobody sees its output."""
-        self.run_all(f"echo $ROAM_PANE $(ps -o sid= -p $$) $$ > {self.folder}/one; echo much; cat > {self.folder}/in")
+        self.run_all(f"echo $ROAM_PANE $(ps -o sid= -p $$) $$ > {self.folder}/one; ulimit -n > {self.folder}/files; echo much; cat > {self.folder}/in")
         pane, *_ = told = (self.folder / "one").read_text().split()
         self.assertEqual((len(told), pane == told[-1], (self.folder / "in").read_text()), (2, True, ""))
-        self.assertEqual(self.told, [])
+        self.assertEqual((self.told, (self.folder / "files").read_text()), ([], "64\n"))
 
     def test_failures(self):
         """The host reports a failure with the last line of the output, printable and short."""

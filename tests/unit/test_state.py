@@ -25,15 +25,15 @@ def full_state():
     buffers.add(bytes(range(256)))
     paste.is_placed = True
     paste.begin(True)
-    panes = {1: PaneState(number=1, generation=4, size=(23, 80), folder="/tmp/\udcff", command=["sh", "-c", "a\nb"], process=71),
-             3: PaneState(number=3, generation=2**63, size=(1, 2), process=72, has_ended=True, program="vi")}
+    panes = {1: PaneState(id=7, number=1, generation=4, size=(23, 80), folder="/tmp/\udcff", command=["sh", "-c", "a\nb"], process=71),
+             3: PaneState(id=7, number=3, generation=2**63, size=(1, 2), process=72, has_ended=True, program="vi")}
     zoom = NotedZoom(note=ZoomNote((24, 80), ((48, 160), (50, 170))))
     window = WindowState(number=7, name="l\u00f6gs \u4e2d", panes=panes, focus=3, history=[3, 1], program="vi", zoom=zoom,
                          processes={"server": (70, 5000), "client": (71, None)})
     return SessionState(windows={7: window, 2: WindowState(number=2)}, last_window=7, colours={"foreground": "ffff/0000/1234"},
                         environment={"DISPLAY": ":0", "SSH_CONNECTION": ""}, buffers=buffers,
                         pastes={NAME: paste, OTHER: PendingPaste.of(OTHER, b"x", True)},
-                        spent_pastes={"1" * 16: "lost", "2" * 16: "inserted"}, has_run_settings=True)
+                        spent_pastes={"1" * 16: "lost", "2" * 16: "inserted"}, replaced=3, has_run_settings=True)
 
 
 def places_in(value, path=()):
@@ -107,7 +107,7 @@ class Written(unittest.TestCase):
     def test_fields(self):
         """Each field differs from its initial value in the tested state, so that none is omitted."""
         first = {SessionState: SessionState(), WindowState: WindowState(), PasteBuffers: PasteBuffers(), NotedZoom: NotedZoom(),
-                 PaneState: PaneState(number=9, generation=9, size=(9, 9)), PendingPaste: PendingPaste(name="a" * 16, data=b"-", length=1)}
+                 PaneState: PaneState(id=0, number=9, generation=9, size=(9, 9)), PendingPaste: PendingPaste(name="a" * 16, data=b"-", length=1)}
         whole = full_state()
         found = [whole, whole.windows[7], whole.buffers, whole.windows[7].zoom, *whole.windows[7].panes.values(), *whole.pastes.values()]
         for cls, one in first.items():
@@ -129,7 +129,7 @@ class MalformedStates(unittest.TestCase):
         for text in ("", "{", "nul", "[" * 100000, '"a', "{} {}", "\0", '{"version": ' + "9" * 5000 + "}"):
             self.assertEqual(self.refused(text), "SessionState: not JSON", text[:20])
         for text in ("null", "[]", "1", '"a"', "{}", "true", "NaN"):
-            self.assertTrue(self.refused(text).startswith("SessionState: not the fields version, windows, last_window"), text)
+            self.assertTrue(self.refused(text).startswith("SessionState: not the fields version, name, windows, last_window"), text)
         with mock.patch.object(state, "MOST_STATE", 100):
             self.assertEqual((self.refused(" " * 101), self.refused(" " * 100)),
                              ("SessionState: longer than 100 characters", "SessionState: not JSON"))
@@ -168,7 +168,7 @@ class MalformedStates(unittest.TestCase):
                 ((*pane, "process"), 0, "not a number from 1 to 2147483648"), ((*pane, "has_ended"), 1, "not true or false"),
                 ((*pane, "has_ended"), None, "not true or false"),
                 ((*pane, "program"), "\x1b[m", "not a valid text of at most 64 characters"),
-                ((*pane, "other"), 1, "not the fields number, generation"), (("environment", "PATH"), "a", "not one of DISPLAY"),
+                ((*pane, "other"), 1, "not the fields id, number, generation"), (("environment", "PATH"), "a", "not one of DISPLAY"),
                 (("environment", "DISPLAY"), "a\nb", "not a valid text of at most 112 characters"),
                 (("environment", "DISPLAY"), "x" * 113, "not a valid text of at most 112 characters"),
                 (("colours", "foreground"), "ffff/0000", "not a valid text of at most 14 characters"),

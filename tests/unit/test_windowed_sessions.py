@@ -342,8 +342,8 @@ class Launched(Sessions):
         self.refused = "server"
         with self.assertRaisesRegex(Fault, "^it can't be had$"):
             self.new.launch()
-        self.assertEqual(self.ended, [("new", "server"), ("new", "client"), ("new", "host"), ("new:1", "server"),
-                                      ("new:1", "client")])
+        self.assertEqual(self.ended, [("new", "server"), ("new", "client"), ("new", "host"), ("new", "holder"), ("new", "host"),
+                                      ("new:1", "server"), ("new:1", "client")])
 
     def test_kept(self):
         """The pty host is spawned if it doesn't run, and awaited until it is there, or a command has ended it."""
@@ -394,7 +394,7 @@ class Launched(Sessions):
         session = self.session()
         session.end_all()
         roles = [(f"main:{number}", role) for number in (2, 5, 7) for role in ("server", "client")]
-        self.assertEqual(self.ended, [("main", "host"), *roles])
+        self.assertEqual(self.ended, [("main", "host"), ("main", "holder"), ("main", "host"), *roles])
         self.assertEqual((self.base / "main/ended").read_text(encoding="ascii"), f"{end_words(*self.own)}\n" * 2)
 
     def test_no_own(self):
@@ -403,7 +403,7 @@ class Launched(Sessions):
         with self.assertRaisesRegex(Fault, "^session main: only its pty host opens windows$"):
             window.launch()
         with mock.patch.object(foreground, "busy_panes", return_value={1: "vi"}) as busy:
-            self.assertEqual((window.busy(), busy.call_args), ({1: "vi"}, mock.call(os.getpid(), str(window.folder))))
+            self.assertEqual((window.busy(), busy.call_args), ({1: "vi"}, mock.call(str(self.base / "main"), str(window.folder))))
             self.noted("main", host=[1, 1])
             self.assertEqual(window.busy(), {})
 

@@ -18,7 +18,7 @@ from tried import (
 from actors import read_each
 from roam_live.common import tty
 from roam_live.common.process import TOOLS, begun
-from roam_live.session.foreground import busy_panes
+from roam_live.session.foreground import busy_panes, pane_of
 
 LISTED = 50
 
@@ -60,7 +60,7 @@ def jobs(folder):
     outer.type(b"sleep 1000 &\r")
     names = "cat (stopped), sleep (background)"
     # Without a program there it closes the pane.
-    comes(lambda: busy_panes(noted("other")["host"][0]) == {2: names})
+    comes(lambda: busy_panes(str(folder_of("other"))) == {2: names})
     for keys, text in ((b"\x02x", f"close {names} in pane 2? y"), (b"\x02&", f"close window 1, with {names} in pane 2 and the session")):
         outer.type(keys)
         check(f"{keys!r} asks, and names them", outer.status(text), outer.rows)
@@ -168,7 +168,7 @@ def stopped_killed(folder):
     outer.shows("$ ")
     outer.type(b"\x02d")
     outer.ends()
-    found = {role: one[0] for role, one in noted("other").items() if role in ("server", "client", "host")}
+    found = {role: one[0] for role, one in noted("other").items() if role in ("server", "client", "host", "holder")}
     comes(lambda: any(map(is_scrollback_process, children(found["host"]))))
     found["filter"] = next(filter(is_scrollback_process, children(found["host"])))
     for process in found.values():
@@ -226,7 +226,7 @@ def idle(folder):
         outer.type(b"\x02" + way.encode() + (b"\x02q1" if pane in (4, 7) else b""))
         outer.shows(f"{pane}")
     check("nine panes are there", comes(lambda: listed()[4:6] == ["9", "panes"]), (listed(), outer.rows()))
-    own = [noted("other")[role][0] for role in ("server", "host", "client")] + [outer.process.pid]
+    own = [noted("other")[role][0] for role in ("server", "host", "holder", "client")] + [outer.process.pid]
     processes = set().union(*map(family, own))
     before, woken = processor_time(processes), wakeups(processes)
     time.sleep(IDLE)
@@ -276,7 +276,7 @@ def refused(folder):
     with limited(host, resource.RLIMIT_FSIZE, 0):
         outer.type(b"\x02%")
         outer.status(" 1  2  3 [4]")
-        comes(lambda: len(commands(host)) == 4)
+        comes(lambda: len(commands("other")) == 4)
         outer.type(b"echo fu''ll\r")
         check("where no file can be written the panes go on", outer.shows("full"), outer.rows)
     check("and where they are is written later", comes(lambda: listed()[4:6] == ["4", "panes"]), listed)
@@ -298,7 +298,7 @@ def not_started(outer, host):
             check("and a key there tries again", has_shell, outer.rows)
         else:
             check("and can be closed", outer.status(" 1 [2] 1:"), outer.rows)
-    held = [name for shell in children(host) for name in read_each(f"/proc/{shell}/fd", os.readlink)]
+    held = [name for shell in commands("other") for name in read_each(f"/proc/{shell}/fd", os.readlink)]
     check("no shell has the other end of a pane's terminal", not any(path.endswith("ptmx") for path in held), held)
 
 
@@ -312,24 +312,52 @@ def bad_shell(folder):
     subprocess.run(tool("mux", "kill", "other"), check=True)
 
 
+def sessions_in_panes(name):
+    """Return the session leaders that run in panes of a session."""
+    found = []
+    for process in (int(word) for word in os.listdir("/proc") if word.isdigit()):
+        with contextlib.suppress(OSError):
+            if os.getsid(process) == process and pane_of(str(process))[0].startswith(str(folder_of(name))):
+                found.append(process)
+    return sorted(found)
+
+
 @scene
 def host_killed(folder):
-    """The pty host is restarted, and no new shell runs the input typed meanwhile."""
+    """A killed pty host or holder is replaced, and the programs go on with what was typed meanwhile. If both are killed the shells are new,
+    and none runs the input typed meanwhile."""
     outer = Outer(tool("mux", "other"))
     outer.shows("$ ")
-    host = noted("other")["host"][0]
-    os.kill(host, signal.SIGKILL)
+    outer.type(b"x=ke''pt; sleep 1000 &\r")
+    shells = commands("other")
+    for role in ("host", "holder", "host"):
+        process = noted("other")[role][0]
+        begin = len(outer.written)
+        os.kill(process, signal.SIGKILL)
+        outer.type(b"echo $x; echo %s go''ne\r" % role.encode())
+        check("its shell runs what was typed meanwhile", outer.was_told(f"{role} gone", begin=begin), outer.rows)
+        check("another is there", comes(lambda: noted("other")[role][0] != process), lambda: noted("other"))
+        if role == "host":
+            check("which the front end says", outer.status("the pty host was replaced; the programs continue"), outer.rows)
+    check("the shell is the same, and no other one is there", shells == sessions_in_panes("other"), lambda: sessions_in_panes("other"))
+    outer.type(b"jobs\r")
+    check("with its job", outer.shows("Running"), outer.rows)
+    host, holder = (noted("other")[role][0] for role in ("host", "holder"))
+    for process in (host, holder):
+        os.kill(process, signal.SIGSTOP)
+    for process in (holder, host):
+        os.kill(process, signal.SIGKILL)
     # At once: after the message a new shell may be there.
     outer.type(b"echo los''t\r")
     outer.type(b"echo al''so\r")
-    check("the end of the pty host is told", outer.status("the pty host was restarted"), outer.rows)
-    check("another is spawned", comes(lambda: noted("other")["host"][0] != host) and outer.shows("[a new shell; "), outer.rows)
+    check("the end of both is told", outer.status("the pty host was restarted"), outer.rows)
+    check("others are spawned", comes(lambda: noted("other")["host"][0] != host) and outer.shows("[a new shell; "), outer.rows)
     check("with a shell", outer.shows("$ "), outer.rows)
     outer.type(b"echo th''en\r")
     check("which runs what is typed then", outer.shows("then") and outer.status("[1]"), outer.rows)
     rows = outer.rows()
     check("and nothing that was typed before", not any(word in row for row in rows for word in ("lost", "also")), rows)
-    subprocess.run(tool("mux", "kill", "other"), check=True)
+    subprocess.run(tool("mux", "kill", "-f", "other"), check=True)
 
 
 @scene
@@ -339,7 +367,7 @@ def kill(folder):
     outer.shows("$ ")
     outer.type(b"sleep 100\r")
     # Without a program there it ends the session.
-    comes(lambda: busy_panes(noted("other")["host"][0]) == {1: "sleep"})
+    comes(lambda: busy_panes(str(folder_of("other"))) == {1: "sleep"})
     told = "mux: session other runs sleep in pane 1; `mux kill -f other` ends it\n"
     check("mux kill tells what runs", said("kill", "other") == (1, "", told), said("ls"))
     asked = Outer(tool("mux", "kill", "other"))

@@ -7,7 +7,8 @@ import subprocess
 import termios
 import time
 
-from tried import KEEPS_NONE, SESSION, WAIT, Outer, check, comes, is_part, listed, noted, said, scene, terminals_of, three_panes, tool
+from tried import (
+    KEEPS_NONE, SESSION, WAIT, Outer, check, comes, folder_of, is_part, listed, noted, said, scene, terminals_of, three_panes, tool)
 from roam_live.common import tty
 from roam_live.frontend.connection import SIZES
 from roam_live.frontend.size_follower import NEW
@@ -109,13 +110,16 @@ def host(folder):
     check("and ls says nothing more", comes(lambda: " ".join(listed()).endswith("4 panes 1 terminal")), listed)
     outer.type(b"\x02d")
     outer.ends()
-    os.kill(host, signal.SIGKILL)
+    holder = noted(SESSION)["holder"][0]
+    os.kill(holder, signal.SIGSTOP)
+    for process in (holder, host):
+        os.kill(process, signal.SIGKILL)
     wanted = "4 panes ? terminals, its pty host is not running"
-    check("where it has ended ls says that nothing keeps them", comes(lambda: " ".join(listed()).endswith(wanted)), listed)
+    check("where it and the holder have ended ls says that nothing keeps them", comes(lambda: " ".join(listed()).endswith(wanted)), listed)
     again = Outer(tool("mux", SESSION))
     # The new host knows of the terminal later than the shell is shown.
     is_known = again.shows("[a new shell; ") and comes(lambda: " ".join(listed()).endswith("4 panes 1 terminal"))
-    check("who attaches has another", is_known, listed)
+    check("who attaches has others", is_known, listed)
 
 
 @scene
@@ -258,7 +262,7 @@ def closed(folder):
     outer.status(" 1 [4]")
     outer.type(f"echo $$ > {folder}/closed; echo no''ted; yes > /dev/null\r".encode())
     outer.shows("noted")
-    comes(lambda: busy_panes(noted(SESSION)["host"][0]) == {4: "yes"})
+    comes(lambda: busy_panes(str(folder_of(SESSION))) == {4: "yes"})
     shell = (folder / "closed").read_text(encoding="utf-8").strip()
     outer.type(b"\x02x")
     check("C-b x asks where something else than a shell runs", outer.status("close yes in pane 4? y closes it"), outer.rows)
@@ -367,7 +371,7 @@ def names(folder):
     outer.status(" 1 [2]")
     for name, told in ODD_NAMES:
         outer.type(f"clear; python3 {path} {name.hex()}\r".encode())
-        comes(lambda told=told: busy_panes(noted("other")["host"][0]).get(2) == told)
+        comes(lambda told=told: busy_panes(str(folder_of("other"))).get(2) == told)
         before = len(outer.written)
         outer.type(b"\x02x")
         check(f"a program that calls itself {name!r} is told of", outer.status(f"close {told} in pane 2? y closes it"), outer.rows)
@@ -376,7 +380,7 @@ def names(folder):
         wanted = f"mux: session other runs {told} in pane 2; `mux kill -f other` ends it\n"
         check("neither by mux kill", said("kill", "other") == (1, "", wanted), said("kill", "other"))
         outer.type(b"\x03")
-        comes(lambda: not busy_panes(noted("other")["host"][0]))
+        comes(lambda: not busy_panes(str(folder_of("other"))))
     outer.type(b"clear; printf '\\033[7mroam: no answer for 12 s\\033[0mthe rest|\\n'\r")
     words = "roam: no answer for 12 sthe rest|"
     check("what a pane shows of a silence comes as it is", outer.shows(words) and not outer.shows("leaves", 0.3), outer.rows)

@@ -9,7 +9,7 @@ import random
 import signal
 import subprocess
 
-from tried import SESSION, Outer, check, comes, noted, said, scene, tool
+from tried import SESSION, Outer, check, children, comes, commands, noted, said, scene, tool
 from scenes.machines import ssh_words
 
 # The number of switches, with keys before and after each in one piece, and their seed. The seconds for all of them.
@@ -176,13 +176,17 @@ def window_kills(folder):
     host = noted(SESSION)["host"][0]
     os.kill(host, signal.SIGKILL)
     check("another host comes", comes(lambda: noted(SESSION)["host"][0] != host), lambda: noted(SESSION))
-    check("a window has a new shell", outer.shows("a new shell"), outer.rows)
+    outer.type(b" there")
+    check("a window's program goes on", comes(lambda: typed_in(paths[0]) == "here there"), lambda: typed_in(paths[0]))
     # The front end may still be without the new host, and then asks for a window for some seconds only.
-    check("one more is opened", comes(lambda: outer.type(b"\x02c") or outer.status("[1] 1:sh- 2:sh*", 15)), outer.rows)
+    check("one more is opened", comes(lambda: outer.type(b"\x02c") or outer.status("[1] 1:cat- 2:sh*", 15)), outer.rows)
     begin = len(outer.written)
     outer.type(b"exit\r")
-    check("a shell's end is its window's", outer.was_told("window 2 is gone", begin=begin) and outer.status("[1] 1:sh*"), outer.rows)
-    outer.type(b"exit\r")
+    check("a shell's end is its window's", outer.was_told("window 2 is gone", begin=begin) and outer.status("[1] 1:cat*"), outer.rows)
+    os.kill(children(commands(SESSION)[0])[0], signal.SIGTERM)
+    outer.status("[1] 1:sh*")
+    # Its terminal is still raw.
+    outer.type(b"exit\n")
     check("that of the last is the session's", outer.ends() and outer.process.returncode == 0, outer.rows)
     check("which is told", outer.was_told("[the session has ended]"), lambda: bytes(outer.written[-80:]))
 

@@ -1,0 +1,108 @@
+"""The state of a pty host that another host reads, and the texts at the holder."""
+import json
+import os
+from unittest import mock
+
+from aids import Case, PlayedHolder, StillLoop
+from roam_live.host.holder_link import Kept
+from roam_live.host.kept_state import KeptState
+from roam_live.host.state import PaneState, PendingPaste
+from roam_live.protocol.paste_text import INSERTED
+
+ONE, OTHER = "0123456789abcdef", "fedcba9876543210"
+
+
+class States(Case):
+    """The state in a folder, and the host's end of a holder."""
+
+    def setUp(self):
+        self.stop_clock()
+        self.folder, self.said = self.made_folder(), self.heard()
+
+    def made(self, before=None, is_bare=False):
+        """Return the state of a first host, or of one that follows another."""
+        loop = StillLoop(lambda: self.now)
+        link = PlayedHolder(loop, mock.Mock())
+        if before:
+            link.is_resumed, link.is_bare = True, is_bare
+            link.left = {name: Kept(kept.ends) for name, kept in before.link.own.items()}
+        return KeptState(str(self.folder), link, loop)
+
+    def test_another(self):
+        """Another host has the state and the texts of the one before; the name of the host stays."""
+        first = self.made()
+        first.state.window(2).panes[1] = PaneState(id=40, number=1, generation=3, size=(5, 50), command=["vi"])
+        first.state.pastes[ONE] = PendingPaste.of(ONE, b"pasted\x00", False)
+        first.state.buffers.add(b"copied\xff")
+        first.write()
+        text = (self.folder / "host.json").read_text(encoding="utf-8")
+        self.assertNotIn("cGFzdGVk", text)
+        second = self.made(first)
+        first.state.replaced += 1
+        self.assertEqual((second.state, second.notices), (first.state, []))
+        with mock.patch("roam_live.host.kept_state.new_id", lambda above: above + 1):
+            self.assertEqual(second.next_id(), 41)
+
+    def test_typed(self):
+        """A paste that was being typed is over, which is reported. Texts without a file at the holder are gone."""
+        first = self.made()
+        for name in (ONE, OTHER):
+            first.state.pastes[name] = PendingPaste.of(name, b"text", False)
+        first.state.buffers.add(b"copied")
+        first.write()
+        first.state.pastes[ONE].is_placed = True
+        first.write()
+        self.assertNotIn(f"paste:{ONE}", first.link.own)
+        del first.link.own["buffer:1"]
+        second = self.made(first)
+        self.assertEqual((list(second.state.pastes), second.state.spent_pastes, second.state.buffers.texts), ([OTHER], {ONE: INSERTED}, {}))
+        self.assertEqual(second.notices, ["a paste was cut, since the pty host ended while it was typed"])
+
+    def test_bad(self):
+        """A state that can't be read, or with which hosts failed, isn't used and is kept. Both are reported."""
+        for text, is_bare, why in (("{", False, "SessionState: not JSON"), ("{}", False, "SessionState: not the fields version, name, "),
+                                   (None, True, "pty hosts failed too often with it")):
+            first = self.made()
+            first.state.last_window = 7
+            first.write()
+            if text:
+                (self.folder / "host.json").write_text(text, encoding="ascii")
+            second = self.made(first, is_bare)
+            self.assertEqual(second.state.last_window, 0)
+            self.assertIn(f"the state of the pty host before is not used, and is kept as host.bad: {why}", second.notices[0])
+            self.assertTrue((self.folder / "host.bad").exists() and not (self.folder / "host.json").exists())
+
+    def test_soon(self):
+        """A change is written 0.2 s later, once for many; an equal state isn't written again."""
+        kept = self.made()
+        kept.touch()
+        self.now += 0.19
+        kept.touch()
+        kept.loop.turn()
+        self.assertFalse((self.folder / "host.json").exists())
+        self.now += 0.01
+        kept.loop.turn()
+        before = os.stat(self.folder / "host.json").st_ino
+        kept.write()
+        self.assertEqual(os.stat(self.folder / "host.json").st_ino, before)
+        self.assertEqual(json.loads((self.folder / "host.json").read_text(encoding="utf-8"))["version"], 1)
+
+    def test_other_folder(self):
+        """A folder that was removed and made anew by another session gets nothing, until this session makes it."""
+        kept = self.made()
+        moved = self.folder.with_name(self.folder.name + "-old")
+        self.folder.rename(moved)
+        self.addCleanup(moved.rmdir)
+        self.folder.mkdir()
+        kept.write()
+        self.assertEqual(os.listdir(self.folder), [])
+        kept.settle()
+        self.assertEqual(os.listdir(self.folder), ["host.json"])
+
+    def test_unwritable(self):
+        """A refusal of the system is logged."""
+        kept = self.made()
+        with mock.patch("roam_live.host.kept_state.replace_text", side_effect=OSError(28, "No space left on device")):
+            for _ in range(3):
+                kept.write()
+        self.assertEqual(self.said.getvalue().count("host.json cannot be written: No space left on device"), 1)
