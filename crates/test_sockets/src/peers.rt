@@ -818,9 +818,12 @@ second reads query 1 1 version/query 1 1 foreground/query 1 1 version/
 first writes \u{1b}[?2004$p
 pane 1 gives \u{1b}[?2004$p
 second reads query 1 1 pastes/
-first writes \u{1b}[18t\u{1b}[?1004h\u{1b}[?1004$p
-pane 1 gives \u{1b}[18t\u{1b}[?1004h\u{1b}[?1004$p
-second reads query 1 1 size/query 1 1 mode 1004 set/
+first writes \u{1b}[18t\u{1b}[?1004h
+pane 1 gives \u{1b}[18t\u{1b}[?1004h
+second reads query 1 1 size/
+first writes \u{1b}[?1004$p
+pane 1 gives \u{1b}[?1004$p
+second reads query 1 1 mode 1004 set/
 first writes \u{1b}[4$p\u{1b}[?9999$p
 pane 1 gives \u{1b}[4$p\u{1b}[?9999$p
 second reads query 1 1 ansi-mode 4/query 1 1 mode 9999 unknown/
