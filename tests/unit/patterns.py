@@ -28,6 +28,7 @@ BRACKETS = "is typed round a paste, and taken out of one"
 MARKS = "reads what was typed into a pane, for marks of texts that were given"
 ANSWERS = "is typed into a pane as an answer, and reads nothing"
 COLOURS = "reads what a person's terminal answers, among what is typed"
+FEWER = "replaces the colours that a person's terminal hasn't in SGR; no decision is made by it"
 BEGIN = "the reset with which the start itself begins a record `anew`; another clearing is written for it"
 
 # Each use: the file, the assigned name or the enclosing function, and its kind, `re` or an escape.
@@ -35,6 +36,9 @@ KNOWN = {
     ("roam_live/common/patterns.py", "LazyPattern.__getattr__", "re"): "compiles the pattern of another module, which is listed there",
     ("roam_live/session/pane_ids.py", "ID", "re"): "reads the ids of panes in the state that a pty host wrote as JSON",
     ("roam_live/frontend/outer_terminal.py", "", "ESC"): WRITES,
+    ("roam_live/frontend/few_colours.py", "SGR", "re"): FEWER,
+    ("roam_live/frontend/few_colours.py", "SGR", "ESC"): FEWER,
+    ("roam_live/frontend/few_colours.py", "colour_filter.replaced", "ESC"): FEWER,
     ("roam_live/frontend/outer_terminal.py", "shaped", "ESC"): WRITES,
     ("roam_live/frontend/outer_terminal.py", "titled", "ESC"): WRITES,
     ("roam_live/frontend/line_editor.py", "LEAVES", "ESC"): TYPED,

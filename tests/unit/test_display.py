@@ -48,6 +48,7 @@ class OuterTerminal:
 
     set_keypad, ring = outer_terminal.OuterTerminal.set_keypad, outer_terminal.OuterTerminal.ring
     write = outer_terminal.OuterTerminal.write
+    fewer_colours = None
 
     def set_clip(self, text):
         """Record a text for the clipboard."""

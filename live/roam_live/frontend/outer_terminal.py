@@ -19,6 +19,10 @@ from roam_live.input.extended_keys import QUERY, WANTED, answered, given_back
 from roam_live.input.mouse_reports import ASKED, OFF
 from roam_live.protocol.colours import ASKED as COLOURS_ASKED
 
+TYPE_CHECKING = False
+if TYPE_CHECKING:
+    from collections.abc import Callable
+
 # The sequences that save and restore the terminal's title (xterm, XTWINOPS).
 TITLE_KEPT, TITLE_BACK = b"\x1b[22;2t", b"\x1b[23;2t"
 
@@ -27,6 +31,9 @@ CLIP_BEGIN, CLIP_END = b"\x1b]52;c;", b"\x07"
 
 # The sequences that request reports of the terminal's focus, and stop them (xterm, 1004).
 FOCUS_ASKED, FOCUS_OFF = b"\x1b[?1004h", b"\x1b[?1004l"
+
+# Parts of the names of types with 256 colours or more. Their entries may be missing here, and that of `xterm` lists 8.
+MANY_COLOURS = ("256", "direct", "xterm", "kitty", "alacritty", "foot", "wezterm", "ghostty")
 
 # The most characters of a title.
 MOST_TITLE = 200
@@ -143,6 +150,20 @@ class OuterModes:
         return text
 
 
+def fewer_colours() -> Callable[[bytes], bytes] | None:
+    """Return the call that replaces the colours that this process's terminal hasn't; None if it has 256 colours or more."""
+    if has_colours(os.environ.get("TERM", ""), os.environ.get("COLORTERM", "")):
+        return None
+    from roam_live.frontend.few_colours import colour_filter
+
+    return colour_filter(os.environ.get("TERM", ""))
+
+
+def has_colours(term: str, reported: str) -> bool:
+    """Return True if a terminal has 256 colours or more, by the name of its type or by COLORTERM."""
+    return bool(reported) or any(part in term for part in MANY_COLOURS)
+
+
 # Seconds for a terminal to accept the final output. A hanging emulator accepts nothing, and is not waited for.
 LEAVES = 1.0
 
@@ -165,10 +186,11 @@ class OuterTerminal:
         self.is_taken = False
         self.left_by = 0.0
         self.outer_modes, self.clip = OuterModes(), ClipboardWriter()
+        self.fewer_colours = fewer_colours()
 
     def write(self, text: bytes) -> None:
-        """Queue a text after all waiting output. All output goes through here."""
-        self.waiting += text
+        """Queue a text of whole sequences after all waiting output. All output goes through here."""
+        self.waiting += self.fewer_colours(text) if self.fewer_colours else text
 
     def enter(self) -> None:
         """Take the terminal."""
