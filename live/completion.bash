@@ -25,6 +25,7 @@ _roam_mux_options() {
     paste) echo "--raw --help" ;;
     capture) echo "--svg -S -E -e -J --help" ;;
     log) echo "-e -J --help" ;;
+    upgrade) echo "--all --help" ;;
     ssh) echo "--ssh --far --predict --help" ;;
     *) echo --help ;;
     esac

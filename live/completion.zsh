@@ -38,7 +38,7 @@ _roam_mux_words() {
         'buffer:list, print, set or paste the paste buffers of a session'
         'env:print shell commands that set the environment of the last attach'
         'cmd:run a tmux command in a session, such as split-window -h'
-        'upgrade:list the sessions that run another build of roam, and explain how to move them'
+        'upgrade:have a session go on with this build of roam, or list those that run another one'
         'settings:print the path of the settings file, and each line of it that has no effect'
         'ssh:attach to a session on another machine over ssh'
         'help:explain all commands, or one of them'
@@ -70,7 +70,7 @@ _roam_mux() {
     buffer) _arguments '--help[explains this word]' '1:list|show|set|paste:(list show set paste)' '2:NAME[\:K][.P]:_roam_sessions' '3:N|TEXT:' ;;
     env) _arguments '--help[explains this word]' '1:NAME:_roam_sessions' ;;
     cmd) _arguments '--help[explains this word]' '1:NAME[\:K][.P]:_roam_sessions' '2:COMMAND:(bind bind-key choose-buffer choose-tree choose-window command-prompt copy-mode detach detach-client display display-message display-panes displayp kill-pane kill-window killp killw last last-pane last-window lastp list-keys lsk new-window neww next next-layout next-window nextl paste-buffer pasteb prev previous-window refresh refresh-client rename-window renamew resize-pane resizep run run-shell select-layout select-pane select-window selectl selectp selectw send send-keys send-prefix set set-option set-window-option setw source source-file split-window splitw suspend-client suspendc synchronize-panes toggle-mouse toggle-status unbind unbind-key)' ;;
-    upgrade) _arguments '--help[explains this word]' ;;
+    upgrade) _arguments '--all[all sessions of this machine]' '--help[explains this word]' '1:NAME:_roam_sessions' ;;
     settings) _arguments '--help[explains this word]' ;;
     ssh) _arguments '--ssh=[the command that runs ssh here]:COMMAND:' '--far=[the command that runs roam-mux there]:COMMAND:' '--predict=[when to show predictions of keys\: adaptive, always, never]:WHEN:(adaptive always never)' '--help[explains this word]' '1:HOST:_hosts' '2:NAME:' ;;
     help) _arguments '--help[explains this word]' '1:WORD:(attach new ls list list-windows new-window rename-window clients watch kill send paste capture log buffer env cmd upgrade settings ssh help)' ;;

@@ -41,6 +41,10 @@ class AnySession:
         self.told = places(24, 80)
         self.runs_busy, self.is_closed, self.looks, self.is_met, self.foreign = {}, False, 0, False, ()
 
+    def tools_folder(self):
+        """Return nothing: this session runs no tools."""
+        return ""
+
     def __str__(self):
         return f"in {self.folder}"
 

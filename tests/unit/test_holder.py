@@ -178,6 +178,33 @@ class Programs(Holders):
         one.kill()
         self.assertEqual(self.heard()[0], "ended terminal:%2 unknown")
 
+    def test_becomes(self):
+        """Another build of it goes on in the same process with all descriptors, programs and ends. One that is not there changes nothing."""
+        process, terminal = self.spawn("terminal:%1", "sh", "-c", "read a; echo got $a; read b; exit 5")
+        dropped, _ = self.spawn("terminal:%2", "sh", "-c", "trap '' HUP; exec sleep 60")
+        self.send(b"drop terminal:%2")
+        limit = resource.prlimit(self.holder.pid, resource.RLIMIT_NOFILE)
+        copy = self.folder / "holder"
+        copy.write_bytes((TOOLS / "holder").read_bytes())
+        for python, is_there in (("/none/python3", False), (sys.executable, True)):
+            self.send(b"become holder", text=f"{python}\0-IS\0{copy}".encode())
+            if not is_there:
+                self.assertEqual(self.heard()[0], "failed holder [Errno 2] No such file or directory")
+            self.send(b"hello")
+            told, ends = self.heard()
+            self.assertEqual((told, len(ends), self.heard()[0]), (f"held terminal:%1 {process} runs", 2, f"end {self.holder.pid}"))
+            with open(f"/proc/{self.holder.pid}/cmdline", "rb") as file:
+                self.assertEqual(str(copy).encode() in file.read(), is_there)
+            self.assertEqual(resource.prlimit(self.holder.pid, resource.RLIMIT_NOFILE), limit)
+        os.write(terminal, b"x\n")
+        self.assertTrue(self.shows(terminal, b"got x"))
+        self.spawn("terminal:%3", "cat")
+        os.kill(dropped, signal.SIGKILL)
+        self.assertTrue(comes(lambda: not os.path.exists(f"/proc/{dropped}")))
+        os.write(terminal, b"y\n")
+        self.assertEqual(self.heard()[0], f"ended terminal:%1 {5 << 8}")
+        self.assertEqual(len(os.listdir(f"/proc/{self.holder.pid}/fd")), 3 + 1 + 2 + 2)
+
     def test_few_descriptors(self):
         """Without a free descriptor a request fails with the reason, and all else stays."""
         process, terminal = self.spawn("terminal:%1", "cat")

@@ -33,7 +33,8 @@ def full_state():
     return SessionState(windows={7: window, 2: WindowState(number=2)}, last_window=7, colours={"foreground": "ffff/0000/1234"},
                         environment={"DISPLAY": ":0", "SSH_CONNECTION": ""}, buffers=buffers,
                         pastes={NAME: paste, OTHER: PendingPaste.of(OTHER, b"x", True)},
-                        spent_pastes={"1" * 16: "lost", "2" * 16: "inserted"}, replaced=3, has_run_settings=True)
+                        spent_pastes={"1" * 16: "lost", "2" * 16: "inserted"}, replaced=3, upgrades=2,
+                        has_run_settings=True)
 
 
 def places_in(value, path=()):
@@ -168,7 +169,7 @@ class MalformedStates(unittest.TestCase):
                 ((*pane, "process"), 0, "not a number from 1 to 2147483648"), ((*pane, "has_ended"), 1, "not true or false"),
                 ((*pane, "has_ended"), None, "not true or false"),
                 ((*pane, "program"), "\x1b[m", "not a valid text of at most 64 characters"),
-                ((*pane, "other"), 1, "not the fields id, number, generation"), (("environment", "PATH"), "a", "not one of DISPLAY"),
+                (("environment", "PATH"), "a", "not one of DISPLAY"),
                 (("environment", "DISPLAY"), "a\nb", "not a valid text of at most 112 characters"),
                 (("environment", "DISPLAY"), "x" * 113, "not a valid text of at most 112 characters"),
                 (("colours", "foreground"), "ffff/0000", "not a valid text of at most 14 characters"),
@@ -195,8 +196,8 @@ class MalformedStates(unittest.TestCase):
                             f"{place}.".startswith(f"{'.'.join(('SessionState', *path))}."), (path, told))
 
     def test_missing(self):
-        """A record without one of its fields is refused, and a key of a path is cut."""
-        value = plain(full_state())
+        """Without a field that has an initial value, a record has that value. Without another one it is refused; a key of a path is cut."""
+        value, needed = plain(full_state()), {"version", "id", "number", "generation", "size", "name", "data", "length"}
         for path in places_in(value):
             made = copy.deepcopy(value)
             parent = made
@@ -206,11 +207,22 @@ class MalformedStates(unittest.TestCase):
                                                                                 PendingPaste, NotedZoom) for name in cls.fields}:
                 continue
             del parent[path[-1]]
-            self.assertIn(": not the fields ", self.refused(json.dumps(made)), path)
+            is_given = path == ("name",) or len(path) == 3 and path[0] == "windows" and path[-1] in ("number", "name")
+            if path[-1] in needed and not is_given:
+                self.assertIn(": not the fields ", self.refused(json.dumps(made)), path)
+            elif path[-1] not in ("number", "last"):
+                # Without these two the rest would be wrong.
+                self.assertIsInstance(state_in(json.dumps(made)), SessionState, path)
         self.assertLess(len(self.refused(json.dumps(put(value, ("windows", "x" * 5000), {})))), 100)
 
+    def test_unknown(self):
+        """A field that another build added is left out."""
+        value = plain(full_state())
+        for path in (("other",), ("windows", "7", "other"), ("windows", "7", "panes", "1", "other"), ("buffers", "other")):
+            self.assertEqual(written(state_in(json.dumps(put(value, path, {"a": 1})))), json.dumps(value), path)
+
     def test_chance(self):
-        """Any replacement of a value is read as one with the same text, or refused by name."""
+        """Any replacement of a value is read as one that is written and read the same, or refused by name."""
         value, chance = plain(full_state()), random.Random(7)
         values = (None, True, -1, 0, 1, 9, 10**30, 1.5, "", "a", "\x1b[2J", "YQ==", [], [1], [1, 2], {}, {"1": 1}, "x" * 200000, NAME)
         places, refused = list(places_in(value)), 0
@@ -224,7 +236,8 @@ class MalformedStates(unittest.TestCase):
                     pass
             text = json.dumps(made)
             try:
-                self.assertEqual(written(state_in(text)), text)
+                found = state_in(text)
+                self.assertEqual(state_in(written(found)), found)
             except Malformed as fault:
                 refused += 1
                 self.assertTrue(str(fault).startswith("SessionState"), fault)

@@ -211,10 +211,9 @@ class Found(Sessions):
             self.assertEqual(line_of(session, PLACES), begins + told)
         session.state["build"] = "0.1.0 0123"
         lines = upgrade.report([session])
-        self.assertEqual((lines[0][:15], lines[1], lines[-2]),
-                         (f"this is roam {identity()[:2]}", "main runs roam 0.1.0 0123", "  mux kill main && mux new main"))
+        self.assertEqual((lines[0][:15], lines[1:]), (f"this is roam {identity()[:2]}", ["main runs roam 0.1.0 0123", upgrade.ADVICE]))
         session.served = "relay"
-        self.assertEqual(upgrade.report([session])[-2], "  mux kill main; then `mux ssh` again")
+        self.assertEqual(upgrade.report([session])[1], "main has a relay of roam 0.1.0 0123; `mux kill main`, then `mux ssh` again, replaces it")
         session.state = None
         self.assertEqual(upgrade.report([session])[1:], [upgrade.SAME])
         self.assertEqual(upgrade.report([])[1:], [upgrade.SAME])

@@ -39,12 +39,3 @@ def print_settings(asked: Asked) -> int:
     lines = undone(OWN.found) if OWN.found else []
     print("".join(f"{line}\n" for line in lines), end="")
     return 1 if lines else 0
-
-
-def explain_upgrade(asked: Asked) -> int:
-    """Print the sessions that run another build, and the steps to move them."""
-    from roam_live.cli import upgrade
-
-    for line in upgrade.report(session for session in sessions_here() if session.is_listed()):
-        print(line)
-    return 0

@@ -40,7 +40,8 @@ mux [NAME] | COMMAND ..: terminal sessions that keep running when you leave.
   env NAME           Print shell commands that set the environment of the last attach, for `eval "$(mux env NAME)"`.
   cmd NAME COMMAND ..
                      Run a tmux command in a session, such as split-window -h or send-keys ls Enter. roam.conf(5) lists them.
-  upgrade            List the sessions that run another build of roam, and explain how to move them.
+  upgrade [--all] [NAME]
+                     Have a session go on with this build of roam, or list those that run another one. Its programs keep running.
   settings           Print the path of the settings file, and each line of it that has no effect. roam.conf(5) describes the file.
   ssh [--ssh COMMAND] [--far COMMAND] [OPTION ..] HOST [NAME]
                      Attach to a session on another machine over ssh. The front end stays while the network is broken. A relay carries the

@@ -128,7 +128,10 @@ WORDS = {
         ONE_OR_PANE,
         argument("words", metavar="COMMAND", nargs=REST, help="the command and its arguments"),
     )),
-    "upgrade": Word("all_sessions.explain_upgrade", "list the sessions that run another build of roam, and explain how to move them"),
+    "upgrade": Word("upgrade.upgrade", "have a session go on with this build of roam, or list those that run another one", (
+        argument("--all", dest="is_all", action="store_true", help="all sessions of this machine"),
+        argument("name", metavar="NAME", nargs="?", default="", help="the session"),
+    )),
     "settings": Word("all_sessions.print_settings", "print the path of the settings file, and each line of it that has no effect", ()),
     "ssh": Word("attaching.enter_far", "attach to a session on another machine over ssh", (
         argument("--ssh", metavar="COMMAND", default="ssh", help="the command that runs ssh here"),

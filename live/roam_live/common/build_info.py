@@ -19,6 +19,10 @@ WAIT = 5.0
 
 UNKNOWN = "unknown"
 
+# The number of the words that the processes of a session exchange: the lines of its sockets, and the frames of relays. A build of another
+# number can't go on with a running session.
+PROTOCOL = 1
+
 
 class BuildInfo(NamedFields):
     """A build: its version, the commit of its sources, the kit, and the last line of the gate that proved it."""

@@ -20,6 +20,9 @@ if TYPE_CHECKING:
     # Returns the value that some JSON encodes; Malformed if it is invalid. A path names it in the error.
     Reads = Callable[[Any, str], Any]
 
+# The field with the version of a record, which each build writes.
+VERSION = "version"
+
 # The highest number that may be a key.
 MOST_KEY = 10**19 - 1
 
@@ -179,11 +182,12 @@ def one_of(*choices: object) -> Reads:
 
 
 def record_of(cls: type[StateRecord]) -> Reads:
-    """Return the reader of a record: all its fields, and no others."""
+    """Return the reader of a record of any build: a field that is missing gets its initial value, and an unknown one is left out."""
+    needed = [name for name, one in cls.fields.items() if name == VERSION or not one.makes]
 
     def reads(value: Any, path: str) -> Any:
-        demand(isinstance(value, dict) and value.keys() == cls.fields.keys(), path, f"not the fields {', '.join(cls.fields)}")
-        made = cls(**{name: one.reads(value[name], f"{path}.{name}") for name, one in cls.fields.items()})
+        demand(isinstance(value, dict) and all(name in value for name in needed), path, f"not the fields {', '.join(cls.fields)}")
+        made = cls(**{name: one.reads(value[name], f"{path}.{name}") for name, one in cls.fields.items() if name in value})
         demand(not made.wrong(), path, made.wrong())
         return made
 

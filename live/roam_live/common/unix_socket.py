@@ -17,11 +17,13 @@ from roam_live.common.suppress import suppress
 TYPE_CHECKING = False
 if TYPE_CHECKING:
     from collections.abc import Callable
-    from socket import AF_UNIX, MSG_PEEK, SHUT_WR, SO_PEERCRED, SO_SNDBUF, SOCK_STREAM, SOL_SOCKET, socket as SocketBase
+    from socket import AF_UNIX, CMSG_SPACE, MSG_CMSG_CLOEXEC, MSG_PEEK, SCM_RIGHTS, SHUT_WR, SO_PEERCRED, SO_SNDBUF, SOCK_STREAM, SOL_SOCKET
+    from socket import socket as SocketBase
 else:
-    from _socket import AF_UNIX, MSG_PEEK, SHUT_WR, SO_PEERCRED, SO_SNDBUF, SOCK_STREAM, SOL_SOCKET, socket as SocketBase
+    from _socket import AF_UNIX, CMSG_SPACE, MSG_CMSG_CLOEXEC, MSG_PEEK, SCM_RIGHTS, SHUT_WR, SO_PEERCRED, SO_SNDBUF, SOCK_STREAM, SOL_SOCKET
+    from _socket import socket as SocketBase
 
-__all__ = ["MSG_PEEK", "SHUT_WR", "SO_SNDBUF", "SOL_SOCKET"]
+__all__ = ["CMSG_SPACE", "MSG_CMSG_CLOEXEC", "MSG_PEEK", "SCM_RIGHTS", "SHUT_WR", "SO_SNDBUF", "SOL_SOCKET"]
 
 # Seconds to wait for a socket that is not there yet, and seconds until the wait is reported.
 LONGEST_WAIT = 10.0

@@ -36,6 +36,9 @@ LATE = 0.2
 # The least seconds for each of several clients to take the input typed before a detach.
 LEAST_WAIT = 0.1
 
+# Seconds until a front end looks again if it may give way to one of the build that runs the session.
+LOOKS_AGAIN = 1.0
+
 # The message of a front end that another one detached.
 DETACHED = "[detached by another terminal]"
 
@@ -54,6 +57,8 @@ class FrontEnd:
         self.status = 0
         # True once something was typed, and once the session has ended.
         self.has_typed = self.has_ended = False
+        # True once a front end of another build follows this one, at the same window.
+        self.gives_way = False
         self.command_runner: CommandRunner | None = None
         self.wakeup, self.display = first.wakeup, first.display
         self.late = LateModules()
@@ -83,7 +88,7 @@ class FrontEnd:
         views, keyboard, windows = self.views, self.keyboard, self.windows
         views.server_ends, views.shows = self.server_ended, self.connection.show
         self.host_link.leaves = lambda: self.leave(DETACHED)
-        self.host_link.others_left = keyboard.others_left
+        self.host_link.others_left, self.host_link.upgraded = keyboard.others_left, self.give_way
         windows.waiting.types = keyboard.typed
         keyboard.left_window = views.left_commands
         keyboard.enters, keyboard.runs = lambda text: self.runner.typed(text), lambda wish: self.runner.run_wish(wish)
@@ -127,6 +132,17 @@ class FrontEnd:
         if line is not None and self.left is None:
             self.left, self.status = line, status
             self.watchdog.stop()
+
+    def give_way(self) -> None:
+        """Leave for a front end of the build that now runs this machine's session, once nothing is open here that it would not show."""
+        if not self.session.tools_folder():
+            return
+        view = self.views.commands
+        if view.copy_mode or self.display.part.popup or self.display.part.zoomed is not None or self.display.notice:
+            self.loop.later("give way", LOOKS_AGAIN, self.give_way)
+        elif self.left is None:
+            self.gives_way = True
+            self.leave("")
 
     # ---- the terminal
 

@@ -43,8 +43,29 @@ def follow(session: AnySession, is_read_only: bool, prefix: str, prediction: str
                 first.leave()
                 raise
             status = front.run()
+            if front.gives_way:
+                execute_anew(session, front.views.number, is_read_only, prediction)
             if front.has_ended_unmet():
                 ends_unmet()
             return status
     finally:
         session.close()
+
+
+def execute_anew(session: AnySession, window: int, is_read_only: bool, prediction: str) -> None:
+    """Execute a front end of the build that runs the session, at the same window."""
+    import os
+    import sys
+
+    from roam_live.common.errors import Fault, reason
+    from roam_live.session.tools_folder import MUX, demand_safe_tools
+
+    folder = session.tools_folder()
+    name = session.name.removesuffix(f":{session.number}")
+    words = ["watch"] if is_read_only else ["attach", "--predict", prediction]
+    try:
+        demand_safe_tools(folder)
+        os.execv(sys.executable, [sys.executable, os.path.join(folder, MUX), *words, f"{name}:{window}" if window else name])
+    except (OSError, Fault) as fault:
+        why = reason(fault) if isinstance(fault, OSError) else fault
+        raise Fault(f"the session goes on with another build, whose front end cannot be started: {why}; `mux {name}` attaches") from fault

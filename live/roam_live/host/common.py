@@ -9,6 +9,7 @@ from roam_live.common.fault_log import FaultLog
 from roam_live.common.io import read
 from roam_live.common.signals import signal
 from roam_live.common.suppress import suppress
+from roam_live.host.handed_rows import SCROLLBACK, handed_in
 from roam_live.host.kept_state import KeptState
 from roam_live.host.options import Spare, has_ended
 from roam_live.host.pane_hold import transit_of
@@ -28,6 +29,10 @@ AGAIN = 0.25
 
 # The signals that end the host. Its shells then get a hangup.
 LEAVING = (signal.SIGTERM, signal.SIGHUP)
+
+# The name at the holder of the stored rows for a host of another build, and seconds until its panes have claimed theirs.
+ROWS = "rows"
+HANDED_SECONDS = 15.0
 
 # Seconds for log readers to take the last rows at the session's end.
 LOGS_END = 1.0
@@ -57,14 +62,34 @@ class Common:
         self.state = kept.state
         self.socket = HostSocket(self.loop, state=self.state, link=self.link)
         self.socket.changed, self.socket.stores = kept.touch, kept.write
-        self.rows = Scrollback(self.loop, self.tell)
+        handed = handed_in(self.link.claim(SCROLLBACK))
+        self.link.drop(SCROLLBACK)
+        self.rows = Scrollback(self.loop, self.tell, handed=handed)
         self.rows.is_other = self.shows_other
+        self.take_rows()
         self.socket.offer_rows(self.rows)
         self.loop.faults = self.take_fault
         self.rows.hears_changed = self.see_to_panes
         # Called once a minute to protect folders.
         self.lasting: list[Callable[[], object]] = []
         self.loop.later("folders", LOOKS, self.look_at_folders)
+
+    def take_rows(self) -> None:
+        """Take the stored rows that a host of another build has handed over. The rows of panes that do not come back go soon."""
+        kept = self.link.claim(ROWS)
+        if not kept:
+            return
+        self.rows.room.take_handed(os.pread(kept.ends[0], os.fstat(kept.ends[0]).st_size, 0))
+        self.link.drop(ROWS)
+        os.close(kept.ends[0])
+        self.loop.later(ROWS, HANDED_SECONDS, self.rows.drop_handed)
+
+    def take_children(self) -> None:
+        """Take the servers and clients that the host before this one has started, which are children of this process too."""
+        from roam_live.session.processes import children_of
+
+        own = (self.link.process, self.rows.process.process if self.rows.process else 0)
+        self.hung += [process for process in children_of(os.getpid()) if process not in own]
 
     def windows(self) -> list[WindowHost]:
         """Return the windows whose panes are followed."""

@@ -8,9 +8,9 @@ import resource
 import sys
 import time
 
-from roam_live.common.errors import say
+from roam_live.common.errors import Fault, say
 from roam_live.common.event_loop import Loop, comes
-from roam_live.common.process import TOOLS
+from roam_live.common.process import TOOLS, program
 from roam_live.common.signals import signal
 from roam_live.common.suppress import suppress
 
@@ -23,8 +23,11 @@ if TYPE_CHECKING:
 else:
     from _socket import AF_UNIX, CMSG_SPACE, MSG_CMSG_CLOEXEC, SCM_RIGHTS, SOCK_SEQPACKET, SOL_SOCKET, socket, socketpair
 
-# The variable by which a holder gives a host its end of the pair; `bare` follows if hosts failed too often with their state.
+# The variable by which a host gets its end of the pair. After it `bare` follows if hosts failed too often with their state; or `upgraded`
+# if a host of another build has executed this one: the sum of this build's files, the limit of open files of programs, and the descriptors
+# of the host before, which stay open until this one has its own.
 PAIR = "ROAM_HOLDER"
+BARE, UPGRADED = "bare", "upgraded"
 
 # The most bytes and descriptors of a message.
 MOST, MOST_ENDS = 4096, 8
@@ -83,6 +86,19 @@ def host_words() -> bytes:
     return b"\0".join(map(os.fsencode, [sys.executable, str(TOOLS / "pane_shells"), *own]))
 
 
+def holder_words() -> list[str]:
+    """Return the words that run a holder of this build, without its end of the pair."""
+    return [sys.executable, "-IS", str(TOOLS / "holder")]
+
+
+def demand_sum(told: str) -> None:
+    """Refuse to go on if the files of this build are not those that were checked."""
+    from roam_live.session.tools_folder import build_sum
+
+    if build_sum(str(TOOLS), program()) != told:
+        raise Fault("the files of this build have changed since they were checked")
+
+
 class HolderLink:
     """The holder of a session: its descriptors by name, and requests to it. If it ends, the host starts another one."""
 
@@ -98,16 +114,17 @@ class HolderLink:
         self.own: dict[str, Kept] = {}
         self.left: dict[str, Kept] = {}
         self.hears_end: dict[str, Callable[[str], object]] = {}
-        # True if a holder has started this host; if it may not use the state; and if the session ends.
-        self.is_resumed = self.is_bare = self.is_over = False
+        # True if this host follows another one; if it may not use the state; if it was executed by one of another build; and if the session
+        # ends.
+        self.is_resumed = self.is_bare = self.is_upgraded = self.is_over = False
         # The limit of open files of programs: this process raises its own later.
         self.most_files = resource.getrlimit(resource.RLIMIT_NOFILE)[0]
         # Called after the start of a holder, to note its process.
         self.notes: Callable[[], object] = lambda: None
-        given, _, more = os.environ.pop(PAIR, "").partition(" ")
+        given, *more = os.environ.pop(PAIR, "").split(" ")
         if given:
-            self.is_resumed, self.is_bare = True, more == "bare"
-            self.resume(int(given))
+            self.is_resumed, self.is_bare, self.is_upgraded = True, more[:1] == [BARE], more[:1] == [UPGRADED]
+            self.begin(int(given), more[1:])
         else:
             self.start()
 
@@ -116,7 +133,7 @@ class HolderLink:
     def start(self) -> None:
         """Start a holder, and give it everything."""
         ours, theirs = socketpair(AF_UNIX, SOCK_SEQPACKET)
-        words = [sys.executable, "-IS", str(TOOLS / "holder"), str(ITS_END)]
+        words = [*holder_words(), str(ITS_END)]
         self.begun_at = self.loop.clock()
         try:
             self.process = os.posix_spawn(words[0], words, os.environ, setsid=True, setsigmask=[],
@@ -133,6 +150,15 @@ class HolderLink:
         for line, text, _ in self.asked.values():
             self.send(line, text=text)
         self.notes()
+
+    def begin(self, end: int, handed: list[str]) -> None:
+        """Follow another host. One of another build handed over some words; the files must be those that its check read."""
+        if self.is_upgraded:
+            demand_sum(handed[0])
+            self.most_files = int(handed[1])
+        self.resume(end)
+        for own in handed[2].split(",") if self.is_upgraded else ():
+            os.close(int(own))
 
     def resume(self, end: int) -> None:
         """Take everything that the holder keeps from an earlier host."""
@@ -155,7 +181,8 @@ class HolderLink:
         self.pair = pair
         pair.setblocking(False)
         self.loop.add(pair, self.hear, self.write, has_more=lambda: self.waiting, is_told=True)
-        self.send(b"run %d" % os.getpid(), text=host_words())
+        if not self.is_upgraded:
+            self.send(b"run %d" % os.getpid(), text=host_words())
 
     def lost(self) -> None:
         """Start another holder, since this one has ended. Until then this process alone has the terminals."""
@@ -313,8 +340,36 @@ class HolderLink:
         return kept.process if kept.end == RUNS else 0
 
     def guarded(self) -> None:
-        """Say that this host has its state: if it ends now, another one continues with everything."""
+        """Say that this host has its state: if it ends now, another one continues with everything.
+
+        After an upgrade the holder runs the build before until now. From now on it runs this one, and becomes it itself.
+        """
+        if self.is_upgraded:
+            self.send(b"run %d" % os.getpid(), text=host_words())
         self.send(b"guarded")
+        if self.is_upgraded:
+            self.is_upgraded = False
+            self.send(b"become holder", text=b"\0".join(map(os.fsencode, holder_words())))
+
+    def is_there(self) -> bool:
+        """Return True if a holder runs that has got all messages."""
+        return self.pair is not None and self.process != 0 and not self.waiting
+
+    def number(self) -> int:
+        """Return the descriptor of the pair; -1 without a holder."""
+        return self.pair.fileno() if self.pair else -1
+
+    def handed_over(self, build: str, ends: list[int]) -> str:
+        """Return the variable for a host of another build that this process executes: the sum of its files, and descriptors to close."""
+        return f"{self.number()} {UPGRADED} {build} {self.most_files} {','.join(map(str, ends))}"
+
+    def flush(self) -> None:
+        """Send all messages; this waits for the holder."""
+        if self.pair:
+            self.pair.setblocking(True)
+            self.write()
+            if self.pair:
+                self.pair.setblocking(False)
 
     def bye(self) -> None:
         """End the holder, since the session ends."""

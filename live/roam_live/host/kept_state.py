@@ -63,7 +63,10 @@ class KeptState:
             self.notices.append(f"the state of the pty host before is not used, and is kept as {BAD}: {why}")
             with suppress(OSError):
                 os.rename(self.path, os.path.join(os.path.dirname(self.path), BAD))
-        self.state.replaced += 1
+        if self.link.is_upgraded:
+            self.state.upgrades += 1
+        else:
+            self.state.replaced += 1
         self.claim_texts()
 
     def claim_texts(self) -> None:

@@ -10,9 +10,9 @@ import stat
 from roam_live.common.build_info import identity
 from roam_live.common.errors import Fault, log_to, reason
 from roam_live.common.files import replace_text
-from roam_live.common.process import begun
+from roam_live.common.process import TOOLS, begun
 from roam_live.host.window import MENDED, UNMENDED
-from roam_live.session.names import BUILD, REPLACED, WINDOWS_VERSION, windows_folder
+from roam_live.session.names import BUILD, REPLACED, TOOLS_FOLDER, WINDOWS_VERSION, windows_folder
 from roam_live.session.processes import noted_in
 from roam_live.session.roles import HOLDER, ROLES
 
@@ -109,7 +109,7 @@ class Mending:
 
         from roam_live.session.start_limits import current_limits
 
-        state = {"version": WINDOWS_VERSION, "command": command, BUILD: self.build, **current_limits(), **self.own()}
+        state = {"version": WINDOWS_VERSION, "command": command, **current_limits(), **self.own()}
 
         replace_text(os.path.join(common, "state.json"), json.dumps(state))
         os.makedirs(windows_folder(common), 0o700, exist_ok=True)
@@ -118,12 +118,13 @@ class Mending:
         self.windows.lasting.own = self.windows.lasting.found()
 
     def own(self) -> dict[str, object]:
-        """Return this process, the holder, and the number of replaced hosts, in the form of a note."""
-        link, found = self.windows.common.link, {}
+        """Return this process, the holder, its build and tools, and the number of replaced hosts, in the form of a note."""
+        link = self.windows.common.link
+        found: dict[str, object] = {BUILD: self.build, TOOLS_FOLDER: str(TOOLS)}
         for role, process in (("host", os.getpid()), (HOLDER, link.process)):
             if process:
                 found[role] = [process, begun(process)]
-        return {**found, REPLACED: self.windows.state.replaced} if self.windows.state.replaced else {**found}
+        return {**found, REPLACED: self.windows.state.replaced} if self.windows.state.replaced else found
 
     def note_holder(self) -> None:
         """Add the holder, and this process if the holder has started it, to the note."""

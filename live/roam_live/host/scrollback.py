@@ -22,6 +22,7 @@ if TYPE_CHECKING:
     from collections.abc import Callable
 
     from roam_live.common.tty import Size
+    from roam_live.host.handed_rows import HandedProcess
     from roam_live.host.pane_scrollback import Rewrapped, Told
 
 # Bytes in the queue of the scrollback process above which no pane is read, until half of them are left; and the most seconds of such a
@@ -90,8 +91,9 @@ def chosen_rows() -> tuple[int, str]:
 class Scrollback:
     """The rows of all panes, and the scrollback process. A call takes messages for the user."""
 
-    def __init__(self, loop: Loop, tells: Callable[[str], object], most_rows: int | None = None) -> None:
-        self.loop, self.tells = loop, tells
+    def __init__(self, loop: Loop, tells: Callable[[str], object], most_rows: int | None = None,
+                 handed: HandedProcess | None = None) -> None:
+        self.loop, self.tells, self.handed = loop, tells, handed
         chosen, wrong = chosen_rows()
         if wrong:
             tells(wrong)
@@ -134,8 +136,9 @@ class Scrollback:
         """Spawn a scrollback process, and retry later if that fails."""
         if self.is_off:
             return
+        handed = self.handed.ends() if self.handed and self.handed.process else None
         try:
-            self.process = ScrollbackProcess(self.loop, self.words(), self.take, self.wrote, self.ended, self.reads, self.shed)
+            self.process = ScrollbackProcess(self.loop, self.words(), self.take, self.wrote, self.ended, self.reads, self.shed, handed)
         except (Fault, OSError) as fault:
             self.tell(NOT_RUN.format(reason(fault)))
             self.spawn_later()
@@ -148,7 +151,7 @@ class Scrollback:
 
     def ended(self, why: str, status: int | None) -> None:
         """Continue after the end of the scrollback process. The contents of its terminals are lost."""
-        self.process = None
+        self.process = self.handed = None
         self.loop.drop("rows are behind")
         self.terminals.clear()
         self.seconds.clear()
@@ -220,9 +223,13 @@ class Scrollback:
     # ---- panes
 
     def begin(self, number: int, generation: int, size: Size) -> None:
-        """Store the rows of a new pane generation."""
+        """Store the rows of a pane generation, which is new, or which a host before this one may have handed over."""
         self.drop(number)
-        self.panes[number] = PaneScrollback(self.room.pane(number, generation), size)
+        pane = self.panes[number] = PaneScrollback(self.room.pane(number, generation), size)
+        if self.handed and self.handed.give(number, generation, pane):
+            self.terminals[pane.terminal] = pane
+            if pane.second >= 0:
+                self.seconds[pane.second] = pane
 
     def resize(self, number: int, size: Size) -> None:
         """Handle a new size of a pane."""
@@ -317,6 +324,7 @@ class Scrollback:
         """Begin a terminal in the scrollback process, and return its number, which no pane uses."""
         assert self.process is not None
         used = {number for pane in [*self.panes.values(), *self.leaving] for number in (pane.terminal, pane.second)}
+        used |= set(self.handed.rest()) if self.handed else set()
         self.last = next(number % MOST_TERMINALS for number in range(self.last + 1, self.last + 1 + MOST_TERMINALS)
                          if number % MOST_TERMINALS not in used)
         self.terminals.pop(self.last, None)
@@ -332,10 +340,29 @@ class Scrollback:
         self.answer_all(pane)
 
     def miss(self, number: int) -> None:
-        """Record that the output of a pane so far is unknown here."""
+        """Record that the output of a pane so far is unknown here, unless its terminal was handed over."""
         pane = self.panes.get(number)
-        if pane:
+        if pane and pane.terminal < 0:
             pane.lacks, pane.is_whole = True, False
+
+    def is_quiet(self) -> bool:
+        """Return True if nothing is under way between this and the scrollback process."""
+        is_busy = self.leaving or self.is_losing or self.is_behind or self.ending
+        is_asked = any(pane.awaited or pane.rewraps for pane in self.panes.values())
+        return not (is_busy or is_asked) and (not self.process or self.process.is_quiet())
+
+    def hand_over(self) -> None:
+        """Send the scrollback process what waits for it, so that this is quiet soon."""
+        if self.process:
+            self.process.hand()
+
+    def drop_handed(self) -> None:
+        """Drop what a host before this one has handed over for panes that did not come back."""
+        if self.handed:
+            self.ending += self.handed.rest()
+            self.handed = None
+            self.end_terminals()
+        self.room.drop_handed()
 
     def end_terminal(self, pane: PaneScrollback) -> None:
         """End the terminal of a pane. Earlier output of it may still come."""

@@ -170,9 +170,10 @@ class ScrollbackProcess:
 
     def __init__(self, loop: Loop, words: list[str], takes: Callable[[ScrollbackRecord], object], wrote: Callable[[], object],
                  ended: Callable[[str, int | None], object], reads: Callable[[], bool] = always,
-                 sheds: Callable[[], object] = lambda: None) -> None:
+                 sheds: Callable[[], object] = lambda: None, handed: tuple[int, list[int]] | None = None) -> None:
         self.loop, self.takes, self.wrote, self.ended, self.sheds = loop, takes, wrote, ended, sheds
-        self.process, (self.input, self.output, self.error) = spawned(words)
+        # A host before this one may have handed its process over.
+        self.process, (self.input, self.output, self.error) = handed or spawned(words)
         self.records = ScrollbackRecords()
         self.waiting = bytearray()
         # The output for one terminal since the last record of another. It becomes one record.
@@ -194,6 +195,10 @@ class ScrollbackProcess:
     def size(self) -> int:
         """Return the number of bytes that wait for it."""
         return len(self.waiting) + self.chunks_size
+
+    def is_quiet(self) -> bool:
+        """Return True if nothing waits for it here, and no record of it is incomplete."""
+        return self.is_there and not self.size() and not self.records.missing and not self.records.rest
 
     def has_batch(self) -> bool:
         """Return True if there is something to send now."""

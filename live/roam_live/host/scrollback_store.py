@@ -204,16 +204,35 @@ class RowsRoom:
     def __init__(self, most_rows: int, most_bytes: int = MOST_KEPT, most_held: int = MOST_HELD) -> None:
         self.most_rows, self.most_bytes, self.most_held = most_rows, most_bytes, most_held
         self.panes: list[PaneRows] = []
+        # Rows of the host before this one, by pane and generation, until their panes are reported.
+        self.handed: dict[tuple[int, int], PaneRows] = {}
         self.snapshots: list[Snapshot] = []
         # The size of stored chunks, and of those that only snapshots use, with their screens.
         self.kept = self.held = 0
         self.place = 0
 
     def pane(self, pane: int, generation: int) -> PaneRows:
-        """Return the rows of a new pane generation."""
-        rows = PaneRows(pane, generation, self)
-        self.panes.append(rows)
+        """Return the rows of a pane generation, which a host before this one may have handed over."""
+        rows = self.handed.pop((pane, generation), None)
+        if rows is None:
+            rows = PaneRows(pane, generation, self)
+            self.panes.append(rows)
         return rows
+
+    def written(self) -> bytes:
+        """Return all chunks as bytes, for the next host."""
+        return b"".join(data for rows in self.panes for data in rows.written())
+
+    def take_handed(self, data: bytes) -> None:
+        """Take the rows of the host before this one. Each pane claims its own."""
+        self.read(data)
+        self.handed = {(rows.pane, rows.generation): rows for rows in self.panes}
+
+    def drop_handed(self) -> None:
+        """Drop the rows that no pane has claimed."""
+        for rows in self.handed.values():
+            self.drop(rows)
+        self.handed.clear()
 
     def read(self, data: bytes) -> int:
         """Store rows from a file, and return the end of its last complete chunk. The part after it may be torn.

@@ -1,7 +1,10 @@
 """The peers at the socket `host` of a session's pty host, and their uploads."""
 from __future__ import annotations
 
-from roam_live.common.io import LinePeer, LineReader
+import os
+
+from roam_live.common.io import MOST_READ, LinePeer, LineReader
+from roam_live.common.unix_socket import CMSG_SPACE, MSG_CMSG_CLOEXEC, is_own_peer
 from roam_live.protocol.host_lines import LONGEST_HOST_LINE
 from roam_live.protocol.presence import CLIENT, GONE, OTHERS, THERE, Presence
 from roam_live.protocol.zoom_record import NO_ZOOM
@@ -12,6 +15,9 @@ if TYPE_CHECKING:
 
     from roam_live.host.scrollback_queries import RowAsker
     from roam_live.host.window_channel import WindowChannel
+
+# The room for a descriptor beside the bytes of a read.
+DESCRIPTOR_ROOM = CMSG_SPACE(4)
 
 # A peer gets reports about at most this many texts.
 MOST_NAMES = 64
@@ -65,8 +71,33 @@ class HostPeer(LinePeer):
         self.names: dict[str, None] = {}
         # Its requests about rows.
         self.asker: RowAsker | None = None
+        # A descriptor that it has passed, -1 without one.
+        self.lent = -1
         # The end of the host's wait, if it logs rows and is slow.
         self.awaited_until = 0.0
+
+    def received(self) -> bytes | None:
+        """Return the bytes that arrived, and keep the descriptor that came with them: None if there are none yet, empty at the end."""
+        try:
+            chunk, control, _, _ = self.end.recvmsg(MOST_READ, DESCRIPTOR_ROOM, MSG_CMSG_CLOEXEC)
+        except BlockingIOError:
+            return None
+        except OSError:
+            return b""
+        for _, _, data in control:
+            for end in memoryview(data[: len(data) // 4 * 4]).cast("i"):
+                self.lend(end)
+        return chunk
+
+    def lend(self, end: int = -1) -> None:
+        """Keep a descriptor in place of the one before."""
+        if self.lent >= 0:
+            os.close(self.lent)
+        self.lent = end
+
+    def is_own(self) -> bool:
+        """Return True if its process belongs to this user."""
+        return is_own_peer(self.end)
 
     def leave_channel(self) -> None:
         """Leave its window, and drop its subscriptions there."""

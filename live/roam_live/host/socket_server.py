@@ -9,7 +9,7 @@ import os
 
 from roam_live.common.errors import Fault, reason, say
 from roam_live.common.event_loop import Loop
-from roam_live.common.io import LongLine, read
+from roam_live.common.io import LongLine
 from roam_live.common.patterns import LazyPattern
 from roam_live.common.unix_socket import Listener
 from roam_live.host.scrollback_queries import RowAsker
@@ -162,7 +162,7 @@ class HostSocket:
 
     def hear(self, peer: HostPeer) -> None:
         """Take the input of a peer, and disconnect it at end of file or after an invalid line."""
-        chunk = read(peer.end.fileno())
+        chunk = peer.received()
         if chunk == b"":
             self.drop(peer)
             return
@@ -212,12 +212,16 @@ class HostSocket:
             self.comes(peer, presence)
         elif line == WHO:
             peer.asks = True
-            self.send(peer, [f"host {self.state.name}"], SESSION)
+            self.send(peer, [self.own_line()], SESSION)
         else:
             peer.asks_commands = True
         if peer.channel:
             peer.channel.said(peer, line)
         return True
+
+    def own_line(self) -> str:
+        """Return the line that names this host, with the number of the session's upgrades if there were some."""
+        return f"host {self.state.name} {self.state.upgrades}" if self.state.upgrades else f"host {self.state.name}"
 
     def comes(self, peer: HostPeer, presence: Presence) -> None:
         """Record a terminal that is here, or its new size."""
@@ -390,6 +394,7 @@ class HostSocket:
         if peer not in self.peers:
             return
         self.uploads.drop(peer)
+        peer.lend()
         self.loop.drop(f"unread by {peer.number}")
         if peer.asker:
             peer.asker.close()

@@ -258,6 +258,8 @@ class SessionState(StateRecord):
     spent_pastes: dict[str, str] = field(map_of(NAMED, one_of(INSERTED, LOST), MOST_SPENT), dict)
     # The number of hosts that followed one which had ended.
     replaced: int = field(number_from(0, MOST_NUMBER), int)
+    # The number of hosts that another build has executed in place of an earlier one.
+    upgrades: int = field(number_from(0, MOST_NUMBER), int)
     # True once the shell commands of the settings file were run.
     has_run_settings: bool = field(flag, bool)
 

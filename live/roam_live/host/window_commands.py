@@ -1,8 +1,10 @@
 """The lines about windows at the pty host: it answers those of front ends, and sends reports of events."""
 from __future__ import annotations
 
+from roam_live.common.build_info import identity
 from roam_live.common.tty import largest
 from roam_live.protocol.host_lines import SESSION
+from roam_live.protocol.upgrade_lines import BUILD, UPGRADE
 from roam_live.protocol.window_lines import GONE, NAME, OPEN, OPENED, RUNS, SHUT, WINDOW, WINDOWS, name_in, name_word
 
 TYPE_CHECKING = False
@@ -54,6 +56,10 @@ class WindowLines:
             return False
         elif names and name_in(names[2]) is not None:
             self.answer_gone(peer, int(names[1]), self.table.rename(int(names[1]), name_in(names[2]) or ""))
+        elif line == UPGRADE:
+            self.table.upgrade.take(peer)
+        elif line == BUILD:
+            self.socket.send(peer, [f"{BUILD} {self.table.upgrade.sum()} {identity()}"], SESSION)
         elif shuts:
             self.answer_gone(peer, int(shuts[1]), self.table.shut(int(shuts[1])))
         else:

@@ -4,6 +4,7 @@ from __future__ import annotations
 import functools
 import os
 
+from roam_live.common.build_info import identity
 from roam_live.common.errors import Fault, reason, say
 from roam_live.common.files import replace_text
 from roam_live.common.process import note_ends
@@ -20,6 +21,7 @@ from roam_live.host.repair import Mending
 from roam_live.host.scrollback import pane_of_key
 from roam_live.host.socket_server import RECONNECTS
 from roam_live.host.state import WindowState
+from roam_live.host.upgrade import HostUpgrade
 from roam_live.host.window import WindowHost
 from roam_live.host.window_commands import WindowLines
 from roam_live.protocol.window_lines import ACTIVITY, BELL, GONE, MOST_WINDOWS, RUNS
@@ -73,6 +75,7 @@ class Windows:
         mending.note_holder()
         common.see_to(self.make_last)
         self.lines = common.socket.lines = WindowLines(self, common.socket)
+        self.upgrade = HostUpgrade(self)
         if asked.is_first:
             self.await_first()
         else:
@@ -446,7 +449,10 @@ class Windows:
 
     def run(self) -> int:
         """Run the windows until the last of them ends. After a failure they go on, and another host takes them over."""
-        if self.common.link.is_resumed:
+        if self.common.link.is_upgraded:
+            self.common.take_children()
+            self.common.tell(f"the session runs roam {identity()} now")
+        elif self.common.link.is_resumed:
             say("this pty host replaces one that ended; the programs continue")
         if self.common.kept.notices:
             # The terminals have reconnected by then.
@@ -457,6 +463,7 @@ class Windows:
         elif not self.windows:
             self.open(None, 0, self.first)
         self.run_settings()
+        self.common.link.guarded()
         while not self.common.is_over:
             self.loop.turn()
         self.end_all()

@@ -6,6 +6,7 @@ import os
 from roam_live.common.event_loop import Loop
 from roam_live.common.io import read
 from roam_live.common.retry import Retry
+from roam_live.common.text import decimal_in
 from roam_live.common.unix_socket import connected_to, is_anybody
 from roam_live.protocol.colours import COLOUR, Colours, told_in
 from roam_live.protocol.host_lines import SESSION, led
@@ -46,6 +47,9 @@ FEW = 2
 # A new host may begin to listen within so many seconds after its launch. Until then it is expected, and retried at short pauses.
 LAUNCHES = 5.0
 
+# The most upgrades of a session.
+MOST_UPGRADES = 10**9
+
 # The most bytes that may wait for a host.
 MOST_UNSENT = 2 * MOST_BYTES
 
@@ -66,6 +70,9 @@ class HostLink(Subscription):
         # The views of each window that the user has visited, and of the current one.
         self.clients: dict[int, HostClient] = {}
         self.here: HostClient | None = None
+        # The number of the session's upgrades at the first report of a host, -1 before; and a call once there are more.
+        self.upgrades = -1
+        self.upgraded: Callable[[], object] = lambda: None
         # A flag for a host that has reported so much, the host's name, and a flag for its presence.
         self.is_known = False
         self.host_name = ""
@@ -179,7 +186,9 @@ class HostLink(Subscription):
             name, _, more = rest.partition(" ")
             self.answered(name, word, more)
         elif word == HOST:
-            self.meet(rest)
+            name, _, upgrades = rest.partition(" ")
+            self.meet(name)
+            self.count_upgrades(decimal_in(upgrades, MOST_UPGRADES) or 0)
         elif line == LEAVE:
             self.leaves()
         elif word == LEFT:
@@ -224,6 +233,14 @@ class HostLink(Subscription):
             self.ask_to_take(text, data)
         for text in self.stored:
             self.ask(f"status {text}")
+
+    def count_upgrades(self, number: int) -> None:
+        """Take the number of the session's upgrades. If it has grown since the first report, another build runs the session."""
+        if self.upgrades < 0:
+            self.upgrades = number
+        elif number > self.upgrades:
+            self.upgrades = number
+            self.upgraded()
 
     # ---- colours
 

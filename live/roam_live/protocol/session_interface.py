@@ -81,5 +81,8 @@ class AnySession(HostedSession, Protocol):
     def windows(self) -> Sequence[AnySession]:
         """Return the running windows of the session, in order."""
 
+    def tools_folder(self) -> str:
+        """Return the folder of the tools that the session's pty host runs, if that is on this machine and says so; else nothing."""
+
     def close(self) -> None:
         """Release it, and end the processes spawned for this front end alone."""

@@ -15,8 +15,8 @@ from roam_live.common.unix_socket import is_listened
 from roam_live.protocol.panes import ASKED, MOST_CLIENTS, asked_places
 from roam_live.session.environment import LINK
 from roam_live.session.front_end_lock import FRONT_ENDS, has_front_ends
-from roam_live.session.names import BUILD, HOST_STATE, LONGEST_PATH, REMOTE_CLIENTS, WINDOWS_VERSION
-from roam_live.session.processes import START_WAIT, Processes
+from roam_live.session.names import BUILD, HOST_STATE, LONGEST_PATH, REMOTE_CLIENTS, TOOLS_FOLDER, WINDOWS_VERSION
+from roam_live.session.processes import START_WAIT, Processes, noted_in
 from roam_live.session.roles import ROLES, client_words
 
 TYPE_CHECKING = False
@@ -87,6 +87,14 @@ class SessionFolder(Processes):
     def title(self) -> str:
         """Return its name as a window; nothing if it has none."""
         return ""
+
+    def tools_folder(self) -> str:
+        """Return the folder of the tools that the session's pty host runs; nothing if its note does not say so."""
+        try:
+            found = (noted_in(os.path.join(self.common, "state.json")) or {}).get(TOOLS_FOLDER)
+        except OSError:
+            return ""
+        return found if isinstance(found, str) else ""
 
     # ---- its known state
 

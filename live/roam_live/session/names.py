@@ -97,6 +97,9 @@ REMOTE_CLIENTS = "remote_clients"
 # The key in a session's note for the build of roam that last started its pty host or relay.
 BUILD = "build"
 
+# The key for the folder of the tools of that build.
+TOOLS_FOLDER = "tools"
+
 # The key for the number of pty hosts that followed one which had ended, while the programs went on.
 REPLACED = "replaced"
 

@@ -94,6 +94,10 @@ class PortSession:
         """Return the message and exit status after the session's end."""
         return "[the session has ended]", 0
 
+    def tools_folder(self) -> str:
+        """Return nothing: no session is known there."""
+        return ""
+
     def close(self) -> None:
         """End the client process, by force if it is late, for example because it is stopped."""
         if self.client:

@@ -322,6 +322,14 @@ def sessions_in_panes(name):
     return sorted(found)
 
 
+def time_to_next_host(name):
+    """Kill the pty host of a session, and return the seconds until the next one has its state."""
+    process, begin = noted(name)["host"][0], time.monotonic()
+    os.kill(process, signal.SIGKILL)
+    comes(lambda: noted(name)["host"][0] != process and said("list-windows", name)[0] == 0)
+    return time.monotonic() - begin
+
+
 @scene
 def host_killed(folder):
     """A killed pty host or holder is replaced, and the programs go on with what was typed meanwhile. If both are killed the shells are new,
@@ -340,6 +348,8 @@ def host_killed(folder):
         if role == "host":
             check("which the front end says", outer.status("the pty host was replaced; the programs continue"), outer.rows)
     check("the shell is the same, and no other one is there", shells == sessions_in_panes("other"), lambda: sessions_in_panes("other"))
+    times = [time_to_next_host("other") for _ in range(6)]
+    check("each next host is there soon, however many ended before", max(times) < 2.0, times)
     outer.type(b"jobs\r")
     check("with its job", outer.shows("Running"), outer.rows)
     host, holder = (noted("other")[role][0] for role in ("host", "holder"))

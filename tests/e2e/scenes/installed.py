@@ -3,7 +3,7 @@ import os
 import shutil
 import subprocess
 
-from tried import LIVE, Outer, PROGRAM, SESSION, check, comes, said, scene, tool
+from tried import LIVE, Outer, PROGRAM, SESSION, check, comes, commands, noted, said, scene, tool
 from roam_live.common.process import program
 
 # The commit of the build that is installed over the first one.
@@ -61,7 +61,7 @@ def installed(folder):
     told = run(prefix, "ls")
     check("ls names the build of a session that another build began", "runs roam" in told[1] and "mux upgrade" in told[1], told)
     told = run(prefix, "upgrade")
-    check("upgrade says what to do", NEWER in told[1].splitlines()[0] and f"mux kill {SESSION} && mux new {SESSION}" in told[1], told)
+    check("upgrade says what to do", NEWER in told[1].splitlines()[0] and "`mux upgrade NAME`" in told[1], told)
     goes_on(outer, 1)
     outer.type(b"\x02c")
     check("a window is opened", comes(lambda: "2:" in outer.rows()[-1]), outer.rows)
@@ -80,6 +80,76 @@ def installed(folder):
     check("the session runs on", told[1].startswith(f"{SESSION} "), told)
     told = said("kill", "-f", SESSION)
     check("and ends", told == (0, "", ""), told)
+
+
+# The lines that are printed before an upgrade, above the screen; and the upgrades to and fro while keys are typed.
+LINES, UPGRADES = 60, 6
+
+
+@scene
+def upgraded(folder):
+    """A session goes on with another build: its programs, screens, scrollback and terminals. Keys typed meanwhile arrive once, in order."""
+    os.environ.pop("ROAM", None)
+    prefixes = folder / "one", folder / "two"
+    install(prefixes[0])
+    install(prefixes[1], NEWER)
+    outer = Outer([str(prefixes[0] / "bin/roam"), "mux", SESSION], environment=BUNDLES)
+    check("a session begins", outer.begins(), outer.rows)
+    outer.type(f"seq 1001 {1000 + LINES}\r".encode())
+    outer.shows(str(1000 + LINES))
+    outer.type(b"\x02c")
+    check("with two windows", comes(lambda: "2:" in outer.rows()[-1]), outer.rows)
+    outer.type(f"exec cat > {folder}/typed\r".encode())
+    comes((folder / "typed").exists)
+    own, before, front = commands(SESSION), noted(SESSION), outer.process.pid
+    keys = ""
+    for number in range(UPGRADES):
+        text = "".join(f"{number}:{one} " for one in range(40)) + "\r"
+        keys += text
+        for place in range(0, len(text), 8):
+            outer.type(text[place : place + 8].encode())
+        told = run(prefixes[(number + 1) % 2], "upgrade", SESSION)
+        check(f"upgrade {number + 1}", told[0] == 0 and f"{SESSION}: runs roam" in told[1], told)
+        check("ls names no other build", "runs roam" not in run(prefixes[(number + 1) % 2], "ls")[1])
+    check("each key was read once", comes(lambda: (folder / "typed").read_text() == keys.replace("\r", "\n")),
+          lambda: ((folder / "typed").read_text(), keys))
+    after = noted(SESSION)
+    are_same = all(after[role] == before[role] for role in ("host", "holder"))
+    check("programs, host and holder are the same processes", commands(SESSION) == own and are_same, (own, before, after))
+    is_new = comes(lambda: f"{prefixes[0]}/lib/roam/mux attach" in command_line(front))
+    check("the front end is one of the last build", is_new, lambda: command_line(front))
+    check("its terminal shows the same window", comes(lambda: "[1] 1:" in outer.rows()[-1] and "2:" in outer.rows()[-1]), outer.rows)
+    told = said("capture", "-S", "-", f"{SESSION}:1")
+    check("the scrollback is there", all(str(1000 + one) in told[1] for one in range(1, LINES + 1)), told)
+    not_upgraded(prefixes, outer)
+    outer.type(b"\x02d")
+    outer.ends()
+    subprocess.run(tool("mux", "kill", "-f", SESSION), check=True)
+
+
+def command_line(process):
+    """Return the words of a process."""
+    with open(f"/proc/{process}/cmdline", "rb") as file:
+        return file.read().decode().replace("\0", " ")
+
+
+def not_upgraded(prefixes, outer):
+    """Check that a build is refused in words if it is unsafe, can't read the state, or fails at its start, and that the session goes on."""
+    own, tools = commands(SESSION), prefixes[1] / "lib/roam"
+    whole = (tools / "pane_shells").read_text(encoding="utf-8")
+    fails = whole.replace("    asked = read_words()\n", "    raise SystemExit(3)\n")
+    for text, mode, words in ((whole, 0o777, "can be written by other users"), (fails, 0o755, "its new pty host failed"),
+                              ("raise SystemExit(3)\n", 0o755, "its check printed no build")):
+        (tools / "pane_shells").write_text(text, encoding="utf-8")
+        (tools / "pane_shells").chmod(mode)
+        told = run(prefixes[1], "upgrade", SESSION)
+        check(f"refused: {words}", told[0] == 1 and words in told[2], told)
+        # A host that failed follows as a child of the holder.
+        check("the programs go on", comes(lambda: set(own) <= set(commands(SESSION))), own)
+    told = run(prefixes[0], "upgrade", SESSION)
+    check("the build of before runs", told[1] == f"{SESSION}: runs this build already\n", told)
+    outer.type(b"\x021")
+    check("and its terminal works", comes(lambda: "1:" in outer.rows()[-1]), outer.rows)
 
 
 @scene

@@ -1,4 +1,5 @@
 """Kills of the pty host and the holder while programs print and read: no program ends, and no byte is lost or doubled."""
+import contextlib
 import os
 import random
 import signal
@@ -6,6 +7,7 @@ import subprocess
 import time
 
 from tried import SESSION, Outer, check, comes, commands, noted, program, said, scene, tool
+from scenes.installed import NEWER, install
 
 # A program that logs what it reads. For each p it prints groups of eight characters, the number of each in it, and logs those too.
 PROGRAM_TEXT = """
@@ -25,8 +27,11 @@ while True:
             text = text[os.write(1, text):]
 """
 
-# The kills of the gate, and their seed; the keys typed before and after each.
-KILLS, SEED, KEYS = 8, 11, 40
+# The kills of the gate, and their seed, or those that the environment names; the keys typed before and after each.
+KILLS, SEED, KEYS = int(os.environ.get("ROAM_KILLS", "8")), int(os.environ.get("ROAM_SEED", "11")), 40
+
+# The seconds within which an upgrade is begun, checked and over.
+UPGRADE_SECONDS = 0.6
 
 
 def shown_by(path):
@@ -44,15 +49,30 @@ def typed(outer, chance):
     return keys
 
 
-@scene
-def kills(folder):
-    """The host or the holder is killed at a random moment of a burst, a few times. The programs go on with each byte, once."""
+def begun(folder):
+    """Begin a session with the program, and return its terminal and the logs of what that reads and prints."""
     outer = Outer(tool("mux", SESSION))
     outer.begins()
     (folder / "program").write_text(PROGRAM_TEXT, encoding="ascii")
     paths = folder / "read", folder / "printed"
     outer.type(f"exec python3 {folder}/program {paths[0]} {paths[1]}\r".encode())
     check("a program reads", comes(lambda: paths[1].exists() and paths[1].stat().st_size > 0), outer.rows)
+    return outer, paths
+
+
+def check_logs(paths, keys):
+    """Check that the program has read all keys once, in order, and that the screen shows what it printed."""
+    check("each key is read once, in order", comes(lambda: paths[0].read_bytes() == keys), lambda: (len(paths[0].read_bytes()), len(keys)))
+    size = keys.count(b"p") * 20_000 + 7
+    comes(lambda: paths[1].stat().st_size == size)
+    expected = shown_by(paths[1])
+    check("what it printed is shown, no byte lost or doubled", comes(lambda: is_screen(captured(), expected)), captured)
+
+
+@scene
+def kills(folder):
+    """The host or the holder is killed at a random moment of a burst, a few times. The programs go on with each byte, once."""
+    outer, paths = begun(folder)
     own, chance, keys = commands(SESSION), random.Random(SEED), b""
     for count in range(KILLS):
         role = chance.choice(("host", "holder"))
@@ -62,13 +82,33 @@ def kills(folder):
         os.kill(process, signal.SIGKILL)
         keys += typed(outer, chance)
         check(f"kill {count + 1}: another {role} is there", comes(lambda role=role, process=process: noted(SESSION)[role][0] != process))
-        is_read = comes(lambda keys=keys: paths[0].read_bytes() == keys)
-        check("each key is read once, in order", is_read, lambda keys=keys: (len(paths[0].read_bytes()), len(keys)))
-        size = keys.count(b"p") * 20_000 + 7
-        comes(lambda size=size: paths[1].stat().st_size == size)
-        expected = shown_by(paths[1])
-        is_shown = comes(lambda expected=expected: is_screen(captured(), expected))
-        check("what it printed is shown, no byte lost or doubled", is_shown, captured)
+        check_logs(paths, keys)
+    check("the program is the same", all(os.path.exists(f"/proc/{one}") for one in own) and own, own)
+    subprocess.run(tool("mux", "kill", "-f", SESSION), check=True)
+
+
+@scene
+def killed_upgrades(folder):
+    """A session is moved to and fro between two builds under bursts, and its host or holder is killed at a random moment of most upgrades."""
+    os.environ.pop("ROAM", None)
+    prefixes = folder / "one", folder / "two"
+    install(prefixes[0])
+    install(prefixes[1], NEWER)
+    outer, paths = begun(folder)
+    own, chance, keys = commands(SESSION), random.Random(SEED), b""
+    for count in range(KILLS):
+        roles = {role: noted(SESSION)[role][0] for role in ("host", "holder")}
+        keys += typed(outer, chance)
+        upgrade = subprocess.Popen([str(prefixes[count % 2] / "bin/roam"), "mux", "upgrade", SESSION], stdin=subprocess.DEVNULL,
+                                   stdout=subprocess.PIPE, stderr=subprocess.STDOUT)
+        if count % 4:
+            time.sleep(chance.random() * UPGRADE_SECONDS)
+            with contextlib.suppress(ProcessLookupError):
+                os.kill(roles[chance.choice(("host", "holder"))], signal.SIGKILL)
+        keys += typed(outer, chance)
+        told = upgrade.communicate()[0].decode()
+        check(f"upgrade {count + 1} is over, in words", told.startswith((f"{SESSION}: ", "mux: ")) and "Traceback" not in told, told)
+        check_logs(paths, keys)
     check("the program is the same", all(os.path.exists(f"/proc/{one}") for one in own) and own, own)
     subprocess.run(tool("mux", "kill", "-f", SESSION), check=True)
 
