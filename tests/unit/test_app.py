@@ -3,6 +3,7 @@ import os
 import pty
 import select
 import signal
+import sys
 import termios
 from contextlib import suppress
 from unittest import mock
@@ -11,6 +12,7 @@ from aids import Case, StillLoop, closed, read_now, record
 from roam_live.common import tty
 from roam_live.common.errors import Fault
 from roam_live.common.event_loop import comes
+from roam_live.common.process import TOOLS
 from roam_live.frontend import app, first_painting, follow, outer_terminal, paste, window_views
 from roam_live.frontend.app import FrontEnd
 from roam_live.frontend.connection import Connecting
@@ -740,13 +742,24 @@ class Loop(Fronts):
 
         self.patch_of(follow, "PAINTS", 0.0)
         with mock.patch.object(app, "FrontEnd") as made:
-            made.return_value.run = runs
+            made.return_value.run, made.return_value.gives_way = runs, False
             self.environment(ROAM_MOUSE="on", ROAM_CLIPBOARD="off")
             self.assertEqual(follow.follow(self.place, True, "C-a", "never"), 5)
             self.assertEqual(made.call_args[0][:4], (self.place, True, "C-a", "never"))
             self.assertEqual(made.call_args[1], {"has_mouse": True, "has_clips": False})
             first = made.call_args[0][5]
             self.addCleanup(lambda: closed(first.display.outer.end))
+            executed = []
+            made.return_value.gives_way, made.return_value.views.number = True, 3
+            with mock.patch.object(follow.os, "execv", lambda *words: executed.append(words)):
+                with self.assertRaisesRegex(Fault, "`mux main` attaches"):
+                    follow.execute_anew(self.place, 3, True, "never")
+                with mock.patch.object(self.place, "tools_folder", lambda: str(TOOLS)):
+                    follow.execute_anew(self.place, 3, True, "never")
+                    follow.execute_anew(self.place, 0, False, "always")
+            words = [sys.executable, str(TOOLS / "mux")]
+            self.assertEqual(executed, [(sys.executable, [*words, "watch", "main:3"]),
+                                        (sys.executable, [*words, "attach", "--predict", "always", "main"])])
             self.assertEqual(self.taken(self.listener).recv(999), b"events\nwatch\npart 23 80\n")
             first.leave()
             # Invalid settings are refused before the terminal is taken; otherwise it is restored.

@@ -1,6 +1,9 @@
 """Lets a user follow a session at a terminal. The session is shown first, and the rest of the front end is loaded afterwards."""
 from __future__ import annotations
 
+import os
+import sys
+
 import roam_bundle
 
 from roam_live.config.environment import sets_clipboard, wants_mouse
@@ -54,9 +57,6 @@ def follow(session: AnySession, is_read_only: bool, prefix: str, prediction: str
 
 def execute_anew(session: AnySession, window: int, is_read_only: bool, prediction: str) -> None:
     """Execute a front end of the build that runs the session, at the same window."""
-    import os
-    import sys
-
     from roam_live.common.errors import Fault, reason
     from roam_live.session.tools_folder import MUX, demand_safe_tools
 

@@ -41,6 +41,8 @@ def files_in(folder: str) -> list[str]:
 
 def demand_safe(path: str) -> None:
     """Refuse a file or folder that another user than root and this one may change, or replace by a change of a parent."""
+    if not os.path.isabs(path):
+        raise Fault(f"{path!r} is no absolute path")
     for one in (path, *parents(path)):
         found = os.lstat(one)
         # In a sticky folder such as /tmp nobody replaces what belongs to another user.
