@@ -1,5 +1,5 @@
 -- How each of the main screen's 200 rows ends, from 0. This moves with the row. A row goes on from the moment at which a character goes to
--- the next row. It ends once a line ends in it, its end is erased, or a new row comes in (this project's profile).
+-- the next row. It ends once a line ends in it, its end or the whole next row is erased, or a new row comes in (this project's profile).
 use Rattle.std.specs.Prelude.{ℕ, ◌+◌, ◌-◌, ◌==◌, ◌&&◌, Bool, true, false, List, ◌++◌, map, take, drop, set, min, length, nat_lt, replicate, slice_index_or, if◌then◌else◌}
 use Rattle.roam_cells.specs.Glyph.{Glyph}
 use Rattle.roam_cells.specs.Limits.{most_rows}
@@ -120,15 +120,20 @@ wraps_by_edit (ScrollDown n) s wraps = moved_down s.top s.bottom n wraps
 wraps_by_edit Align s wraps = no_wraps
 wraps_by_edit edit s wraps = wraps
 
--- rows that are erased whole, and the cursor's row if its end is
+-- a row ends, and the one above no longer goes on in it
+abbrev pub row_cleared : ℕ → List Wrap → List Wrap
+row_cleared r wraps = set (set wraps r Ends) (r - 1) Ends
+
+-- rows that are erased whole with the one above them, and the cursor's row if its end is
 abbrev pub wraps_by_page : Extent → Screen → List Wrap → List Wrap
-wraps_by_page ToEnd s wraps = first_kept s.row wraps
+wraps_by_page ToEnd s wraps = first_kept (if s.col == 0 then s.row - 1 else s.row) wraps
 wraps_by_page ToStart s wraps = first_ended s.row wraps
 wraps_by_page All s wraps = no_wraps
 
 abbrev pub wraps_by_line : Extent → Screen → List Wrap → List Wrap
 wraps_by_line ToStart s wraps = wraps
-wraps_by_line extent s wraps = set wraps s.row Ends
+wraps_by_line ToEnd s wraps = if s.col == 0 then row_cleared s.row wraps else set wraps s.row Ends
+wraps_by_line All s wraps = row_cleared s.row wraps
 
 abbrev pub wraps_by_erasure : Erasure → Screen → List Wrap → List Wrap
 wraps_by_erasure (InPage extent) s wraps = wraps_by_page extent s wraps

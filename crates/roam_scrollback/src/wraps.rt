@@ -3,7 +3,7 @@ ghost use Rattle.std.specs.Prelude.{◌≡◌, ◌+◌, ◌-◌, ◌≤◌, ◌<
 ghost use Rattle.roam_cells.specs.Limits.{most_rows};
 ghost use Rattle.roam_grid.specs.Editing.{is_between_margins};
 ghost use Rattle.roam_grid.specs.Frames.{leaving};
-ghost use Rattle.roam_scrollback.specs.Wraps.{is_on, wrap_at, no_wraps, part_up, part_down, moved_up, moved_down, first_kept, first_ended, wraps_next, wraps_reverse_indexed, is_wrapped, wraps_put, wraps_by_motion, wraps_by_edit, wraps_by_page, wraps_by_line, wraps_by_erasure, wraps_on_main, wrap_of, wraps_of};
+ghost use Rattle.roam_scrollback.specs.Wraps.{is_on, wrap_at, no_wraps, part_up, part_down, moved_up, moved_down, first_kept, first_ended, row_cleared, wraps_next, wraps_reverse_indexed, is_wrapped, wraps_put, wraps_by_motion, wraps_by_edit, wraps_by_page, wraps_by_line, wraps_by_erasure, wraps_on_main, wrap_of, wraps_of};
 
 use roam_cells::limits::MOST_ROWS;
 use roam_cells::{Cell, Extent};
@@ -163,6 +163,16 @@ impl Wraps {
         self.rows[row - 1] = Wrap::Ends;
     }
 
+    // The cursor's row is erased whole: the one above no longer goes on in it.
+    fn clear_row(&mut self, grid: &Grid)
+        ensures cleared { self.new ≡ row_cleared grid.now.screen.row self.old }
+    {
+        grid.facts();
+        let (row, _) = grid.cursor();
+        self.rows[row - 1] = Wrap::Ends;
+        self.rows[(row - 1).saturating_sub(1)] = Wrap::Ends;
+    }
+
     /// A cell will be written.
     #[tactic(auto, unfolding(crate::specs::Wraps::wraps_put))]
     pub fn put(&mut self, cell: &Cell, writing: Writing, grid: &Grid)
@@ -240,8 +250,9 @@ impl Wraps {
         ensures erased { self.new ≡ wraps_by_page extent grid.now.screen self.old }
     {
         grid.facts();
-        let (row, _) = grid.cursor();
+        let (row, col) = grid.cursor();
         match extent {
+            Extent::ToEnd if col == 1 => self.keep_first((row - 1).saturating_sub(1)),
             Extent::ToEnd => self.keep_first(row - 1),
             Extent::ToStart => self.end_first(row - 1),
             Extent::All => *self = Wraps::new(),
@@ -251,9 +262,11 @@ impl Wraps {
     fn erase_line(&mut self, extent: Extent, grid: &Grid)
         ensures erased { self.new ≡ wraps_by_line extent grid.now.screen self.old }
     {
+        let (_, col) = grid.cursor();
         match extent {
             Extent::ToStart => {}
-            Extent::ToEnd | Extent::All => self.end_row(grid),
+            Extent::ToEnd if col != 1 => self.end_row(grid),
+            Extent::ToEnd | Extent::All => self.clear_row(grid),
         }
     }
 

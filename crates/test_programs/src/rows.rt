@@ -353,6 +353,51 @@ abc \u{4E2D}d
 =>
 @\x1B[1;1Habc\x1B[1;5H\u{4E2D}d\x1B[0m\x1B[1;8H\x1B[?25h\x1B[0m
 =
+4 8 4 20 a row that is erased whole from its first column: the row above no longer goes on in it
+abcdefghij\r\x1B[Kk
+=>
+@\x1B[1;1Habcdefgh\x1B[2;1Hk\x1B[0m\x1B[2;2H\x1B[?25h\x1B[0m
+=
+4 8 4 20 a row that is erased whole from another column
+abcdefghij\x1B[2K\rk
+=>
+@\x1B[1;1Habcdefgh\x1B[2;1Hk\x1B[0m\x1B[2;2H\x1B[?25h\x1B[0m
+=
+4 8 4 20 a row that is erased whole with those below
+abcdefghij\r\x1B[Jk
+=>
+@\x1B[1;1Habcdefgh\x1B[2;1Hk\x1B[0m\x1B[2;2H\x1B[?25h\x1B[0m
+=
+4 8 4 20 the end of a row alone
+abcdefghij\r\x1B[C\x1B[Kk
+=>
+@\x1B[1;1Habcdefghik\x1B[0m\x1B[1;11H\x1B[?25h\x1B[0m
+=
+4 8 4 20 the end of a row and those below
+abcdefghij\x1B[Jk
+=>
+@\x1B[1;1Habcdefghijk\x1B[0m\x1B[1;12H\x1B[?25h\x1B[0m
+=
+4 8 4 20 the beginning of a row alone
+abcdefghij\r\x1B[1Kk
+=>
+@\x1B[1;1Habcdefghkj\x1B[0m\x1B[1;10H\x1B[?25h\x1B[0m
+=
+4 8 4 20 a letter over the first one behind a wrap, as a shell writes it
+abcdefgh \rijk
+=>
+@\x1B[1;1Habcdefghijk\x1B[0m\x1B[1;12H\x1B[?25h\x1B[0m
+=
+4 8 4 20 the first row
+\x1B[Kab
+=>
+@\x1B[1;1Hab\x1B[0m\x1B[1;3H\x1B[?25h\x1B[0m
+=
+7 6 7 10 a shell's line that is written again below the first row of an older copy
+first\r\n$-echo-abcdefghijklmn\r\x1B[K\x1BM\x1B[K\x1BM\x1B[K\r$-echo-abcdefghijklmn
+=>
+@\x1B[1;1Hfirst\x1B[2;1H$-echo\x1B[3;1H$-echo-abc\x1B[4;1Hdefghijklm\x1B[5;1Hn\x1B[0m\x1B[5;2H\x1B[?25h\x1B[0m
+=
 2 8 2 5 a wide character that the last column would cut
 abcd\u{4E2D}
 =>
