@@ -10,5 +10,6 @@ pub mod Standing
 pub mod Leading
 pub mod Following
 pub mod Bringing
+mod Counting
 pub mod Pending
 pub mod Beginning

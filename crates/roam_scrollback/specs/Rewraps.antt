@@ -1,6 +1,6 @@
 -- The main screen at another size, with its text whole. The kept rows that left and the screen's rows are text, which wraps at the new
 -- width (this project's profile).
-use Rattle.std.specs.Prelude.{◌≡◌, ◌⊎◌, ℕ, zero, suc, ◌+◌, ◌-◌, ◌==◌, ◌&&◌, ◌<◌, ◌≤◌, max, not, Bool, true, false, List, [], ◌∷◌, ◌++◌, codes, drop, length, map, take, None, if◌then◌else◌}
+use Rattle.std.specs.Prelude.{◌≡◌, ◌⊎◌, ℕ, zero, suc, ◌+◌, ◌-◌, ◌/◌, ◌^◌, ◌==◌, ◌&&◌, ◌<◌, ◌≤◌, max, min, not, Bool, true, false, List, [], ◌∷◌, ◌++◌, codes, drop, length, map, take, None, if◌then◌else◌}
 use Rattle.roam_cells.specs.Glyph.{Glyph, IsStyle}
 use Rattle.roam_cells.specs.Limits.{IsSize}
 use Rattle.roam_cells.specs.Place.{cell_at, row_of}
@@ -103,6 +103,33 @@ begins_line [] = true
 begins_line (row ∷ []) = not row.goes_on
 begins_line (row ∷ next ∷ rows) = begins_line (next ∷ rows)
 
+-- how many rows of a width so many cells take at least, as far as 64 bits hold them
+abbrev pub rows_of : ℕ → ℕ → ℕ
+rows_of cells cols = max 1 (min (cells + (cols - 1)) (2 ^ 64 - 1) / cols)
+
+-- the cells of the line with which rows begin
+abbrev pub head_cells : List TextRow → ℕ
+head_cells [] = 0
+head_cells (row ∷ rows) = length row.cells + (if row.goes_on then head_cells rows else 0)
+
+-- how many rows of a width the lines behind it take at least
+abbrev pub rows_behind : ℕ → List TextRow → ℕ
+rows_behind cols [] = 0
+rows_behind cols (row ∷ []) = 0
+rows_behind cols (row ∷ next ∷ rows) =
+    (if row.goes_on then 0 else rows_of (head_cells (next ∷ rows)) cols) + rows_behind cols (next ∷ rows)
+
+-- how many rows of a width all lines take at least
+abbrev pub rows_counted : ℕ → List TextRow → ℕ
+rows_counted cols rows = rows_of (head_cells rows) cols + rows_behind cols rows
+
+-- Rows come back from one on: a line begins there, its rows and those behind them fill a screen, and from no later line on they do. Or it
+-- is the oldest row.
+pub record FillsFrom (text : List TextRow) (kept rows cols first : ℕ) : Type 0 where
+  pub line : begins_line (take first text) ≡ true
+  pub fills : (first ≡ 0) ⊎ (rows ≤ rows_counted cols (drop first text))
+  pub latest : (later : ℕ) → first < later → later ≤ kept → begins_line (take later text) ≡ true → rows_counted cols (drop later text) < rows
+
 -- The screen of a terminal with its main screen at another size, the number of kept rows that stay away and that come back, and the text
 -- that paints that screen.
 pub record IsPrepared (l : Live) (wraps : List Wrap) (kept : List TextRow) (rows cols first back : ℕ) (reflow : ReflowView)
@@ -111,7 +138,7 @@ pub record IsPrepared (l : Live) (wraps : List Wrap) (kept : List TextRow) (rows
   pub is_height : IsHeight l.screen height
   pub counted : first + back ≡ length kept
   pub blank : height < l.screen.rows → back ≡ 0
-  pub line : height ≡ l.screen.rows → begins_line (take first (kept ++ screen_text height l.screen wraps)) ≡ true
+  pub full : height ≡ l.screen.rows → FillsFrom (kept ++ screen_text height l.screen wraps) (length kept) rows cols first
   pub is : reflow ≡ reflowed (text_from first height kept l wraps)
       (record { row = back + l.screen.row; col = columns_before l.screen }) rows cols l.modes.cursor_visible
   pub brings : IsRewrapText l reflow text
@@ -135,7 +162,7 @@ pub record HasNoScreen (l : Live) (wraps : List Wrap) (kept : List TextRow) (row
   pub back : ℕ
   pub counted : first + back ≡ length kept
   pub blank : height < l.screen.rows → back ≡ 0
-  pub line : height ≡ l.screen.rows → begins_line (take first (kept ++ screen_text height l.screen wraps)) ≡ true
+  pub full : height ≡ l.screen.rows → FillsFrom (kept ++ screen_text height l.screen wraps) (length kept) rows cols first
   pub none : HasNoReflow (text_from first height kept l wraps)
       (record { row = back + l.screen.row; col = columns_before l.screen }) rows cols l.modes.cursor_visible
 

@@ -6,7 +6,7 @@ ghost use Rattle.roam_repaint.specs.Repainted.{MayPend};
 ghost use Rattle.roam_repaint.specs.Repainting.{repaint_text};
 ghost use Rattle.roam_rewrap.specs.Windows.{reflowed, shown_rows};
 ghost use Rattle.roam_scrollback.specs.Lines.{Writes, left_of};
-ghost use Rattle.roam_scrollback.specs.Rewraps.{HasNoReflow, HasNoText, IsHeight, IsPrepared, IsRewrapText, IsUnprepared, begins_line, closing, columns_before, ends_at_cursor, opening, screen_cells, screen_text};
+ghost use Rattle.roam_scrollback.specs.Rewraps.{FillsFrom, HasNoReflow, HasNoText, IsHeight, IsPrepared, IsRewrapText, IsUnprepared, closing, columns_before, ends_at_cursor, opening, rows_of, screen_cells, screen_text};
 ghost use Rattle.roam_scrollback.specs.Wraps.{wraps_of};
 
 use crate::kept::RecentRows;
@@ -113,6 +113,7 @@ fn height_of(grid: &Grid) -> usize
 // How many rows so many cells take at least.
 fn rows_of(cells: usize, cols: usize) -> usize
     requires cols { 0 < cols }
+    ensures rows { result ≡ rows_of cells cols }
 {
     (cells.saturating_add(cols - 1) / cols).max(1)
 }
@@ -120,8 +121,9 @@ fn rows_of(cells: usize, cols: usize) -> usize
 // The first of the kept rows that comes back: the lines from there on fill a screen, or it is the oldest.
 fn first_back(all: &[Row], kept: usize, rows: usize, cols: usize) -> usize
     requires cols { 0 < cols }
+    requires some { kept < length all.now }
     ensures within { result ≤ kept }
-    ensures line { begins_line (take result all.now) ≡ true }
+    ensures full { FillsFrom all.now kept rows cols result }
 {
     let mut from = all.len();
     let mut filled = 0usize;
@@ -144,9 +146,10 @@ fn first_back(all: &[Row], kept: usize, rows: usize, cols: usize) -> usize
 // The first of the kept rows that comes back: none does if rows at the bottom of the screen are blank.
 fn first_row(all: &[Row], kept: usize, is_full: bool, rows: usize, cols: usize) -> usize
     requires cols { 0 < cols }
+    requires some { kept < length all.now }
     ensures within { result ≤ kept }
     ensures blank { is_full ≡ false → result ≡ kept }
-    ensures line { is_full ≡ true → begins_line (take result all.now) ≡ true }
+    ensures full { is_full ≡ true → FillsFrom all.now kept rows cols result }
 {
     if !is_full {
         return kept;

@@ -1,13 +1,23 @@
-use Rattle.std.proofs.Common.{Bool, List, ◌≡◌, ◌+◌, ◌-◌, ◌++◌, drop, take, ap, sym, subst, ◌∙◌, inl, inr, arith}
+use Rattle.std.proofs.Common.{Bool, ℕ, List, ◌≡◌, ◌+◌, ◌-◌, ◌++◌, drop, length, ap, length-append, subst, ◌∙◌, inl, inr, arith}
 use Rattle.std.proofs.lemmas.Bool.{eq-eqb, ne_eqb}
 use Rattle.roam_controls.specs.declared.modes.Modes.{Modes}
 use Rattle.roam_grid.specs.Screen.{Screen}
 use Rattle.roam_rewrap.specs.Lines.{TextRow}
 use Rattle.roam_rewrap.specs.Windows.{reflowed}
 use Rattle.roam_rewrap.specs.declared.places.ScreenPosition.{ScreenPosition}
-use Rattle.roam_scrollback.specs.Rewraps.{HasNoReflow, HasNoText, IsHeight, IsRewrapText, begins_line, columns_before, screen_text}
+use Rattle.roam_scrollback.specs.Rewraps.{FillsFrom, HasNoReflow, HasNoText, IsHeight, IsRewrapText, columns_before, screen_text}
+use Rattle.roam_scrollback.proofs.Counting.{screen-text-long}
 use Rattle.roam_scrollback.proofs.rewraps.prepare.Goals as goal
 use Rattle.roam_term.specs.Terminal.{Live}
+
+pub first_row-first-requires-clause-some : goal.first_row-first-requires-clause-some
+first_row-first-requires-clause-some c =
+    let screen = c.args.surface.now.live.screen in
+    let wraps = c.args.surface.now.wraps in
+    let height = c.height_of-height.result in
+    let all = ap (λ (l : List TextRow). length l) (c.deref.ensures.value ∙ c.in_ok-all.ensures.rows) in
+    let high = c.height_of-height.ensures.height.cursor in
+    omega (arith, all, high, length-append c.args.kept.now (screen_text height screen wraps), screen-text-long height screen wraps, c.len-count.ensures.len)
 
 pub returns-clause-prepared : goal.returns-clause-prepared
 returns-clause-prepared c =
@@ -36,10 +46,16 @@ returns-clause-prepared c =
           let high = c.rows.ensures.rows ∙ ap (λ (s : Screen). s.rows) screen in
           let first_is = c.first_row-first.ensures.blank (ne_eqb c.height_of-height.result c.rows.result (λ e. absurd (omega (arith, less, e, high)))) in
           omega (arith, first_is);
-      line = λ whole.
+      full = λ whole.
           let high = c.rows.ensures.rows ∙ ap (λ (s : Screen). s.rows) screen in
-          ap (λ l. begins_line (take first l)) (sym (c.deref.ensures.value ∙ c.in_ok-all.ensures.rows))
-          ∙ c.first_row-first.ensures.line (eq-eqb c.height_of-height.result c.rows.result (omega (arith, whole, high)));
+          let rows : c.from.result ≡ c.args.rows = omega arith in
+          let cols : c.from-2.result ≡ c.args.cols = omega arith in
+          subst (λ (k : ℕ). FillsFrom (c.args.kept.now ++ screen_text c.height_of-height.result live.screen c.args.surface.now.wraps) k c.args.rows c.args.cols first)
+          c.len-count.ensures.len
+          (subst (λ (k : ℕ). FillsFrom (c.args.kept.now ++ screen_text c.height_of-height.result live.screen c.args.surface.now.wraps) c.len-count.result k c.args.cols first) rows
+          (subst (λ (k : ℕ). FillsFrom (c.args.kept.now ++ screen_text c.height_of-height.result live.screen c.args.surface.now.wraps) c.len-count.result c.from.result k first) cols
+          (subst (λ (l : List TextRow). FillsFrom l c.len-count.result c.from.result c.from-2.result first) (c.deref.ensures.value ∙ c.in_ok-all.ensures.rows)
+          (c.first_row-first.ensures.full (eq-eqb c.height_of-height.result c.rows.result (omega (arith, whole, high)))))));
       is = reflow ∙ (λ i. reflowed (drop first (all i)) (record { row = row i; col = col i }) c.args.rows c.args.cols (visible i));
       brings = subst (λ (l : Live). IsRewrapText l c.in-Some.reflow c.in-Some-2.text.items) c.canvas-canvas.ensures.live text;
     }
@@ -71,10 +87,16 @@ returns-in_default-clause-none c =
           let high = c.rows.ensures.rows ∙ ap (λ (s : Screen). s.rows) screen in
           let first_is = c.first_row-first.ensures.blank (ne_eqb c.height_of-height.result c.rows.result (λ e. absurd (omega (arith, less, e, high)))) in
           omega (arith, first_is);
-      line = λ whole.
+      full = λ whole.
           let high = c.rows.ensures.rows ∙ ap (λ (s : Screen). s.rows) screen in
-          ap (λ l. begins_line (take first l)) (sym (c.deref.ensures.value ∙ c.in_ok-all.ensures.rows))
-          ∙ c.first_row-first.ensures.line (eq-eqb c.height_of-height.result c.rows.result (omega (arith, whole, high)));
+          let rows : c.from.result ≡ c.args.rows = omega arith in
+          let cols : c.from-2.result ≡ c.args.cols = omega arith in
+          subst (λ (k : ℕ). FillsFrom (c.args.kept.now ++ screen_text c.height_of-height.result live.screen c.args.surface.now.wraps) k c.args.rows c.args.cols first)
+          c.len-count.ensures.len
+          (subst (λ (k : ℕ). FillsFrom (c.args.kept.now ++ screen_text c.height_of-height.result live.screen c.args.surface.now.wraps) c.len-count.result k c.args.cols first) rows
+          (subst (λ (k : ℕ). FillsFrom (c.args.kept.now ++ screen_text c.height_of-height.result live.screen c.args.surface.now.wraps) c.len-count.result c.from.result k first) cols
+          (subst (λ (l : List TextRow). FillsFrom l c.len-count.result c.from.result c.from-2.result first) (c.deref.ensures.value ∙ c.in_ok-all.ensures.rows)
+          (c.first_row-first.ensures.full (eq-eqb c.height_of-height.result c.rows.result (omega (arith, whole, high)))))));
       none =
           subst (λ (v : Bool). HasNoReflow (drop first (c.args.kept.now ++ screen_text c.height_of-height.result live.screen c.args.surface.now.wraps))
           (record { row = back + live.screen.row; col = columns_before live.screen }) c.args.rows c.args.cols v) visible
