@@ -70,9 +70,9 @@ pub later-too : (text : List TextRow) (kept rows cols from : ℕ)
     → (later : ℕ) → from - 1 < later → later ≤ kept → begins_line (take later text) ≡ true → rows_counted cols (drop later text) < rows
 later-too text kept rows cols from here latest later above few begins =
     elim (cases_lt from later) [
-      inl behind ↦ latest later behind few begins
-    | inr back ↦
-        let same : later ≡ from = omega (arith, above, back) in
-        subst (λ k. rows_counted cols (drop k text) < rows) (sym same)
-        (here (subst (λ k. k ≤ kept) same few) (subst (λ k. begins_line (take k text) ≡ true) same begins))
+      | inl behind ↦ latest later behind few begins
+      | inr back ↦
+          let same : later ≡ from = omega (arith, above, back) in
+          subst (λ k. rows_counted cols (drop k text) < rows) (sym same)
+          (here (subst (λ k. k ≤ kept) same few) (subst (λ k. begins_line (take k text) ≡ true) same begins))
     ]

@@ -11,5 +11,6 @@ pub mod Leading
 pub mod Following
 pub mod Bringing
 mod Counting
+pub mod Filling
 pub mod Pending
 pub mod Beginning

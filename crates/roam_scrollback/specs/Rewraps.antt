@@ -248,6 +248,19 @@ RewrapPends =
     → (prepared : IsPrepared l wraps kept rows cols first back reflow text)
     → prepared.brings.repaint.pending ≡ (reflow.pending && l.modes.autowrap)
 
+-- whether there are rows, and the last of them ends its line or has cells
+abbrev pub EndsInText : List TextRow → Type 0
+EndsInText [] = ⊥
+EndsInText (row ∷ []) = row.goes_on ≡ true → 0 < length row.cells
+EndsInText (row ∷ next ∷ rows) = EndsInText (next ∷ rows)
+
+-- rows that come back from a line on, and not from the oldest row, fill the new screen
+abbrev pub RewrapFills : Type 0
+RewrapFills =
+    (l : Live) (wraps : List Wrap) (kept : List TextRow) (rows cols first back : ℕ) (reflow : ReflowView) (text : List ℕ)
+    → (prepared : IsPrepared l wraps kept rows cols first back reflow text) → prepared.height ≡ l.screen.rows → 0 < first → 2 ≤ cols
+    → EndsInText (text_from first prepared.height kept l wraps) → rows ≤ length reflow.rows
+
 -- ---- the same text on another terminal
 
 -- a terminal of the new size that shows its main screen, with the modes and the pen of another one, and no single shift waiting

@@ -1,6 +1,6 @@
 //! Laws of the definitions, each the contract of a function without a body.
 ghost use Rattle.roam_scrollback.specs.Leading.{RowTextLeads};
-ghost use Rattle.roam_scrollback.specs.Rewraps.{RewrapKeepsLines, RewrapPends, RewrapShows, TextLeads};
+ghost use Rattle.roam_scrollback.specs.Rewraps.{RewrapFills, RewrapKeepsLines, RewrapPends, RewrapShows, TextLeads};
 ghost use Rattle.roam_scrollback.specs.Sources.{RowsAreThoseThatLeft};
 
 /// The lines that a source writes as it reads are the next part of all rows that left.
@@ -15,10 +15,12 @@ pub fn row_text_leads()
 
 /// A source behind a rewrap shows its text at the new size; its modes, style and saved cursor are as before. No line is cut: the rows that
 /// leave and those on the screen have the lines of the text. The text leads any terminal of the new size to the same screen, if its modes and
-/// style are the same. A wrap is pending there exactly if `roam_rewrap` asks for one and lines wrap.
+/// style are the same. A wrap is pending there exactly if `roam_rewrap` asks for one and lines wrap. Rows that come back from a line behind
+/// the oldest kept row fill the new screen.
 pub fn rewrap_shows()
     ensures shows { RewrapShows }
     ensures lines { RewrapKeepsLines }
     ensures leads { TextLeads }
     ensures pends { RewrapPends }
+    ensures fills { RewrapFills }
 {}

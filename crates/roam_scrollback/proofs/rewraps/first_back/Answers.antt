@@ -39,46 +39,46 @@ loop-from-preserved c =
     let long = ap (λ (cells : List _). length cells) c.cells.ensures.cells in
     let later = later-too text c.args.kept c.args.rows cols from in
     elim c.if-not-goes_on.branch [
-      then-not-goes_on+then-from-all+else-from-kept w ↦
-        let ends : row.goes_on ≡ false = sym c.goes_on.ensures.on ∙ w.if-not-goes_on.true in
-        let more : 0 < length rest = omega (arith, length-drop from text, w.if-from-all.true) in
-        let one : w.rows_of.result ≡ rows_of (head_cells rest) cols =
-        w.rows_of.ensures.rows ∙ ap (λ k. rows_of k cols) inv.cells ∙ rows-held (head_cells rest) cols in
-        record {
-          within = omega (arith, inv.within);
-          cells = omega (arith, c.saturating_add-cells.ensures, w.cells-is, long, head, head-ends row rest ends);
-          filled = omega (arith, w.filled-is, w.saturating_add-filled.ensures, inv.filled, one, behind, behind-ends cols row rest more ends);
-          latest =
-              later
-              (λ few here.
-                  elim w.else-from-kept.branch [
-                    else-from-kept-via-then-from-kept+else-rows-filled v ↦
+      | then-not-goes_on+then-from-all+else-from-kept w ↦
+          let ends : row.goes_on ≡ false = sym c.goes_on.ensures.on ∙ w.if-not-goes_on.true in
+          let more : 0 < length rest = omega (arith, length-drop from text, w.if-from-all.true) in
+          let one : w.rows_of.result ≡ rows_of (head_cells rest) cols =
+          w.rows_of.ensures.rows ∙ ap (λ k. rows_of k cols) inv.cells ∙ rows-held (head_cells rest) cols in
+          record {
+            within = omega (arith, inv.within);
+            cells = omega (arith, c.saturating_add-cells.ensures, w.cells-is, long, head, head-ends row rest ends);
+            filled = omega (arith, w.filled-is, w.saturating_add-filled.ensures, inv.filled, one, behind, behind-ends cols row rest more ends);
+            latest =
+                later
+                (λ few here.
+                elim w.else-from-kept.branch [
+                  | else-from-kept-via-then-from-kept+else-rows-filled v ↦
                       omega (arith, one, w.saturating_add-filled.ensures, inv.filled, v.if-rows-filled.false, c.ranges.rows.fits)
                   | else-from-kept-via-else-from-kept v ↦ absurd (omega (arith, few, v.if-from-kept.false))
-                  ])
-              inv.latest;
-        }
-    | else-not-goes_on w ↦
-        elim w.else-not-goes_on.branch [
-          else-not-goes_on-via-then-not-goes_on+else-from-all v ↦
-            let ends : row.goes_on ≡ false = sym c.goes_on.ensures.on ∙ v.if-not-goes_on.true in
-            let none : rest ≡ [] = drop_all from text (omega (arith, v.if-from-all.false)) in
-            let no_cells = ap head_cells none in
-            let no_rows = ap (rows_behind cols) none in
-            let last = ap (λ (rows : List TextRow). rows_behind cols (row ∷ rows)) none in
-            record {
-              within = omega (arith, inv.within);
-              cells = omega (arith, c.saturating_add-cells.ensures, w.cells-is, inv.cells, no_cells, long, head, head-ends row rest ends);
-              filled = omega (arith, w.filled-is, inv.filled, no_rows, behind, last);
-              latest = later (λ few here. absurd (omega (arith, few, v.if-from-all.false, c.requires.some))) inv.latest;
-            }
-        | else-not-goes_on-via-else-not-goes_on v ↦
-            let on : row.goes_on ≡ true = sym c.goes_on.ensures.on ∙ v.if-not-goes_on.false in
-            record {
-              within = omega (arith, inv.within);
-              cells = omega (arith, c.saturating_add-cells.ensures, w.cells-is, inv.cells, long, head, head-on row rest on);
-              filled = omega (arith, w.filled-is, inv.filled, behind, behind-on cols row rest on);
-              latest = later (λ few here. absurd (search (rules, sym here ∙ begins ∙ ap not on))) inv.latest;
-            }
-        ]
+                ])
+                inv.latest;
+          }
+      | else-not-goes_on w ↦
+          elim w.else-not-goes_on.branch [
+            | else-not-goes_on-via-then-not-goes_on+else-from-all v ↦
+                let ends : row.goes_on ≡ false = sym c.goes_on.ensures.on ∙ v.if-not-goes_on.true in
+                let none : rest ≡ [] = drop_all from text (omega (arith, v.if-from-all.false)) in
+                let no_cells = ap head_cells none in
+                let no_rows = ap (rows_behind cols) none in
+                let last = ap (λ (rows : List TextRow). rows_behind cols (row ∷ rows)) none in
+                record {
+                  within = omega (arith, inv.within);
+                  cells = omega (arith, c.saturating_add-cells.ensures, w.cells-is, inv.cells, no_cells, long, head, head-ends row rest ends);
+                  filled = omega (arith, w.filled-is, inv.filled, no_rows, behind, last);
+                  latest = later (λ few here. absurd (omega (arith, few, v.if-from-all.false, c.requires.some))) inv.latest;
+                }
+            | else-not-goes_on-via-else-not-goes_on v ↦
+                let on : row.goes_on ≡ true = sym c.goes_on.ensures.on ∙ v.if-not-goes_on.false in
+                record {
+                  within = omega (arith, inv.within);
+                  cells = omega (arith, c.saturating_add-cells.ensures, w.cells-is, inv.cells, long, head, head-on row rest on);
+                  filled = omega (arith, w.filled-is, inv.filled, behind, behind-on cols row rest on);
+                  latest = later (λ few here. absurd (search (rules, sym here ∙ begins ∙ ap not on))) inv.latest;
+                }
+          ]
     ]
