@@ -148,6 +148,13 @@ impl Grid {
         (self.top, self.bottom)
     }
 
+    /// For each column that a screen may have, from 0: true if it has a tab stop.
+    pub fn stops(&self) -> &[bool]
+        ensures stops { result.now ≡ self.now.screen.stops }
+    {
+        &self.stops
+    }
+
     /// How many columns there are from the cursor's on.
     pub fn room(&self) -> usize
         ensures room { result + self.now.screen.col ≡ self.now.screen.cols }

@@ -118,6 +118,39 @@ impl Canvas {
         &self.grid
     }
 
+    /// The screen that is not shown.
+    pub fn other(&self) -> &Grid
+        ensures cells { result.now.screen.cells ≡ self.now.live.other }
+        ensures size { IsSameSize self.now.live.screen result.now.screen }
+    {
+        &self.other
+    }
+
+    /// The style and the guard of printed characters.
+    pub fn pen(&self) -> Ink
+        ensures pen { result ≡ self.now.live.pen }
+    {
+        self.pen
+    }
+
+    /// The sets and the shifts.
+    pub fn sets(&self) -> Sets
+        ensures sets { result ≡ self.now.live.sets }
+    {
+        self.sets
+    }
+
+    /// The state that DECSC saved on the alternate or on the main screen, if there is one.
+    pub fn saved_on(&self, alternate: bool) -> Option<Saved>
+        ensures saved { result ≡ (if alternate then self.now.live.saved_alternate else self.now.live.saved) }
+    {
+        if alternate {
+            self.saved_alternate
+        } else {
+            self.saved
+        }
+    }
+
     /// The marks of the screen that is shown.
     pub fn marks(&self) -> &[bool]
         ensures marks { result.now ≡ take self.now.live.screen.rows self.now.marks }

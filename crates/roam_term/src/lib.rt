@@ -26,5 +26,6 @@ mod terms;
 
 pub use canvases::Canvas;
 pub use limits::{MOST_LINES, MOST_OUTPUT, MOST_PIECE};
+pub use pens::Saved;
 pub use sizes::Fitted;
 pub use terms::Term;

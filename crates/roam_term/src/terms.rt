@@ -1,6 +1,8 @@
 //! A pane's terminal.
-ghost use Rattle.std.specs.Prelude.{◌≡◌, ◌⊎◌, ◌+◌, ◌*◌, ◌≤◌, ◌<◌, ◌↔◌, ◌++◌, ℕ, List, [], ◌∷◌, length, min, take, drop, IfOk, IfErr, OnOk, OnErr, IsOk, IsErrOf, IsOkUnless};
+ghost use Rattle.std.specs.Prelude.{◌≡◌, ◌⊎◌, ◌+◌, ◌*◌, ◌≤◌, ◌<◌, ◌↔◌, ◌++◌, ℕ, List, [], ◌∷◌, length, min, take, drop, IfOk, IfErr, OnOk, OnErr, IsOk, IsTrue, IsErrOf, IsOkUnless};
 ghost use Rattle.roam_text.specs.Log.{Item};
+ghost use Rattle.roam_text.specs.Resting.{AtRest};
+ghost use Rattle.roam_text.specs.Stands.{IsAtRest};
 ghost use Rattle.roam_text.specs.Dispatched.{function_of, functions_by};
 ghost use Rattle.roam_controls.specs.Commands.{command_of, parameters_of};
 ghost use Rattle.roam_cells.specs.Place.{row_of};
@@ -95,6 +97,21 @@ impl Term {
             history,
             output,
         })
+    }
+
+    /// The screens and all that functions depend on.
+    pub fn canvas(&self) -> &Canvas
+        ensures live { result.now.live ≡ self.now.live }
+    {
+        &self.canvas
+    }
+
+    /// Returns true if the terminal is between characters and sequences.
+    pub fn is_at_rest(&self) -> bool
+        ensures rest { IsAtRest self.now.reader → IsTrue result }
+        ensures rests { IsTrue result → (rows cols lines : ℕ) (log : List Item) → Stands self.now rows cols lines log → AtRest log }
+    {
+        self.reader.is_at_rest()
     }
 
     // Answers what one function asks for and does it; its parameters and intermediate bytes the reader lends.
