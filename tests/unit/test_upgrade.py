@@ -74,11 +74,11 @@ class Refusals(Case):
     """The requests that a host refuses."""
 
     def setUp(self):
-        self.sent = []
+        self.sent, self.pauses = [], []
         socket = types.SimpleNamespace(send=lambda peer, lines, number: self.sent.extend(lines), peers=[])
         link = types.SimpleNamespace(asked={}, is_there=lambda: True)
         self.is_quiet = True
-        rows = types.SimpleNamespace(is_quiet=lambda: self.is_quiet, hand_over=lambda: None)
+        rows = types.SimpleNamespace(is_quiet=lambda: self.is_quiet, pause=self.pauses.append)
         common = types.SimpleNamespace(socket=socket, link=link, rows=rows)
         self.windows = types.SimpleNamespace(common=common, loop=Loop(), windows={})
         self.upgrade = HostUpgrade(self.windows)
@@ -107,6 +107,8 @@ class Refusals(Case):
         other = self.upgrade.peer = self.peer()
         self.assertEqual(self.taken(self.peer()), ["not upgraded another upgrade of this session is under way"])
         self.assertIs(self.upgrade.peer, other)
+        # The wait of the other one goes on, and panes aren't read meanwhile.
+        self.assertEqual(self.pauses, [False] * 3)
 
     def test_hostile_folder(self):
         """A folder that others may write, or without a host, runs nothing."""
@@ -137,7 +139,11 @@ class Refusals(Case):
         peer.upload = object()
         self.assertIn("stored", self.upgrade.under_way())
         peer.upload, peer.waiting, peer.answers = None, b"a", 1
+        self.upgrade.until = self.windows.loop.clock() + upgrade.QUIET_SECONDS
         self.assertIn("answer", self.upgrade.under_way())
+        self.upgrade.until -= upgrade.READ_SECONDS
+        self.assertEqual(self.upgrade.under_way(), "")
+        self.upgrade.until += upgrade.READ_SECONDS
         peer.waiting, self.is_quiet = b"", False
         self.assertIn("scrollback", self.upgrade.under_way())
         self.is_quiet = True

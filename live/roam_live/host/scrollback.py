@@ -109,6 +109,8 @@ class Scrollback:
         self.ending: list[int] = []
         # True while the scrollback process is behind, so that no pane is read; and True if that took too long, so that output is lost.
         self.is_behind = self.is_losing = False
+        # True while no pane is read, so that this is quiet soon.
+        self.is_paused = False
         self.retry = Retry(PAUSES, SOUND)
         self.is_off = self.room.most_rows == 0
         self.told, self.told_until = "", 0.0
@@ -181,7 +183,7 @@ class Scrollback:
 
     def hears(self) -> bool:
         """Return True if panes are read now."""
-        return not self.is_behind
+        return not (self.is_behind or self.is_paused)
 
     def reads(self) -> bool:
         """Return True if the output of the scrollback process is read now."""
@@ -351,9 +353,12 @@ class Scrollback:
         is_asked = any(pane.awaited or pane.rewraps for pane in self.panes.values())
         return not (is_busy or is_asked) and (not self.process or self.process.is_quiet())
 
-    def hand_over(self) -> None:
-        """Send the scrollback process what waits for it, so that this is quiet soon."""
-        if self.process:
+    def pause(self, is_paused: bool) -> None:
+        """Read no pane, and send the scrollback process what waits for it; or read all of them again."""
+        if self.is_paused != is_paused:
+            self.is_paused = is_paused
+            self.hears_changed()
+        if is_paused and self.process:
             self.process.hand()
 
     def drop_handed(self) -> None:

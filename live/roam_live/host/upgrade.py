@@ -39,6 +39,9 @@ CHECK_SECONDS = 5.0
 QUIET_SECONDS = 5.0
 LOOK_SECONDS = 0.02
 
+# The part of these seconds for unread answers. A peer that reads too slowly is disconnected then.
+READ_SECONDS = 2.0
+
 # The words of the check's lines.
 PROTOCOL_WORD, SUM_WORD, NAME_WORD, PROGRAM_WORD = "protocol", "sum", "name", "program"
 
@@ -113,9 +116,9 @@ class HostUpgrade:
     def refuse(self, why: object, peer: HostPeer | None = None) -> None:
         """Answer why nothing is replaced, and be ready for another request."""
         asker, self.peer = peer or self.peer, None if peer in (None, self.peer) else self.peer
-        for timer in (IS_CHECKED, IS_QUIET):
-            if not self.peer:
-                self.loop.drop(timer)
+        if not self.peer:
+            self.loop.drop(IS_QUIET)
+            self.common.rows.pause(False)
         text = printable(str(why))[:LONGEST_REASON]
         say(f"this pty host is not replaced: {text}")
         if asker:
@@ -172,6 +175,7 @@ class HostUpgrade:
             self.refuse(f"the build in {self.folder} cannot go on with this session: {why}")
             return
         self.until = self.loop.clock() + QUIET_SECONDS
+        self.common.rows.pause(True)
         self.await_quiet(build)
 
     # ---- the replacement
@@ -199,9 +203,9 @@ class HostUpgrade:
         if any(pane.state.has_ended for pane in panes):
             return "a program has just ended"
         if not self.common.rows.is_quiet():
-            self.common.rows.hand_over()
-            return "the scrollback process has output to read"
-        if any(peer.waiting and peer.answers for peer in self.common.socket.peers):
+            return "the scrollback process does not read its output"
+        is_early = self.loop.clock() < self.until - QUIET_SECONDS + READ_SECONDS
+        if is_early and any(peer.waiting and peer.answers for peer in self.common.socket.peers):
             return "an answer is being read"
         return "" if self.link.is_there() else "the holder is being replaced"
 

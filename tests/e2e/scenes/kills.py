@@ -28,7 +28,7 @@ while True:
 """
 
 # The kills of the gate, and their seed, or those that the environment names; the keys typed before and after each.
-KILLS, SEED, KEYS = int(os.environ.get("ROAM_KILLS", "8")), int(os.environ.get("ROAM_SEED", "11")), 40
+KILLS, SEED, KEYS = int(os.environ.get("TRIAL_KILLS", "8")), int(os.environ.get("TRIAL_SEED", "11")), 40
 
 # The seconds within which an upgrade is begun, checked and over.
 UPGRADE_SECONDS = 0.6
