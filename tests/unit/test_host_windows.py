@@ -25,7 +25,7 @@ from roam_live.host.window import WindowHost
 from roam_live.host.window_commands import ASKED_AGAIN
 from roam_live.host.windows import ENDING, ENDS, FULL, OPENS, OVER, THERE, Windows
 from roam_live.protocol.panes import Rect
-from roam_live.protocol.spawn_request import Begins
+from roam_live.protocol.spawn_request import Begins, unpacked
 from roam_live.protocol.window_lines import MOST_WINDOWS, name_in, name_word
 from roam_live.session import roles
 from roam_live.session.names import is_spare_server, numbers_in
@@ -496,6 +496,29 @@ class Told(Played):
         self.comes_up(3)
         self.now += ASKED_AGAIN
         self.assertEqual(self.asks_again((20, 90)), (b"", 6))
+
+    def test_named_request(self):
+        """A request that is repeated by its name opens no second window, and is answered once the window is there. Its start options are in
+        the state until then, for another host.
+        """
+        self.opened()
+        self.patch_of(windows.Windows, "prepare")
+        name, request, data = "0123456789abcdef", "f" * 16, Begins(["htop"], "/", "").packed()
+        one = self.asker(1, b"")
+        one.end.send(f"1 run {name} window {len(data)}\n".encode() + data + f"1 open 30 90 {name} for {request}\n".encode())
+        self.turns(3)
+        self.assertEqual(read_now(one), f"run {name} ready\nrun {name} done\n".encode())
+        kept = self.windows.windows[2].state
+        self.assertEqual((kept.request, unpacked(kept.begins).words), (request, ["htop"]))
+        two = self.asker(1, b"")
+        again = f"open 30 90 for {request}\n".encode()
+        self.assertEqual(self.said_by(two, again), b"opened none its window is being opened\n")
+        self.comes_up(2)
+        self.assertEqual((read_now(one), self.said_by(two, again), kept.begins), (b"opened 2\n", b"opened 2\n", b""))
+        self.assertEqual(sum(role == SERVER for _, role in self.spawned), 2)
+        watcher = self.asker(1, b"here a:/dev/pts/1 24 80 read-only\n")
+        self.assertEqual(self.said_by(watcher, again), b"opened none a read-only terminal opens none\n")
+        self.assertEqual(self.said_by(two, b"open 30 90 for x\n"), b"bad line\n")
 
     def test_asked_once(self):
         """A command that requests a window and ends after the answer claims it for nobody; neither does a failed one."""

@@ -29,7 +29,7 @@ def full_state():
              3: PaneState(id=7, number=3, generation=2**63, size=(1, 2), process=72, has_ended=True, program="vi")}
     zoom = NotedZoom(note=ZoomNote((24, 80), ((48, 160), (50, 170))))
     window = WindowState(number=7, name="l\u00f6gs \u4e2d", panes=panes, focus=3, history=[3, 1], program="vi", zoom=zoom,
-                         processes={"server": (70, 5000), "client": (71, None)})
+                         processes={"server": (70, 5000), "client": (71, None)}, request=NAME, begins=b"a\0b")
     return SessionState(windows={7: window, 2: WindowState(number=2)}, last_window=7, colours={"foreground": "ffff/0000/1234"},
                         environment={"DISPLAY": ":0", "SSH_CONNECTION": ""}, buffers=buffers,
                         pastes={NAME: paste, OTHER: PendingPaste.of(OTHER, b"x", True)},

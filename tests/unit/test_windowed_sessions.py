@@ -535,18 +535,47 @@ class Asked(Sessions):
 
     def test_opened(self):
         """A window is opened with the size of the requesting one, and its name if given."""
+        self.patch_of(cli_windows, "random_name", lambda: "ab" * 8)
         self.patch_of(SessionFolder, "places", lambda session: Places({1: Rect(1, 1, 29, 100)}, 1))
         self.answers = [b"opened 4\n"]
         self.assertEqual(new_window(self.window, ""), 0)
-        self.assertEqual((read_now(self.host), self.text.getvalue()), (b"open 30 100\n", "main:4\n"))
+        self.assertEqual((read_now(self.host), self.text.getvalue()), (b"open 30 100 for abababababababab\n", "main:4\n"))
         self.patch_of(SessionFolder, "places", lambda session: None)
         self.answers, self.host = [b"opened 5\n", b"windows 0\n", b"window 5 6162\n"], None
         self.assertEqual(new_window(self.window, "ab"), 0)
-        self.assertEqual((read_now(self.host), self.text.getvalue()), (b"open 24 80\nwindows\nname 5 6162\n", "main:4\nmain:5\n"))
+        self.assertEqual((read_now(self.host), self.text.getvalue()),
+                         (b"open 24 80 for abababababababab\nwindows\nname 5 6162\n", "main:4\nmain:5\n"))
         for told, why in ((b"none a\x1bb is full", "a\\?b is full"), (b"100", ""), (b"9" * 5000, ""), (b"x", ""), (b"4 5", "5")):
             self.answers, self.host = [b"opened " + told + b"\n"], None
             with self.assertRaisesRegex(Fault, f"^session main: cannot open a window: {why}$"):
                 new_window(self.window, "")
+
+    def test_opened_again(self):
+        """If the pty host ends, the next one is asked by the same name, until the window is open or for too long."""
+        self.patch_of(cli_windows, "ASKS_EACH", 0.0)
+        heard = []
+
+        def comes(peer, seconds):
+            self.host = self.taken(self.listener)
+            heard.append(read_now(self.host))
+            if self.answers[0]:
+                self.host.send(self.answers[0])
+            else:
+                self.host.close()
+            del self.answers[0]
+            return True
+
+        self.patch_of(cli_windows, "comes", comes)
+        self.answers = [b"", b"", b"opened 4\n"]
+        self.assertEqual(new_window(self.window, ""), 0)
+        self.assertEqual((len(heard), len(set(heard)), self.text.getvalue()), (3, 1, "main:4\n"))
+        self.answers = [b"", b"opened none its window is being opened\n", b"opened none full\n"]
+        with self.assertRaisesRegex(Fault, "cannot open a window: full$"):
+            new_window(self.window, "")
+        self.patch_of(cli_windows, "ASKS_AGAIN", 0.0)
+        self.answers = [b""]
+        with self.assertRaisesRegex(Fault, "^session main:2: the pty host has ended$"):
+            new_window(self.window, "")
 
     def test_renamed(self):
         """It waits until the window is reported with the name; one that is gone has none."""

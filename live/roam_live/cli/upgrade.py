@@ -50,7 +50,8 @@ def upgrade(asked: Asked) -> int:
         print("\n".join(report(here)))
         return 0
     status = 0
-    for session in here if asked.is_all else [running(asked.name).whole_session()]:
+    own = [session for session in here if session.served != "relay"]
+    for session in own if asked.is_all else [running(asked.name).whole_session()]:
         try:
             print(printable(f"{session.name}: {upgraded(session)}"))
         except Fault as fault:

@@ -7,19 +7,21 @@ import time
 from roam_live.common.errors import Fault, reason
 from roam_live.common.event_loop import comes
 from roam_live.common.io import LineReader
+from roam_live.common.suppress import suppress
 from roam_live.common.text import printable
 from roam_live.common.unix_socket import connected_in
 from roam_live.protocol.host_lines import BAD_LINE, led, parted
 from roam_live.protocol.paste_text import random_name
 from roam_live.protocol.presence import CLIENT, CLIENTS, MOST_ATTENDED, number_in, presence_in
 from roam_live.protocol.spawn_request import RAN, READY
-from roam_live.protocol.window_lines import (GONE, LONGEST_BYTES, LONGEST_NAME, MOST_WINDOWS, OPENED, RUNS, WINDOW, WINDOWS, name_in,
-                                             name_word)
+from roam_live.protocol.window_lines import (GONE, LONGEST_BYTES, LONGEST_NAME, MOST_WINDOWS, NOT_YET, OPENED, RUNS, WINDOW, WINDOWS,
+                                             name_in, name_word)
 
 TYPE_CHECKING = False
 if TYPE_CHECKING:
     import socket
 
+    from roam_live.common.tty import Size
     from roam_live.protocol.spawn_request import Begins
     from roam_live.session.folder import SessionFolder
 
@@ -33,10 +35,17 @@ RUNS_TOLD = 0.5
 # Seconds for terminals to detach on request.
 LEAVES = 5.0
 
+# Seconds for which a request is repeated if the pty host ends, and between two tries.
+ASKS_AGAIN, ASKS_EACH = 10.0, 0.1
+
 # The most digits of a reported number, since reports may come from another machine.
 MOST_DIGITS = 20
 
 ONE_WINDOW = "session {}: it was started by hand and has one window"
+
+
+class HostEnded(Fault):
+    """A pty host that has ended, or is not there. Another one may follow."""
 
 
 class WindowsAsked:
@@ -49,14 +58,14 @@ class WindowsAsked:
             self.peer: socket.socket = connected_in(session.common / "host", CONNECTS)
         except OSError as fault:
             why = f"its pty host is not running ({reason(fault)}); `mux {session.name}` restarts it"
-            raise Fault(f"session {session.name}: {why}") from fault
+            raise HostEnded(f"session {session.name}: {why}") from fault
 
     def say(self, line: str, data: bytes = b"") -> None:
         """Send a line, and bytes after it."""
         try:
             self.peer.sendall(f"{led(self.session.number, line)}\n".encode() + data)
         except OSError as fault:
-            raise Fault(f"session {self.session.name}: the pty host has ended") from fault
+            raise HostEnded(f"session {self.session.name}: the pty host has ended") from fault
 
     def until(self, *begins: str, seconds: float = ANSWERS) -> list[str]:
         """Return the words of the first line with one of these beginnings, and keep later lines.
@@ -75,7 +84,7 @@ class WindowsAsked:
                 raise Fault(f"session {self.session.name}: the pty host does not answer")
             heard = self.lines.read(self.peer.fileno())
             if heard is None:
-                raise Fault(f"session {self.session.name}: the pty host has ended")
+                raise HostEnded(f"session {self.session.name}: the pty host has ended")
             self.told += [parted(line)[1] for line in heard]
 
     def hand(self, beside: str, begins: Begins) -> str:
@@ -87,6 +96,14 @@ class WindowsAsked:
         if words[1:] != [name, READY]:
             raise Fault(f"session {self.session.name}: not run: {printable(' '.join(words[3:]))}")
         return name
+
+    def opened(self, size: Size, request: str, begins: Begins | None) -> tuple[int, str]:
+        """Open a window with start options, by a named request; return its number, or 0 and the reason of a refusal."""
+        handed = f" {self.hand('window', begins)}" if begins else ""
+        self.say(f"open {size[0]} {size[1]}{handed} for {request}")
+        words = self.until(OPENED)
+        number = number_in(words[1], MOST_WINDOWS) if len(words) == 2 else 0
+        return number, "" if number else " ".join(words[2:])
 
     def rename(self, number: int, name: str) -> None:
         """Name a window, or remove its name if `name` is empty. This connection has already subscribed to windows."""
@@ -172,16 +189,28 @@ def new_window(session: SessionFolder, name: str, begins: Begins | None = None) 
 
 
 def opened_window(session: SessionFolder, name: str, begins: Begins | None = None) -> int:
-    """Open a window of a session, of the requesting window's size, with start options, print its number, and return it."""
+    """Open a window of a session, of the requesting window's size, with start options, print its number, and return it.
+
+    If the pty host ends meanwhile, the next one is asked again, by the name of the request. It opens no second window.
+    """
     check_title(name)
     places = session.places()
+    size, request, end = places.size() if places else (24, 80), random_name(), time.monotonic() + ASKS_AGAIN
     asked = WindowsAsked(session)
-    handed = f" {asked.hand('window', begins)}" if begins else ""
-    asked.say("open {} {}".format(*(places.size() if places else (24, 80))) + handed)
-    words = asked.until(OPENED)
-    number = number_in(words[1], MOST_WINDOWS) if len(words) == 2 else 0
+    while True:
+        try:
+            number, why = asked.opened(size, request, begins)
+        except HostEnded:
+            if time.monotonic() >= end:
+                raise
+            number, why = 0, NOT_YET
+        if number or why != NOT_YET or time.monotonic() >= end:
+            break
+        time.sleep(ASKS_EACH)
+        with suppress(HostEnded):
+            asked = WindowsAsked(session)
     if not number:
-        raise Fault(f"session {session.whole_session().name}: cannot open a window: {printable(' '.join(words[2:]))}")
+        raise Fault(f"session {session.whole_session().name}: cannot open a window: {printable(why)}")
     if name:
         asked.say(WINDOWS)
         asked.until(WINDOWS)

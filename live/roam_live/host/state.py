@@ -1,7 +1,7 @@
 """The state of a session's pty host: a tree of records, without sockets, descriptors and timers.
 
 It is the host's only copy of these facts. Written as JSON and read back, it lets another host continue the session. Anything bound to a
-connection, such as start options of a new pane, ends with that connection and is not part of it.
+connection, such as start options of a new pane in an open window, ends with that connection and is not part of it.
 """
 from __future__ import annotations
 
@@ -14,7 +14,8 @@ from roam_live.protocol.panes import MOST_PANES
 from roam_live.protocol.paste_text import (BUFFER_EMPTY, BUFFER_TOO_LONG, BUFFERS_TOO_MANY, CLOSES, INSERTED, LOST, MOST_BUFFER,
                                            MOST_BUFFERS, MOST_BYTES, MOST_COMING, MOST_SPENT, MOST_TEXTS, OPENS, SAMPLE, STORED,
                                            random_name, without_brackets)
-from roam_live.protocol.window_lines import LONGEST_NAME, MOST_WINDOWS
+from roam_live.protocol.spawn_request import MOST_BYTES as MOST_OPTIONS
+from roam_live.protocol.window_lines import LONGEST_NAME, LONGEST_REQUEST, MOST_WINDOWS
 from roam_live.protocol.zoom_record import MOST_ASKED, NO_ZOOM, NONE, ZOOM, ZOOMED, ZoomNote, note_in
 from roam_live.session.environment import LONGEST_VALUE, NAMES, own_values, tellable
 from roam_live.session.roles import CLIENT, SERVER
@@ -229,6 +230,9 @@ class WindowState(StateRecord):
     # The last reported foreground program of the focused pane.
     program: str = field(PROGRAM, str)
     zoom: NotedZoom = field(record_of(NotedZoom), NotedZoom)
+    # The name of the request that opened it; and until then the start options of its first pane.
+    request: str = field(text_of(LONGEST_REQUEST), str)
+    begins: bytes = field(bytes_of(MOST_OPTIONS), bytes)
     # The processes by role, each with its start time.
     processes: dict[str, tuple[int, int | None]] = field(
         map_of(one_of(SERVER, CLIENT), row_of(number_from(1, MOST_PROCESS), optional(number_from(0, MOST_TICKS))), 2), dict)

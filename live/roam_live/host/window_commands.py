@@ -5,7 +5,7 @@ from roam_live.common.build_info import identity
 from roam_live.common.tty import largest
 from roam_live.protocol.host_lines import SESSION
 from roam_live.protocol.upgrade_lines import BUILD, UPGRADE
-from roam_live.protocol.window_lines import GONE, NAME, OPEN, OPENED, RUNS, SHUT, WINDOW, WINDOWS, name_in, name_word
+from roam_live.protocol.window_lines import GONE, NAME, NOT_YET, OPEN, OPENED, RUNS, SHUT, WINDOW, WINDOWS, name_in, name_word
 
 TYPE_CHECKING = False
 if TYPE_CHECKING:
@@ -51,7 +51,7 @@ class WindowLines:
             runs = [f"{RUNS} {number} {name}" for number, name in self.table.in_front().items()]
             self.socket.send(peer, [*told, f"{WINDOWS} {len(told)}", *runs], SESSION)
         elif opens:
-            self.open(peer, beside, largest((int(opens[1]), int(opens[2]))), opens[3] or "")
+            self.open(peer, beside, largest((int(opens[1]), int(opens[2]))), opens[3] or "", opens[4] or "")
         elif peer.is_read_only():
             return False
         elif names and name_in(names[2]) is not None:
@@ -75,11 +75,18 @@ class WindowLines:
         if not is_there:
             self.socket.send(peer, [f"{GONE} {number}"], SESSION)
 
-    def open(self, peer: HostPeer, beside: int, size: Size, name: str = "") -> None:
+    def open(self, peer: HostPeer, beside: int, size: Size, name: str = "", request: str = "") -> None:
         """Open a window, with start options of this name if any, and answer once it is there or has failed.
 
-        A front end that lost its connection asks again, and gets the same window.
+        A front end that lost its connection asks again, and gets the same window. So does a command that repeats its request by its name,
+        also at another host.
         """
+        again = self.table.of_request(request)
+        if again and not peer.is_read_only():
+            self.handed(name)
+            is_there = again.number in self.table.named()
+            self.socket.send(peer, [f"{OPENED} {again.number}" if is_there else f"{OPENED} none {NOT_YET}"], SESSION)
+            return
         refusal = READ_ONLY if peer.is_read_only() else TOO_MANY if peer.opening >= MOST_OPENING else ""
         if refusal:
             self.socket.send(peer, [f"{OPENED} none {refusal}"], SESSION)
@@ -99,7 +106,7 @@ class WindowLines:
         asked = AskedWindow(peer, beside, size)
         if peer.asks_windows:
             self.asked.append(asked)
-        self.table.open(size, beside, lambda number, why: self.opened(asked, number, why), begins)
+        self.table.open(size, beside, lambda number, why: self.opened(asked, number, why), begins, request)
 
     def handed(self, name: str) -> Begins | None:
         """Return the start options of this name, from any window."""

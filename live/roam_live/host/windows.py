@@ -24,6 +24,7 @@ from roam_live.host.state import WindowState
 from roam_live.host.upgrade import HostUpgrade
 from roam_live.host.window import WindowHost
 from roam_live.host.window_commands import WindowLines
+from roam_live.protocol.spawn_request import unpacked
 from roam_live.protocol.window_lines import ACTIVITY, BELL, GONE, MOST_WINDOWS, RUNS
 from roam_live.session.foreground import working_folder
 from roam_live.session.names import numbers_in, windows_folder
@@ -87,8 +88,12 @@ class Windows:
         """Return the open windows, and their names."""
         return {number: one.state.name for number, one in self.windows.items() if one.stage == THERE}
 
-    def open(self, size: Size | None, beside: int, told: Callable[[int, str], object], begins: Begins | None = None) -> None:
-        """Open a window, optionally of a size, beside another, with start options. The callback gets its number, or 0 and a reason."""
+    def open(self, size: Size | None, beside: int, told: Callable[[int, str], object], begins: Begins | None = None,
+             request: str = "") -> None:
+        """Open a window, optionally of a size, beside another, with start options. The callback gets its number, or 0 and a reason.
+
+        The name of the request, if it has one, and the options are in the state before anything is started.
+        """
         number = self.free_number()
         if not number or self.common.is_over:
             told(0, OVER if number else FULL)
@@ -97,6 +102,10 @@ class Windows:
         window.has_client = size is not None
         window.size = (max(size[0], LEAST[0]), max(size[1], LEAST[1])) if size else None
         window.begins, window.begins_in = begins, begins and begins.folder or self.folder_beside(beside)
+        window.state.request = request
+        if request:
+            window.state.begins = begins.packed() if begins else b""
+            self.common.kept.write()
         self.begin(window)
 
     def add(self, processes: WindowProcesses, told: Callable[[int, str], object]) -> HostedWindow:
@@ -104,6 +113,10 @@ class Windows:
         window = self.windows[processes.number] = HostedWindow(processes, told)
         self.state.windows[processes.number] = processes.state
         return window
+
+    def of_request(self, request: str) -> HostedWindow | None:
+        """Return the window that a request has opened, or is opening; None if there is none."""
+        return next((window for window in self.windows.values() if request and window.state.request == request), None)
 
     # ---- the spare server
 
@@ -217,6 +230,7 @@ class Windows:
                 continue
             window = self.add(processes, self.taken)
             window.is_again, window.has_client = True, False
+            window.begins = unpacked(bytes(window.state.begins)) if window.state.begins else None
             self.common.socket.await_terminals()
             self.await_(window, OPENS)
         for number in self.state.windows.keys() - self.windows.keys():
@@ -348,7 +362,7 @@ class Windows:
 
     def opened(self, window: HostedWindow) -> None:
         """Report an open window."""
-        window.stage = THERE
+        window.stage, window.state.begins = THERE, b""
         if window.host and window.host.awaited:
             self.loop.later(f"window {window.number} has its size", OPENS, window.host.await_no_more)
         if window.host:

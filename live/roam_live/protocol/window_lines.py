@@ -7,16 +7,20 @@ from roam_live.common.patterns import LazyPattern
 # The words of request lines, and those of report lines.
 WINDOWS, WINDOW, GONE, OPENED, BELL, ACTIVITY, RUNS = "windows", "window", "gone", "opened", "bell", "activity", "runs"
 
-# The request lines to open a window, optionally with the name of uploaded start options, to name one, and to close one. A size is cut to
-# the largest of a session.
-OPEN = LazyPattern(r"(?a)open ([1-9]\d{0,4}) ([1-9]\d{0,4})(?: ([0-9a-f]{16}))?")
+# The request lines to open a window, optionally with the name of uploaded start options, and with a name of the request itself; to name a
+# window, and to close one. A size is cut to the largest of a session. A request that is repeated by its name opens no second window.
+OPEN = LazyPattern(r"(?a)open ([1-9]\d{0,4}) ([1-9]\d{0,4})(?: ([0-9a-f]{16}))?(?: for ([0-9a-f]{16}))?")
 NAME = LazyPattern(r"(?a)name ([1-9]\d?) (-|(?:[0-9a-f]{2}){1,119})")
 SHUT = LazyPattern(r"(?a)shut ([1-9]\d?)")
+
+# The refusal of a request that was made before, while its window is not open yet.
+NOT_YET = "its window is being opened"
 
 # Limits: windows of a session, and characters and bytes of a name, which a line contains in hexadecimal.
 MOST_WINDOWS = 99
 LONGEST_NAME = 64
 LONGEST_BYTES = 119
+LONGEST_REQUEST = 16
 
 # The name of an unnamed window.
 NO_NAME = "-"

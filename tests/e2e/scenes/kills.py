@@ -7,6 +7,7 @@ import subprocess
 import time
 
 from tried import SESSION, Outer, check, comes, commands, noted, program, said, scene, tool
+from scenes.endings import sessions_in_panes
 from scenes.installed import NEWER, install
 
 # A program that logs what it reads. For each p it prints groups of eight characters, the number of each in it, and logs those too.
@@ -29,6 +30,9 @@ while True:
 
 # The kills of the gate, and their seed, or those that the environment names; the keys typed before and after each.
 KILLS, SEED, KEYS = int(os.environ.get("TRIAL_KILLS", "8")), int(os.environ.get("TRIAL_SEED", "11")), 40
+
+# The windows that are opened at most, and the seconds within which the host is killed.
+WINDOWS, OPENS_SECONDS = 20, 0.5
 
 # The seconds within which an upgrade is begun, checked and over.
 UPGRADE_SECONDS = 0.6
@@ -62,7 +66,8 @@ def begun(folder):
 
 def check_logs(paths, keys):
     """Check that the program has read all keys once, in order, and that the screen shows what it printed."""
-    check("each key is read once, in order", comes(lambda: paths[0].read_bytes() == keys), lambda: (len(paths[0].read_bytes()), len(keys)))
+    is_read = comes(lambda: paths[0].read_bytes() == keys)
+    check("each key is read once, in order", is_read, lambda: (len(paths[0].read_bytes()), len(keys)))
     size = keys.count(b"p") * 20_000 + 7
     comes(lambda: paths[1].stat().st_size == size)
     expected = shown_by(paths[1])
@@ -81,7 +86,8 @@ def kills(folder):
         time.sleep(chance.random() / 10)
         os.kill(process, signal.SIGKILL)
         keys += typed(outer, chance)
-        check(f"kill {count + 1}: another {role} is there", comes(lambda role=role, process=process: noted(SESSION)[role][0] != process))
+        is_there = comes(lambda role=role, process=process: noted(SESSION)[role][0] != process)
+        check(f"kill {count + 1}: another {role} is there", is_there)
         check_logs(paths, keys)
     check("the program is the same", all(os.path.exists(f"/proc/{one}") for one in own) and own, own)
     subprocess.run(tool("mux", "kill", "-f", SESSION), check=True)
@@ -89,7 +95,7 @@ def kills(folder):
 
 @scene
 def killed_upgrades(folder):
-    """A session is moved to and fro between two builds under bursts, and its host or holder is killed at a random moment of most upgrades."""
+    """A session is moved to and fro between two builds under bursts. Its host or holder is killed at a random moment of most upgrades."""
     os.environ.pop("ROAM", None)
     prefixes = folder / "one", folder / "two"
     install(prefixes[0])
@@ -99,8 +105,8 @@ def killed_upgrades(folder):
     for count in range(KILLS):
         roles = {role: noted(SESSION)[role][0] for role in ("host", "holder")}
         keys += typed(outer, chance)
-        upgrade = subprocess.Popen([str(prefixes[count % 2] / "bin/roam"), "mux", "upgrade", SESSION], stdin=subprocess.DEVNULL,
-                                   stdout=subprocess.PIPE, stderr=subprocess.STDOUT)
+        words = [str(prefixes[count % 2] / "bin/roam"), "mux", "upgrade", SESSION]
+        upgrade = subprocess.Popen(words, stdin=subprocess.DEVNULL, stdout=subprocess.PIPE, stderr=subprocess.STDOUT)
         if count % 4:
             time.sleep(chance.random() * UPGRADE_SECONDS)
             with contextlib.suppress(ProcessLookupError):
@@ -110,6 +116,28 @@ def killed_upgrades(folder):
         check(f"upgrade {count + 1} is over, in words", told.startswith((f"{SESSION}: ", "mux: ")) and "Traceback" not in told, told)
         check_logs(paths, keys)
     check("the program is the same", all(os.path.exists(f"/proc/{one}") for one in own) and own, own)
+    subprocess.run(tool("mux", "kill", "-f", SESSION), check=True)
+
+
+@scene
+def asked_again(folder):
+    """The host is killed while a command opens a window. The command asks the next one, and exactly one window is opened."""
+    outer = Outer(tool("mux", SESSION))
+    outer.begins()
+    chance = random.Random(SEED)
+    for count in range(min(KILLS, WINDOWS)):
+        words = tool("mux", "new-window", "-n", f"n{count}", SESSION)
+        opening = subprocess.Popen(words, stdin=subprocess.DEVNULL, stdout=subprocess.PIPE, stderr=subprocess.STDOUT)
+        time.sleep(chance.random() * OPENS_SECONDS)
+        host = noted(SESSION)["host"][0]
+        os.kill(host, signal.SIGKILL)
+        told = opening.communicate()[0].decode()
+        check(f"window {count + 2} is opened", opening.returncode == 0 and told == f"{SESSION}:{count + 2}\n", told)
+        check("another host is there", comes(lambda host=host: noted(SESSION)["host"][0] != host))
+        lines = comes(lambda count=count: len(said("list-windows", SESSION)[1].splitlines()) == count + 2)
+        check("and no other window", lines, lambda: said("list-windows", SESSION))
+    has_shells = comes(lambda: len(sessions_in_panes(SESSION)) == min(KILLS, WINDOWS) + 1)
+    check("each has one shell", has_shells, lambda: sessions_in_panes(SESSION))
     subprocess.run(tool("mux", "kill", "-f", SESSION), check=True)
 
 
