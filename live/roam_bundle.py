@@ -47,7 +47,7 @@ ROOTS = {
     "first_painting": (("mux",), (f"{PACKAGE}.frontend.follow",)),
     "front_end": (("mux", "first_painting"), (f"{PACKAGE}.frontend.app",)),
     "late": (("mux", "first_painting", "front_end"), tuple(f"{PACKAGE}.{name}" for name in (
-        "config.command_table", "config.formats", "config.loader", "config.parser", "frontend.borders", "frontend.command_line",
+        "commands.table", "config.formats", "config.loader", "config.parser", "frontend.borders", "frontend.command_line",
         "frontend.copymode.actions", "frontend.copymode.controller", "frontend.copymode.keys", "frontend.copymode.motions",
         "frontend.copymode.search", "frontend.resize_keys", "frontend.spawn_commands", "input.key_names", "protocol.screen_cells"))),
     "host": ((), (f"{PACKAGE}.host.window", f"{PACKAGE}.host.windows", f"{PACKAGE}.host.kept_state")),

@@ -1,7 +1,7 @@
 """The word of mux that a wrong one probably means, and the valid names."""
 import unittest
 
-from roam_live.cli.args import TMUX_WORDS, meant, slips, told_of_tmux
+from roam_live.cli.args import meant, slips, tmux_words, told_of_tmux
 
 WORDS = ["attach", "new", "detach", "ls", "list", "watch", "kill", "send", "capture", "env", "ssh", "far", "help"]
 
@@ -47,7 +47,7 @@ class Meant(unittest.TestCase):
 
     def test_words_of_tmux(self):
         """Each word of tmux is known, and its equivalent is shown, or that there is none."""
-        self.assertEqual([word for word in OF_TMUX if word not in TMUX_WORDS], [])
+        self.assertEqual([word for word in OF_TMUX if word not in tmux_words()], [])
         for name, told in (("a", "a is a tmux command; in roam, use `roam mux attach NAME`"),
                            ("lsk", "lsk is a tmux command; in roam, use C-b ?"),
                            ("kill-server", "kill-server is a tmux command; in roam, use `roam mux kill NAME`"),

@@ -4,6 +4,7 @@ from unittest import mock
 
 from aids import Case
 from roam_live.cli import cmd
+from roam_live.commands.flags import parted
 from roam_live.common.errors import Fault
 
 # Words, the function that they call, and its arguments after the window.
@@ -40,7 +41,7 @@ class Outside(Case):
                 self.assertEqual(cmd.run("window", 2, words), 0)
             keys = [f"char {ord(letter):x}" for letter in "echo x"] + ["key return"]
             self.assertEqual(sent.call_args_list, [mock.call("window", ["split right"], 2), mock.call("window", keys, 0)])
-        self.assertEqual(cmd.commands_in(["send-keys", "a\\;", "b"]), [["send-keys", "a;", "b"]])
+        self.assertEqual(parted(["send-keys", "a\\;", "b"]), [["send-keys", "a;", "b"]])
 
     def test_chain_refused(self):
         """Nothing runs unless each command can be read; a failure ends the chain."""

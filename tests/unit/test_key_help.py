@@ -2,7 +2,7 @@
 import unittest
 
 from aids import Case
-from roam_live.config.command_table import DEFAULT_KEYS
+from roam_live.commands.table import DEFAULT_KEYS
 from roam_live.config.loader import Binding
 from roam_live.frontend.bindings import help_of, help_with
 from test_display import Person

@@ -14,10 +14,10 @@ from roam_live.common.process import TOOLS
 PACKAGE = pathlib.Path(TOOLS, "roam_live")
 
 # From the lowest layer to the highest. Packages on the same line do not import each other.
-LAYERS = (("common",), ("protocol",), ("input", "session"), ("config",), ("frontend", "host", "relay"), ("cli",))
+LAYERS = (("common",), ("protocol",), ("input", "session"), ("commands",), ("config",), ("frontend", "host", "relay"), ("cli",))
 
 # The packages in which no two modules import each other, and no part knows its owner.
-ACYCLIC = ("input", "config", "frontend")
+ACYCLIC = ("input", "commands", "config", "frontend")
 
 # The sizes of modules and classes there.
 MOST_LINES, MOST_METHODS = 450, 25

@@ -10,11 +10,11 @@ from unittest import mock
 
 from aids import Case
 from roam_live.cli import attaching, capture, cmd, ending, mux, paste, scrollback, send, ssh, targets, windows, word_help
-from roam_live.cli.args import TMUX_WORDS
+from roam_live.cli.args import tmux_words
 from roam_live.common.errors import Fault
 from roam_live.common.process import TOOLS
 from roam_live.config import environment as config_environment
-from roam_live.config.command_table import BY_NAME, DEFAULT_KEYS
+from roam_live.commands.table import BY_NAME, DEFAULT_KEYS
 from roam_live.config.user_file import OWN, settings_path
 from roam_live.frontend import follow
 from roam_live.protocol.panes import Places, Rect
@@ -591,7 +591,7 @@ class Words(Mux):
         """No word of tmux launches a session of that name: a hint names roam's equivalent, a word of mux, or says that there is none. A
         running one is attached to, and `new` takes any.
         """
-        for word, here in TMUX_WORDS.items():
+        for word, here in tmux_words().items():
             if here.startswith("mux "):
                 self.assertIn(here.split()[1], mux.WORDS, word)
             if here.startswith("mux cmd "):

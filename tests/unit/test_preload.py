@@ -8,7 +8,7 @@ from unittest import mock
 from aids import Case
 from roam_live.common import late_modules
 from roam_live.common.late_modules import LateModules
-from roam_live.config.command_table import DEFAULT_KEYS
+from roam_live.commands.table import DEFAULT_KEYS
 from roam_live.frontend import bindings
 from roam_live.frontend.commands import REPLACED
 from roam_live.frontend.copymode import controller

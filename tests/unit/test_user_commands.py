@@ -10,7 +10,8 @@ from modes_played import PlayedModes
 from roam_live.common.errors import Fault
 from roam_live.common.event_loop import Loop
 from roam_live.config import environment
-from roam_live.config.command_table import BY_NAME, DEFAULT_KEYS, BadCommand, asked_by, completed
+from roam_live.commands.flags import BadCommand
+from roam_live.commands.table import BY_NAME, DEFAULT_KEYS, asked_by, completed
 from roam_live.config.loader import Binding, FileSettings
 from roam_live.config.user_file import OWN
 from roam_live.frontend.bindings import HELP, defaults

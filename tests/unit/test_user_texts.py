@@ -7,7 +7,7 @@ import subprocess
 import unittest
 
 from roam_live.cli import help_text, mux, words
-from roam_live.config.command_table import BY_NAME, DEFAULT_KEYS
+from roam_live.commands.table import BY_NAME, DEFAULT_KEYS
 from roam_live.frontend.bindings import HELP
 
 TOP = pathlib.Path(__file__).resolve().parents[2]

@@ -14,108 +14,16 @@ if TYPE_CHECKING:
     # The arguments of a command of `mux`: a value for each, from a parser or without one.
     Asked = Union[argparse.Namespace, PlainWords]
 
-# The commands of tmux 3.3a with their aliases, and the equivalent here: a command of mux, or a key; nothing if there is none.
-TMUX_TABLE = """
-attach-session attach at att a: mux attach NAME
-bind-key bind: bind in roam.conf
-break-pane breakp:
-capture-pane capturep: mux capture NAME
-choose-buffer: C-b =
-choose-client: mux clients NAME
-choose-tree choose-window: C-b w
-clear-history clearhist:
-clear-prompt-history clearphist:
-clock-mode:
-command-prompt: C-b :
-confirm-before confirm:
-copy-mode: C-b [
-customize-mode:
-delete-buffer deleteb:
-detach-client detach det: C-b d
-display-menu menu:
-display-message display: C-b : display-message
-display-popup popup:
-display-panes displayp: C-b q
-find-window findw:
-has-session has: mux ls
-if-shell if:
-join-pane joinp:
-kill-pane killp: mux kill NAME.P
-kill-server: mux kill NAME
-kill-session: mux kill NAME
-kill-window killw: mux kill NAME:K
-last-pane lastp: C-b ;
-last-window last: C-b l
-link-window linkw:
-list-buffers lsb: mux buffer list NAME
-list-clients lsc: mux clients NAME
-list-commands lscm: mux help
-list-keys lsk: C-b ?
-list-panes lsp:
-list-sessions ls choose-session: mux ls
-list-windows lsw: mux list-windows NAME
-load-buffer loadb: mux buffer set NAME < FILE
-lock-client lockc:
-lock-server lock:
-lock-session locks:
-move-pane movep:
-move-window movew:
-new-session new: mux new NAME
-new-window neww: mux new-window NAME
-next-layout nextl: C-b Space
-next-window next: C-b n
-paste-buffer pasteb: mux buffer paste NAME
-pipe-pane pipep: mux log NAME
-previous-layout prevl:
-previous-window prev: C-b p
-refresh-client refresh: C-b r
-rename-session rename:
-rename-window renamew: mux rename-window NAME:K TITLE
-resize-pane resizep: C-b C-Up
-resize-window resizew: mux send -a NAME 'size ROWS COLS'
-respawn-pane respawnp:
-respawn-window respawnw:
-rotate-window rotatew:
-run-shell run: C-b : run-shell
-save-buffer saveb: mux buffer show NAME > FILE
-select-layout selectl: C-b Space
-select-pane selectp: mux cmd NAME select-pane
-select-window selectw: mux attach NAME:K
-send-keys send: mux send NAME WORD
-send-prefix: C-b C-b
-server-access:
-set-buffer setb: mux buffer set NAME TEXT
-set-environment setenv:
-set-hook:
-set-option set: set in roam.conf
-set-window-option setw: set in roam.conf
-show-buffer showb: mux buffer show NAME
-show-environment showenv: mux env NAME
-show-hooks:
-show-messages showmsgs info server-info:
-show-options show:
-show-prompt-history showphist:
-show-window-options showw:
-source-file source: C-b R
-split-window splitw split-pane splitp: mux cmd NAME split-window
-start-server start: mux new NAME
-suspend-client suspendc: C-b C-z
-swap-pane swapp:
-swap-window swapw:
-switch-client switchc:
-unbind-key unbind: unbind in roam.conf
-unlink-window unlinkw:
-wait-for wait:
-"""
+# Short forms of tmux's commands that users type.
+SHORT_FORMS = {"at": "attach", "att": "attach", "a": "attach", "det": "detach"}
 
 
-def words_of(table: str) -> dict[str, str]:
-    """Return the equivalent of each word in a table."""
-    lines = (line.partition(":") for line in table.strip().split("\n"))
-    return {name: here.strip() for names, _, here in lines for name in names.split()}
+def tmux_words() -> dict[str, str]:
+    """Return the equivalent in `mux` of each name of a command of tmux, or a key; nothing where there is none."""
+    from roam_live.commands.table import hints
 
-
-TMUX_WORDS = words_of(TMUX_TABLE)
+    found = hints()
+    return {**found, **{short: found[name] for short, name in SHORT_FORMS.items()}}
 
 
 # In a word of fewer letters another letter makes another name: `net` is no typing error for `new`. A missing or extra letter, or two
@@ -143,9 +51,9 @@ def slips(word: str, name: str) -> int:
 
 def told_of_tmux(name: str, called: str) -> str:
     """Return the hint for a word of tmux, if mux is called with it; nothing for another."""
-    if name not in TMUX_WORDS:
+    here = tmux_words().get(name)
+    if here is None:
         return ""
-    here = TMUX_WORDS[name]
     if not here:
         return f"{name}: roam does not support this tmux command"
     told = f"`{called}{here.removeprefix('mux')}`" if here.startswith("mux ") else here

@@ -3,12 +3,14 @@ from __future__ import annotations
 
 import os
 
+from roam_live.commands.flags import BadCommand, parted
+from roam_live.commands.table import asked_by
 from roam_live.common.errors import Fault
-from roam_live.config.command_table import BadCommand, CommandWish, asked_by
 from roam_live.protocol.spawn_request import DONE, RAN
 
 TYPE_CHECKING = False
 if TYPE_CHECKING:
+    from roam_live.commands.wishes import CommandWish
     from roam_live.protocol.spawn_request import Begins
     from roam_live.session.folder import SessionFolder
 
@@ -29,25 +31,12 @@ class Target:
         self.window, self.pane = window, pane
 
 
-def commands_in(words: list[str]) -> list[list[str]]:
-    """Return the commands between words `;`. A word that ends with `;` ends a command too; `\\;` there is the character."""
-    found: list[list[str]] = [[]]
-    for word in words:
-        ends = word.endswith(";") and not word.endswith("\\;")
-        text = word[:-1] if ends else word[:-2] + ";" if word.endswith("\\;") else word
-        if text or not ends:
-            found[-1].append(text)
-        if ends:
-            found.append([])
-    return [command for command in found if command]
-
-
 def run(window: SessionFolder, pane: int, words: list[str]) -> int:
     """Run commands in a window, or for one of its panes, and return the status of the last. Fault gives the reason of a failure.
 
     Each is read before the first one runs. The first that fails ends the chain.
     """
-    found = [read(command) for command in commands_in(words)]
+    found = [read(command) for command in parted(words)]
     if not found:
         raise Fault("there is no command between the words `;`")
     target, status = Target(window, pane), 0

@@ -5,6 +5,7 @@ import glob
 import os
 import stat
 
+from roam_live.commands.flags import parted
 from roam_live.common.errors import reason
 from roam_live.common.named_fields import NamedFields
 from roam_live.common.text import printable
@@ -324,15 +325,9 @@ def commands_of(words: list[Word]) -> list[list[str]]:
     """Return the commands of a binding: those of a block, or words separated by those that end with `;`."""
     if len(words) == 1 and isinstance(words[0], Block):
         return [[str(word) for word in command.words] for command in words[0].commands if not is_nested(command)]
-    commands: list[list[str]] = [[]]
-    for word in words:
-        if isinstance(word, Block):
-            raise BadWord("a block in braces is not supported here")
-        is_end = word.endswith(";") and not word.endswith("\\;")
-        text = word[:-1] if is_end else word[:-2] + ";" if word.endswith("\\;") else word
-        commands[-1] += [text] if text or not is_end else []
-        commands += [[]] if is_end else []
-    return [command for command in commands if command]
+    if any(isinstance(word, Block) for word in words):
+        raise BadWord("a block in braces is not supported here")
+    return parted([str(word) for word in words])
 
 
 def is_nested(command: FileCommand) -> bool:

@@ -24,7 +24,7 @@ def settings_path() -> str:
 
 def no_settings() -> FileSettings:
     """Return empty settings. Users without a settings file do not wait for these imports."""
-    from roam_live.config.command_table import BY_NAME
+    from roam_live.commands.table import BY_NAME
     from roam_live.config.loader import FileSettings
 
     return FileSettings(commands=BY_NAME)
@@ -54,7 +54,8 @@ def take(found: FileSettings, path: str) -> None:
 
 def refused(words: list[str]) -> str:
     """Return the reason that a command is impossible; nothing if it is possible."""
-    from roam_live.config.command_table import BadCommand, asked_by
+    from roam_live.commands.flags import BadCommand
+    from roam_live.commands.table import asked_by
 
     try:
         asked_by(words)

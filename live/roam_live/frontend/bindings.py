@@ -9,7 +9,8 @@ from roam_live.protocol.colours import COLOUR
 
 TYPE_CHECKING = False
 if TYPE_CHECKING:
-    from roam_live.config.command_table import CommandWish, NamedCommand
+    from roam_live.commands.table import Command
+    from roam_live.commands.wishes import CommandWish
     from roam_live.config.loader import Binding
 
     # The bindings of a settings file by table and key name; None for an unbound key.
@@ -78,7 +79,7 @@ def defaults() -> dict[str, CommandWish]:
 
 def default_wishes() -> dict[str, CommandWish]:
     """Return the same, looked up in the table."""
-    from roam_live.config.command_table import DEFAULT_KEYS, asked_by
+    from roam_live.commands.table import DEFAULT_KEYS, asked_by
     from roam_live.input.key_names import named, named_key, typed_name
 
     return {typed_name(named(key)): asked_by(words.split(" ")) for name, words in DEFAULT_KEYS.items() if (key := named_key(name))}
@@ -188,10 +189,10 @@ def told(binding: Binding | None) -> str:
 
 def default_lines(own: Own) -> list[str]:
     """Return a line for each command with default keys that the user has not rebound."""
-    from roam_live.config.command_table import BY_NAME, DEFAULT_KEYS
+    from roam_live.commands.table import BY_NAME, DEFAULT_KEYS
     from roam_live.input.key_names import named, named_key
 
-    found: dict[NamedCommand, list[tuple[str, str]]] = {}
+    found: dict[Command, list[tuple[str, str]]] = {}
     for key, words in DEFAULT_KEYS.items():
         known, (name, _, rest) = named_key(key), words.partition(" ")
         if known and ("prefix", named(known)) not in own:
@@ -199,7 +200,7 @@ def default_lines(own: Own) -> list[str]:
     return [command_line(command, keys) for command, keys in found.items()]
 
 
-def command_line(command: NamedCommand, keys: list[tuple[str, str]]) -> str:
+def command_line(command: Command, keys: list[tuple[str, str]]) -> str:
     """Return the line of a command: its keys with their arguments, its name, and its effect."""
     rests = ", ".join(rest for _, rest in keys if rest)
     does = command.help.partition(", with a command")[0]

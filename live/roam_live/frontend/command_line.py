@@ -4,11 +4,13 @@ from __future__ import annotations
 import os
 from collections import deque
 
+from roam_live.commands.flags import BadCommand
+from roam_live.commands.table import asked_by, completed
+from roam_live.commands.wishes import CommandWish
 from roam_live.common.errors import Fault, reason
 from roam_live.common.event_loop import Loop
 from roam_live.common.io import read
 from roam_live.common.text import printable
-from roam_live.config.command_table import BadCommand, CommandWish, asked_by, completed
 from roam_live.config.environment import BY_FILE, choose_by_file
 from roam_live.config.user_file import OWN
 from roam_live.frontend.bindings import OWN as KEY

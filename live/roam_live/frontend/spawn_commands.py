@@ -4,8 +4,8 @@ Few attached users need it, so it is imported on first use.
 """
 from __future__ import annotations
 
+from roam_live.commands.flags import BadCommand
 from roam_live.common.text import printable
-from roam_live.config.command_table import BadCommand
 from roam_live.frontend.window_acts import WindowActs
 from roam_live.frontend.zoom import Zooming
 from roam_live.protocol.paste_text import random_name
