@@ -16,6 +16,7 @@ TYPED = "reads what a person types"
 WRITES = "writes to the person's terminal, and reads nothing"
 PROGRAM = "reads what a pane's program writes, at the pty host"
 LINES = "reads lines of a socket of the session's folder"
+COMMANDS = "reads the words of a command that a person or a script wrote"
 NAMES = "reads names of sessions and hosts"
 SETTINGS = "reads what a person's settings file has stand in the last row"
 KEY_NAMES = "is what a key is typed as that is named, and reads nothing"
@@ -126,6 +127,13 @@ KNOWN = {
     ("roam_live/host/socket_server.py", "LEAVES", "re"): LINES,
     ("roam_live/relay/forwarding.py", "LED", "re"): LINES,
     ("roam_live/cli/targets.py", "WORD", "re"): NAMES,
+    **{("roam_live/cli/tmux/" + name, place, "re"): COMMANDS for name, place in (
+        ("numbers.py", "NUMBER"), ("options.py", "put_array"), ("panes.py", "acts_of_words"), ("panes.py", "row_word"))},
+    ("roam_live/cli/tmux/options.py", "show_environment", "re"): "quotes a value for a shell that the user asks for",
+    **{("roam_live/commands/formats.py", place, "re"): COMMANDS for place in ("matched", "number_of", "substituted", "substituted.put")},
+    ("roam_live/commands/formats.py", "HARMLESS", "re"): "takes from a value all that a shell may interpret",
+    **{("roam_live/commands/options.py", place, "re"): COMMANDS for place in (
+        "INDEXED", "NAMED_COLOURS", "number", "quoted", "size", "style")},
     ("roam_live/protocol/paste_text.py", "BRACKET_ENDS", "ESC"): BRACKETS,
     ("roam_live/protocol/paste_text.py", "", "ESC"): BRACKETS,
     ("roam_live/protocol/paste_text.py", "DROPPED", "re"): "reads a text that is pasted",

@@ -125,14 +125,15 @@ def row_number(word: str | None, snapshot: Snapshot, default: int, outermost: in
     return min(max(snapshot.end + int(word), snapshot.first), snapshot.end + len(snapshot.screen) - 1)
 
 
-def capture_rows(session: SessionFolder, pane: int, begin: str | None, end: str | None, has_styles: bool, is_joined: bool) -> int:
-    """Print rows of a pane, by default those of its screen, and return the status."""
+def capture_rows(session: SessionFolder, pane: int, begin: str | None, end: str | None, has_styles: bool, is_joined: bool,
+                 writes: Callable[[bytes], object] | None = None) -> int:
+    """Print rows of a pane, by default those of its screen, or hand them to a call, and return the status."""
     asked = RowsAsked(session)
     snapshot = asked.snapshot(pane)
     last = snapshot.end + len(snapshot.screen) - 1
     numbers = row_number(begin, snapshot, snapshot.end, snapshot.first), row_number(end, snapshot, last, last)
     row, last = min(numbers), max(numbers)
-    writer = RowWriter(sys.stdout.buffer.write, has_styles, is_joined)
+    writer = RowWriter(writes or sys.stdout.buffer.write, has_styles, is_joined)
     while row <= last:
         rows = asked.rows(snapshot, row, last + 1)
         if not rows:

@@ -1,4 +1,4 @@
-"""The table of commands: names, flags, kind of target, place, and effect of each, for keys, the settings file, `mux cmd` and `roam tmux`."""
+"""The table of commands: names, flags, kind of target, place and effect. Keys, the settings file, `mux cmd` and `roam tmux` read it."""
 from __future__ import annotations
 
 from roam_live.commands.flags import BadCommand, Flags
@@ -140,7 +140,7 @@ TABLE = (
     Command(("set-hook",), "agpRt:uw", (1, 2), "pane", ALL, "options.set_hook", "set a command for an event"),
     Command(("set-option", "set"), "aFgopqst:uUw", (1, 2), "pane", ALL, "options.set_option",
             "set an option at this terminal", "set in roam.conf", "agowqsu", texted("set")),
-    Command(("set-window-option", "setw"), "aFgoqt:u", (1, 2), "window", ALL, "options.set_option",
+    Command(("set-window-option", "setw"), "aFgoqt:u", (1, 2), "window", ALL, "options.set_window_option",
             "set an option at this terminal", "set in roam.conf", "agowqsu", texted("set")),
     Command(("show-buffer", "showb"), "b:", (0, 0), "", ALL, "buffers.show", "print a buffer", "mux buffer show NAME"),
     Command(("show-environment", "showenv"), "hgst:", (0, 1), "session", ALL, "options.show_environment",
@@ -149,7 +149,7 @@ TABLE = (
     Command(("show-messages", "showmsgs"), "JTt:", (0, 0), "client", FRONT, "", "print messages"),
     Command(("show-options", "show"), "AgHpqst:vw", (0, 1), "pane", ALL, "options.show_options", "print options"),
     Command(("show-prompt-history", "showphist"), "T:", (0, 0), "", FRONT, "", "print the typed commands"),
-    Command(("show-window-options", "showw"), "gvt:", (0, 1), "window", ALL, "options.show_options", "print options of a window"),
+    Command(("show-window-options", "showw"), "gvt:", (0, 1), "window", ALL, "options.show_window_options", "print options of a window"),
     Command(("source-file", "source"), "t:Fnqv", (1, -1), "pane", ALL, "shells.source",
             "read the settings file again", "C-b R", "q", texted("settings", is_needed=False)),
     Command(("split-window", "splitw"), "bc:de:fF:hIl:p:Pt:vZ", (0, -1), "pane", SESSION, "panes.split",

@@ -14,7 +14,7 @@ if TYPE_CHECKING:
 
 # The variables that roam reads: the user's, and those that its tools pass to each other. Every variable has to be listed here.
 VARIABLES = ("ROAM_CLIPBOARD", "ROAM_HISTORY", "ROAM_MOUSE", "ROAM_PREDICT", "ROAM_PREFIX", "ROAM_UDP", "ROAM_WHY")
-INTERNAL_VARIABLES = ("ROAM_CALLED", "ROAM_HOLDER", "ROAM_PANE", "ROAM_PUMP", "ROAM_SPARE")
+INTERNAL_VARIABLES = ("ROAM_CALLED", "ROAM_FIRST", "ROAM_HOLDER", "ROAM_PANE", "ROAM_PUMP", "ROAM_SPARE")
 
 # The keys that may be the prefix, by name, and the default.
 PREFIXES = {f"C-{letter}": chr(ord(letter) & 31) for letter in "abcdefghijklmnopqrstuvwxyz]\\^_"}

@@ -24,7 +24,7 @@ from roam_live.host.state import WindowState
 from roam_live.host.upgrade import HostUpgrade
 from roam_live.host.window import WindowHost
 from roam_live.host.window_commands import WindowLines
-from roam_live.protocol.spawn_request import unpacked
+from roam_live.protocol.spawn_request import of_first_window, unpacked
 from roam_live.protocol.window_lines import ACTIVITY, BELL, GONE, MOST_WINDOWS, RUNS
 from roam_live.session.foreground import working_folder
 from roam_live.session.names import numbers_in, windows_folder
@@ -77,8 +77,10 @@ class Windows:
         common.see_to(self.make_last)
         self.lines = common.socket.lines = WindowLines(self, common.socket)
         self.upgrade = HostUpgrade(self)
+        # No pane may inherit them, also those of a later host.
+        begins = of_first_window()
         if asked.is_first:
-            self.await_first()
+            self.await_first(begins)
         else:
             self.take_over()
 
@@ -241,10 +243,11 @@ class Windows:
         for pane in window.panes.values():
             drop_left(self.common.link, pane.id)
 
-    def await_first(self) -> None:
-        """Wait for the first window, whose server another process is about to spawn."""
+    def await_first(self, begins: Begins | None) -> None:
+        """Wait for the first window, whose server another process is about to spawn, with start options for its first pane."""
         window = self.add(WindowProcesses(self.asked.common, WindowState(number=1)), self.first)
         window.has_client, window.is_given = False, True
+        window.begins, window.begins_in = begins, begins.folder if begins else ""
         self.await_(window, OPENS)
 
     def taken(self, number: int, why: str) -> None:

@@ -17,6 +17,9 @@ WAITS = 2.0
 # The reports about a request, after its name: it waits, it is refused, it has begun, or no pane came in time.
 READY, REFUSED, DONE, LATE = "ready", "refused", "done", "late"
 
+# The variable of a new pty host with the start options of its first window, in hexadecimal.
+FIRST = "ROAM_FIRST"
+
 TOO_LONG = f"a command has at most {MOST_BYTES} bytes"
 
 
@@ -38,6 +41,14 @@ class Begins(NamedFields):
     def command(self) -> list[str]:
         """Return the command, as in tmux: a single word is a shell command; nothing for the default."""
         return [os.environ.get("SHELL") or "/bin/sh", "-c", *self.words] if len(self.words) == 1 else list(self.words)
+
+
+def of_first_window() -> Begins | None:
+    """Take the start options of a session's first window from the environment, so that no pane inherits them; None without valid ones."""
+    try:
+        return unpacked(bytes.fromhex(os.environ.pop(FIRST, "")))
+    except ValueError:
+        return None
 
 
 def unpacked(data: bytes) -> Begins | None:

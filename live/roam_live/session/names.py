@@ -109,6 +109,9 @@ WINDOWS_VERSION = 4
 # The file with the state of a pty host, which another one reads.
 HOST_STATE = "host.json"
 
+# The folder beside the sessions with the name spaces of `roam tmux`, and the file with the state of each.
+NAME_SPACES, SPACE_STATE = ".tmux", "state.json"
+
 # The folder of window folders in a session's folder, and the numbers that name them.
 WINDOWS = "w"
 HIGHEST_NUMBER = 99

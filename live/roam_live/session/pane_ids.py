@@ -1,5 +1,5 @@
-"""The ids of panes: a pane of any session of this user has its own, and gets it once. A counter in the folder of the sessions has the last
-one.
+"""The ids of panes, and those of windows and sessions for `roam tmux`: each of this user has its own, and gets it once. A counter in the
+folder of the sessions has the last one.
 """
 from __future__ import annotations
 
@@ -10,13 +10,13 @@ from roam_live.common.files import locked_soon
 from roam_live.common.patterns import LazyPattern
 from roam_live.common.suppress import suppress
 from roam_live.common.text import decimal_in
-from roam_live.session.names import HOST_STATE, base
+from roam_live.session.names import HOST_STATE, NAME_SPACES, SPACE_STATE, base
 
 # The file with the last id, whose name is no session's, and its most characters.
 COUNTER = "last.pane"
 LONGEST, MOST_ID = 20, 1 << 53
 
-# An id in the state of a host, as JSON writes it.
+# An id in the state of a host or of a name space, as JSON writes it.
 ID = LazyPattern(rb'"id": (\d{1,16})')
 
 # Seconds to wait for other hosts at the counter.
@@ -26,10 +26,13 @@ WAITS = 5.0
 MOST_SEARCHED = 1 << 24
 
 
-def new_id(above: int) -> int:
-    """Return an id above all that are in use, of which the caller knows some. Without the counter those are unknown."""
+def new_id(above: int, folder: str = "") -> int:
+    """Return an id above all that are in use, of which the caller knows some. Without the counter those are unknown.
+
+    The counter is in the folder of the sessions, unless the caller names another.
+    """
     with suppress(Fault, OSError):
-        return counted(str(base()), above)
+        return counted(folder or str(base()), above)
     return above + 1
 
 
@@ -49,9 +52,12 @@ def counted(folder: str, above: int) -> int:
 
 
 def largest_in(folder: str) -> int:
-    """Return the largest id in the states of the sessions in a folder; -1 if there is none."""
-    found = [-1]
-    for name in os.listdir(folder):
-        with suppress(OSError), open(os.path.join(folder, name, HOST_STATE), "rb") as file:
+    """Return the largest id in the states of the sessions in a folder, and of the name spaces beside them; -1 if there is none."""
+    found, spaces = [-1], os.path.join(folder, NAME_SPACES)
+    names = [os.path.join(NAME_SPACES, name) for name in (os.listdir(spaces) if os.path.isdir(spaces) else ())]
+    states = [os.path.join(name, SPACE_STATE) for name in names]
+    states += [os.path.join(place, name, HOST_STATE) for place in ("", *names) for name in os.listdir(os.path.join(folder, place))]
+    for state in states:
+        with suppress(OSError), open(os.path.join(folder, state), "rb") as file:
             found += map(int, ID.findall(file.read(MOST_SEARCHED)))
     return max(found)
