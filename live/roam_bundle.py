@@ -39,11 +39,14 @@ PACKAGE = "roam_live"
 
 # For each bundle, the bundles that are loaded before it, and its root modules. It has the roots and all modules that they import at once,
 # except those of the bundles before. `mux` is for all commands on a session, `all_sessions` for `ls`, and `asking` for commands that query
-# a session. `first_painting` and `front_end` are for a front end, `late` for its imports on first use, and `host` for a pty host.
+# a session. `tmux` is for tmux's command line, `first_painting` and `front_end` are for a front end, `late` for its imports on first use,
+# and `host` for a pty host.
 ROOTS = {
     "mux": ((), (f"{PACKAGE}.cli.mux", f"{PACKAGE}.cli.attaching")),
     "all_sessions": (("mux",), (f"{PACKAGE}.cli.all_sessions", f"{PACKAGE}.session.survey")),
     "asking": (("mux",), (f"{PACKAGE}.cli.asking", f"{PACKAGE}.cli.send", f"{PACKAGE}.cli.capture")),
+    "tmux": (("mux",), tuple(f"{PACKAGE}.cli.tmux.{name}" for name in (
+        "tool", "sessions", "windows", "panes", "shows", "options", "buffers", "shells"))),
     "first_painting": (("mux",), (f"{PACKAGE}.frontend.follow",)),
     "front_end": (("mux", "first_painting"), (f"{PACKAGE}.frontend.app",)),
     "late": (("mux", "first_painting", "front_end"), tuple(f"{PACKAGE}.{name}" for name in (

@@ -4,8 +4,6 @@ from __future__ import annotations
 import os
 import sys
 
-import roam_bundle
-
 from roam_live.cli.tmux.model import Model, PaneView, SessionView, WindowView
 from roam_live.cli.tmux.variables import Variables
 from roam_live.commands.flags import BadCommand
@@ -175,6 +173,5 @@ class Context:
     def effect(self, command: Command) -> Effect:
         """Return the function of a command."""
         module, _, name = command.effect.partition(".")
-        roam_bundle.load(f"tmux_{module}")
         found: Effect = getattr(__import__(f"roam_live.cli.tmux.{module}", fromlist=(name,)), name)
         return found

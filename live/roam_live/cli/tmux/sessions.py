@@ -42,7 +42,7 @@ def new(context: Context, flags: Flags) -> int:
     name = session_name(context.expand(given, here)) if given is not None else ""
     same = next((one for one in model.sessions if one.name == name), None)
     if same and flags.has("A"):
-        return 0 if flags.has("d") else attach_to(context, Found(same), flags.has("D"))
+        return attach_to(context, Found(same), flags.has("D"))
     if same:
         raise BadCommand(f"duplicate session: {name}")
     if flags.has("t"):
