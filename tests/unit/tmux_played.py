@@ -60,6 +60,11 @@ class PlayedContext(Context):
     def change(self, does):
         """Change the state of the model, and store nothing."""
         does(self.known.state)
+        for session in self.known.sessions:
+            session.name = session.note["name"]
+            for window in session.found:
+                window.index = window.note["index"]
+            session.found.sort(key=lambda window: window.index)
 
     def printed(self):
         """Return the lines that were printed since the last call."""

@@ -127,9 +127,10 @@ class NameSpace:
                 os.mkdir(folder, 0o700)
             if not is_own_folder(folder):
                 raise Fault(f"{folder} belongs to another user")
-        if not self.is_default:
+        name = os.path.join(self.folder, "socket")
+        if not self.is_default and not os.path.exists(name):
             # Programs in its panes find it by this.
-            replace_text(os.path.join(self.folder, "socket"), self.path)
+            replace_text(name, self.path)
 
     # ---- state
 

@@ -5,8 +5,11 @@ import os
 import re
 
 from roam_live.cli.tmux.context import Context
+from roam_live.cli.tmux.shells import words_in
 from roam_live.commands.flags import BadCommand
-from roam_live.commands.options import DEFAULTS, KINDS, PANE, SERVER, SESSION, WINDOW, checked, in_order, is_array, line_of, option_named
+from roam_live.commands.options import (DEFAULTS, KINDS, PANE, SERVER, SESSION, WINDOW, checked, in_order, is_array, line_of,
+                                        option_named, quoted)
+from roam_live.commands.table import command_named
 from roam_live.commands.targets import Found
 
 TYPE_CHECKING = False
@@ -83,10 +86,13 @@ def pane_scope(context: Context, flags: Flags) -> Scope:
 
 def wanted(context: Context, flags: Flags, kind: str, what: str) -> Found:
     """Return the target of a command on options; BadCommand in tmux's words if there is none."""
+    name = flags.value("t")
     try:
-        return context.find(flags.value("t"), "pane" if kind == "session" else kind)
+        if kind == "session" and name and ":" in name:
+            # As in tmux, the window of the target need not be there.
+            return context.find(name.partition(":")[0], "session")
+        return context.find(name, "pane" if kind == "session" else kind)
     except BadCommand:
-        name = flags.value("t")
         raise BadCommand(f"no such {what}: {name}" if name else f"no current {what}") from None
 
 
@@ -319,9 +325,15 @@ def set_hook(context: Context, flags: Flags) -> int:
     return 0
 
 
+def told(text: str) -> str:
+    """Return commands as tmux prints them: with their full names, and with quotes where they need them."""
+    found = [[command_named(name).names[0], *map(quoted, words)] for name, *words in words_in(text)]
+    return " ; ".join(" ".join(words) for words in found)
+
+
 def show_hooks(context: Context, flags: Flags) -> int:
     """Print the stored hooks."""
     for name, commands in sorted(hooks_of(context, flags)(context.model().state).items()):
         for number, command in enumerate(commands):
-            context.write(f"{name}[{number}] {command}")
+            context.write(f"{name}[{number}] {told(command)}")
     return 0

@@ -55,7 +55,7 @@ def last_line(command: str) -> str:
 
 
 def run_shell(context: Context, flags: Flags) -> int:
-    """Run a shell command and print its output, or start it in the background. With -C, run commands of tmux."""
+    """Run a shell command, or start it in the background, without its output. With -C, run commands of tmux."""
     delay = flags.value("d")
     if delay is not None:
         try:
@@ -74,13 +74,9 @@ def run_shell(context: Context, flags: Flags) -> int:
         subprocess.Popen(shell_words(command), stdin=subprocess.DEVNULL, stdout=subprocess.DEVNULL, stderr=subprocess.DEVNULL,
                          start_new_session=True)
         return 0
-    ran = subprocess.run(shell_words(command), stdin=subprocess.DEVNULL, stdout=subprocess.PIPE, stderr=subprocess.STDOUT, check=False)
-    context.writes(ran.stdout + (b"" if not ran.stdout or ran.stdout.endswith(b"\n") else b"\n"))
+    # tmux shows the output in the pane, in a mode that roam lacks, and prints nothing.
+    ran = subprocess.run(shell_words(command), stdin=subprocess.DEVNULL, stdout=subprocess.DEVNULL, stderr=subprocess.DEVNULL, check=False)
     context.changed()
-    if ran.returncode < 0:
-        context.write(f"'{command}' terminated by signal {-ran.returncode}")
-    elif ran.returncode and not ran.stdout:
-        pass
     status = ran.returncode if ran.returncode >= 0 else 128 - ran.returncode
     if status:
         raise Failed(status)
