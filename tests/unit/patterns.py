@@ -105,7 +105,7 @@ KNOWN = {
     ("roam_live/cli/ssh.py", "near_session", "re"): NAMES,
     ("roam_live/cli/send.py", "demand_acts", "re"): WORDS,
     ("roam_live/session/names.py", "NEAR_NAME", "re"): NAMES,
-    **{("roam_live/config/formats.py", name, "re"): SETTINGS for name in ("HEXADECIMAL", "NUMBERED", "CHUNK", "restyled")},
+    **{("roam_live/config/formats.py", name, "re"): SETTINGS for name in ("HEXADECIMAL", "NUMBERED", "STYLE", "restyled")},
     ("roam_live/config/parser.py", "ESCAPES", "ESC"): "is what an escape of a person's settings file stands for, and reads nothing",
     ("roam_live/common/tty.py", "CLEARED", "ESC"): WRITES,
     ("roam_live/common/tty.py", "ENTERED", "ESC"): WRITES,
@@ -130,7 +130,9 @@ KNOWN = {
     **{("roam_live/cli/tmux/" + name, place, "re"): COMMANDS for name, place in (
         ("numbers.py", "NUMBER"), ("options.py", "put_array"), ("panes.py", "acts_of_words"), ("panes.py", "row_word"))},
     ("roam_live/cli/tmux/options.py", "show_environment", "re"): "quotes a value for a shell that the user asks for",
-    **{("roam_live/commands/formats.py", place, "re"): COMMANDS for place in ("matched", "number_of", "substituted", "substituted.put")},
+    **{("roam_live/commands/format_modifiers.py", place, "re"): COMMANDS for place in (
+        "matched", "number_of", "substituted", "substituted.put")},
+    **{("roam_live/commands/formats.py", place, "re"): SETTINGS for place in ("COMMAND", "TIME")},
     ("roam_live/commands/formats.py", "HARMLESS", "re"): "takes from a value all that a shell may interpret",
     **{("roam_live/commands/options.py", place, "re"): COMMANDS for place in (
         "INDEXED", "NAMED_COLOURS", "number", "quoted", "size", "style")},

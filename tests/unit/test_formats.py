@@ -21,7 +21,7 @@ SAYS = {
 
 # A format, its output, and its unknown parts.
 WRONG = {
-    "#(date) #S": (" main", ["#(date)"]), "#{?window_zoomed_flag,Z,}x": ("x", ["#{?window_zoomed_flag,Z,}"]), "#Zx": ("x", ["#Z"]),
+    "#(date) #S": (" main", ["#(date)"]), "#{?window_zoomed_flag,Z,}x": ("x", ["#{?window_zoomed_flag,Z,}"]), "#Zx": ("#Zx", ["#Z"]),
     "#[fg=nosuch]x": ("x", ["#[fg=nosuch]"]), "#{}": ("", ["#{}"]), "#(a\\)b)c": ("c", ["#(a\\)b)"]), "#(open": ("", ["#(open"]),
 }
 

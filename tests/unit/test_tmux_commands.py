@@ -200,6 +200,8 @@ class Spaces(Case):
 
     def test_changes(self):
         """Changes of several calls at once are all there."""
+        self.space.make()
+
         def add(name):
             for number in range(20):
                 with self.space.changing() as state:

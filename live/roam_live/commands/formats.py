@@ -5,12 +5,12 @@ may interpret becomes `_`. Where it is expanded again, or drawn, its `#` begins 
 """
 from __future__ import annotations
 
-import fnmatch
 import operator
 import os
 import re
 import time
 
+from roam_live.commands.format_modifiers import LONGEST, limited, matched, number_of, padded, substituted, told_time
 from roam_live.common.cell_widths import width_of
 from roam_live.common.named_fields import NamedFields
 from roam_live.common.suppress import suppress
@@ -22,8 +22,8 @@ if TYPE_CHECKING:
 # Stands for `#` of a value, until the text is complete. No value contains it.
 LITERAL = "\ufdd0"
 
-# The deepest nesting of formats, and the most characters of a result.
-DEEPEST, LONGEST = 100, 1 << 16
+# The deepest nesting of formats.
+DEEPEST = 100
 
 # The variables of single letters.
 LETTERS = {"D": "pane_id", "F": "window_flags", "H": "host", "I": "window_index", "P": "pane_index", "S": "session_name", "T": "pane_title",
@@ -32,13 +32,12 @@ LETTERS = {"D": "pane_id", "F": "window_flags", "H": "host", "I": "window_index"
 # The modifiers without an argument, those of two characters, and those with arguments.
 BARE, DOUBLE, ARGUED = "labcdnwETSWPL<>", ("||", "&&", "!=", "==", "<=", ">="), "mCNst=peq"
 
+# A conversion of strftime.
+TIME = re.compile(r"%[EO]?[A-Za-z%]")
+
 # The characters that tmux escapes for a shell, and those of a value that a shell cannot interpret.
 QUOTED = frozenset("|&;<>()$`\\\"'*?[# =%")
 HARMLESS = re.compile(r"[^A-Za-z0-9 _./:@%+=,-]")
-
-# Seconds of a day, of the days for which a time has its weekday, and of a year.
-DAY, MONTH, YEAR = 86400, 28 * 86400, 365 * 86400
-
 
 class Modifier(NamedFields):
     """A modifier of a variable: its characters, and its arguments."""
@@ -86,12 +85,14 @@ def harmless(text: str) -> str:
 
 def expanded(text: str, scope: Scope, has_time: bool = False, is_shell: bool = False) -> str:
     """Return a format with its values. `is_shell` is for a text that a shell runs, or that is stored and may be run later."""
-    return with_marks(text, scope, has_time, is_shell).replace(LITERAL, "#")
+    return Expansion(scope, is_shell).text(text, has_time).replace(LITERAL, "#")
 
 
-def with_marks(text: str, scope: Scope, has_time: bool = False, is_shell: bool = False) -> str:
-    """Return a format with its values, in which LITERAL stands for their `#`, so that styles are only those of the user's text."""
-    return Expansion(scope, has_time, is_shell).text(text, has_time)[:LONGEST]
+def with_marks(text: str, scope: Scope, moment: time.struct_time | None = None) -> str:
+    """Return a format with its values and a time, in which LITERAL stands for the `#` of values, so that styles are only those of the user's
+    text.
+    """
+    return Expansion(scope, False, moment).text(text, moment is not None)
 
 
 def is_true(text: str) -> bool:
@@ -136,15 +137,16 @@ def end_of(text: str, at: int, ends: str) -> int:
 class Expansion:
     """The expansion of one format, with the formats in it."""
 
-    def __init__(self, scope: Scope, has_time: bool, is_shell: bool, depth: int = 0) -> None:
-        self.scope, self.has_time, self.is_shell, self.depth = scope, has_time, is_shell, depth
+    def __init__(self, scope: Scope, is_shell: bool, moment: time.struct_time | None = None, depth: int = 0) -> None:
+        self.scope, self.is_shell, self.moment, self.depth = scope, is_shell, moment, depth
 
     def text(self, text: str, has_time: bool = False) -> str:
         """Return a format with its values. With `has_time`, conversions such as %H are those of strftime."""
         if self.depth >= DEEPEST:
             return ""
         if has_time and "%" in text:
-            text = time.strftime(text.replace(LITERAL, ""))
+            moment = self.moment or time.localtime()
+            text = TIME.sub(lambda found: time.strftime(found[0], moment), text)
         self.depth += 1
         found: list[str] = []
         with suppress(Incomplete):
@@ -181,9 +183,12 @@ class Expansion:
         """Append the output of a shell command up to its parenthesis, and return the place behind it."""
         depth, begin = 1, at
         while at < len(text):
+            if text[at] == "\\":
+                at += 2
+                continue
             depth += (text[at] == "(") - (text[at] == ")")
             if not depth:
-                inner = Expansion(self.scope, False, True, self.depth + 1).text(text[begin:at])
+                inner = Expansion(self.scope, True, self.moment, self.depth + 1).text(text[begin:at])
                 output = self.scope.ran(inner.replace(LITERAL, "#"))
                 found.append(self.chosen(output))
                 return at + 1
@@ -313,7 +318,7 @@ class Expansion:
         """Return a format for each session, window, pane or terminal; a second one is for the active window or pane."""
         comma = skip(copy, 0, ",") if kind in "WP" else -1
         every, active = (copy, copy) if comma < 0 else (copy[:comma], copy[comma + 1 :])
-        found = [Expansion(scope, self.has_time, self.is_shell, self.depth).text(active if is_active else every)
+        found = [Expansion(scope, self.is_shell, self.moment, self.depth).text(active if is_active else every)
                  for scope, is_active in self.scope.parts(kind)]
         return "".join(found)
 
@@ -361,65 +366,33 @@ class Expansion:
         return f"{float(result):.{min(max(digits, 0), 100)}f}" if is_real else f"{int(result):.{min(max(digits, 0), 100)}f}"
 
 
-def number_of(words: list[str]) -> int:
-    """Return the number in the first argument of a modifier; 0 if it is none."""
-    word = words[0] if words else ""
-    return int(word) if re.fullmatch(r"-?[0-9]{1,9}", word) else 0
+# ---- what a format has
 
 
-def substituted(value: str, pattern: str, other: str, flags: list[str]) -> str:
-    """Return a value with each match of an extended regular expression replaced; unchanged if that is invalid."""
-    def put(found: re.Match[str]) -> str:
-        return re.sub(r"\\(.)", lambda part: (found[int(part[1])] or "" if int(part[1]) <= (found.re.groups) else "")
-                      if part[1].isdigit() else part[1], other, flags=re.DOTALL)
-
-    try:
-        return re.sub(pattern, put, value, flags=re.IGNORECASE if flags and "i" in flags[0] else 0)
-    except re.error:
-        return value
+COMMAND = re.compile(r"#\((?:[^()\\]|\\.)*\)?", re.DOTALL)
 
 
-def matched(pattern: str, text: str, flags: str) -> bool:
-    """Return True if a text matches a pattern: of a shell, or with the flag r an extended regular expression."""
-    how = re.IGNORECASE if "i" in flags else 0
-    try:
-        if "r" in flags:
-            return re.search(pattern, text, how) is not None
-        return re.match(fnmatch.translate(pattern), text, how) is not None
-    except re.error:
-        return False
+def chunks(text: str) -> Iterable[str]:
+    """Yield the parts of a format that begin with `#`, and nothing of what is between them. The last one may be incomplete."""
+    at = text.find("#")
+    while 0 <= at < len(text) - 1:
+        letter = text[at + 1]
+        command = COMMAND.match(text, at)
+        end = command.end() - 1 if command else skip(text, at, "}") if letter == "{" else text.find("]", at) if letter == "[" else at + 1
+        yield text[at:] if end < 0 else text[at : end + 1]
+        at = text.find("#", end + 1) if end >= 0 else -1
 
 
-def limited(value: str, words: list[str]) -> str:
-    """Return the first or last columns of a value, with a marker where it was cut."""
-    limit, marker = number_of(words), words[1] if len(words) > 1 else ""
-    if not limit:
-        return value
-    letters = value if limit > 0 else value[::-1]
-    used, count = 0, 0
-    for letter in letters:
-        used += width_of(letter)
-        if used > abs(limit):
-            break
-        count += 1
-    cut = value[:count] if limit > 0 else value[len(value) - count :]
-    return cut if cut == value else f"{cut}{marker}" if limit > 0 else f"{marker}{cut}"
-
-
-def padded(value: str, width: int) -> str:
-    """Return a value with blanks behind it, or before it if the width is negative."""
-    blanks = " " * max(min(abs(width), LONGEST) - sum(map(width_of, value)), 0)
-    return f"{value}{blanks}" if width > 0 else f"{blanks}{value}"
-
-
-def told_time(value: str, words: list[str]) -> str | None:
-    """Return a time in words; None if the value is none."""
-    if not (value.isascii() and value.isdigit() and 0 < int(value[:18]) < 1 << 40):
-        return None
-    moment, then, now = int(value), time.localtime(int(value)), time.time()
-    if not words:
-        return time.strftime("%a %b %e %H:%M:%S %Y", then)
-    if "p" in words[0]:
-        age = now - moment
-        return time.strftime("%H:%M" if age < DAY else "%a%d" if age < MONTH else "%d%b" if age < YEAR else "%h%y", then)
-    return time.strftime(words[1], then) if len(words) > 1 and "f" in words[0] else time.strftime("%a %b %e %H:%M:%S %Y", then)
+def names_in(chunk: str) -> list[str]:
+    """Return the variables in a chunk of a format: those of its conditions, comparisons and loops too."""
+    if chunk[1:2] != "{":
+        return [LETTERS.get(chunk[1:2], chunk)] if chunk[1:2].isalpha() else []
+    modifiers, copy = Expansion(Scope(), False).modifiers(chunk[2:-1])
+    kinds = {one.name for one in modifiers}
+    if kinds & {"l", "N", "C", "a"}:
+        return []
+    if not copy.startswith("?") and not kinds & {*DOUBLE, "m", "<", ">", "e", *"SWPL"} and "#{" not in copy:
+        return [copy]
+    comma = skip(copy, 0, ",")
+    own = [copy[1:comma]] if copy.startswith("?") and comma > 0 and "#" not in copy[:comma] else []
+    return own + [name for inner in chunks(copy) for name in names_in(inner)]

@@ -4,6 +4,7 @@ from __future__ import annotations
 import re
 import time
 
+from roam_live.commands.formats import LETTERS, LITERAL, TIME, Scope, chunks, names_in, with_marks
 from roam_live.common.named_fields import NamedFields
 from roam_live.common.text import printable
 from roam_live.config.styled_text import ROW_STYLE, Styled
@@ -14,14 +15,12 @@ SIDES = ("left", "right")
 MOST_FORMAT = 1024
 MOST_VALUE = 200
 
-# The meaning of each letter after `#`, and the long names in `#{..}`.
-VALUES = {"S": "session", "W": "window", "I": "index", "F": "flags", "P": "pane", "T": "title", "H": "host", "h": "short_host"}
-LONG = {"session_name": "session", "window_name": "window", "window_index": "index", "window_flags": "flags", "pane_index": "pane",
-        "pane_title": "title", "host": "host", "host_short": "short_host"}
+# The variables of tmux that a front end knows, by its own words for them.
+VALUES = {"session_name": "session", "window_name": "window", "window_index": "index", "window_flags": "flags", "pane_index": "pane",
+          "pane_title": "title", "host": "host", "host_short": "short_host"}
 
-# A chunk of a format: a letter, a long name, a style, a command, a time, or a character.
-CHUNK = re.compile(r"#(?:(?P<letter>[A-Za-z])|\{(?P<long>[^{}]*)\}|\[(?P<style>[^\]]*)\]|\((?P<command>(?:[^()\\]|\\.)*)\)?|(?P<hash>#))"
-                   r"|%(?P<time>[EO]?[A-Za-z%])|(?P<text>.)", re.DOTALL)
+# A style in an expanded format.
+STYLE = re.compile(r"#\[([^\]]*)\]")
 
 # The strftime letters that change each second or each minute. Other texts change with a quarter of an hour, at which days begin in every
 # time zone.
@@ -34,14 +33,24 @@ OFF = {**{name: "" for name in ATTRIBUTES}, "reverse": "27"}
 HEXADECIMAL = re.compile(r"#([0-9a-fA-F]{2})([0-9a-fA-F]{2})([0-9a-fA-F]{2})")
 NUMBERED = re.compile(r"colou?r([0-9]{1,3})")
 
-class Format(NamedFields):
-    """A parsed format: its parts, as a kind and a word each, its unknown parts, and the seconds between changes of its clock, 0 without
-    one.
-    """
 
-    chunks: tuple[tuple[str, str], ...]
+class Format(NamedFields):
+    """A format: its text, its unknown parts, and the seconds between changes of its clock, 0 without one."""
+
+    text: str
     wrong: tuple[str, ...]
     step: int
+
+
+class RowValues(Scope):
+    """The values of a front end for the formats of its row. It runs no commands."""
+
+    def __init__(self, values: dict[str, str]) -> None:
+        self.values = values
+
+    def variable(self, name: str) -> str | None:
+        """Return the value of a variable; None if there is none."""
+        return printable(self.values.get(VALUES[name], "")[:MOST_VALUE]) if name in VALUES else None
 
 
 def colour_numbers(word: str, is_behind: bool) -> str | None:
@@ -74,33 +83,23 @@ def restyled(style: dict[str, str], words: str) -> dict[str, str] | None:
     return style
 
 
+def is_known(chunk: str) -> bool:
+    """Return True if roam knows a part of a format: its variables, its style, or an escape. A front end runs no commands for its row."""
+    kind = chunk[1:2]
+    if kind == "[":
+        return restyled({}, chunk[2:-1]) is not None
+    if kind == "{":
+        return chunk.endswith("}") and all(name in VALUES for name in names_in(chunk))
+    return LETTERS.get(kind) in VALUES if kind.isalpha() else kind != "("
+
+
 def read_format(text: str) -> Format:
-    """Return a parsed format, with its invalid parts, which produce no text."""
-    chunks: list[tuple[str, str]] = []
-    wrong: list[str] = []
-    step = 0
-    for chunk in CHUNK.finditer(text[:MOST_FORMAT]):
-        kind, word = str(chunk.lastgroup), chunk[str(chunk.lastgroup)]
-        if kind == "letter":
-            kind, word = "value", VALUES.get(word, "")
-        elif kind == "long":
-            kind, word = "value", LONG.get(word, "")
-        elif kind == "style":
-            word = word if restyled({}, word) is not None else ""
-        elif kind == "command":
-            word = ""
-        elif kind == "hash":
-            kind = "text"
-        elif kind == "time":
-            step = min(step or QUARTER, 1 if word[-1] in SECONDS else MINUTE if word[-1] in MINUTES else QUARTER)
-            word = f"%{word}"
-        if word:
-            chunks.append((kind, word))
-        else:
-            wrong.append(chunk[0])
-    if len(text) > MOST_FORMAT:
-        wrong.append(f"the text behind {MOST_FORMAT} characters")
-    return Format(tuple(chunks), tuple(wrong), step)
+    """Return a format, with its unknown parts, which produce no text."""
+    text, more = text[:MOST_FORMAT], text[MOST_FORMAT:]
+    wrong = [chunk for chunk in chunks(text) if not is_known(chunk)]
+    steps = [1 if word[-1] in SECONDS else MINUTE if word[-1] in MINUTES else QUARTER for word in TIME.findall(text)]
+    wrong += [f"the text behind {MOST_FORMAT} characters"] if more else []
+    return Format(text, tuple(wrong), min(steps, default=0))
 
 
 def unread(option: str, text: str) -> list[str]:
@@ -112,17 +111,17 @@ def filled(read: Format, values: dict[str, str], now: float) -> list[Styled]:
     """Return the output of a format for these values at a moment since the epoch: printable texts, each with a style."""
     shown: list[Styled] = []
     style: dict[str, str] = {}
-    moment = time.localtime(now)
-    for kind, word in read.chunks:
-        if kind == "style":
-            style = restyled(style, word) or {}
+    parts = STYLE.split(with_marks(read.text, RowValues(values), time.localtime(now)))
+    for place, part in enumerate(parts):
+        if place % 2:
+            new = restyled(style, part)
+            style = style if new is None else new
             continue
-        text = values.get(word, "")[:MOST_VALUE] if kind == "value" else time.strftime(word, moment) if kind == "time" else word
-        numbers = ";".join(filter(None, (ROW_STYLE, *style.values())))
-        if shown and shown[-1].style == numbers:
-            shown[-1] = Styled(numbers, shown[-1].text + printable(text))
+        text, numbers = printable(part.replace(LITERAL, "#")), ";".join(filter(None, (ROW_STYLE, *style.values())))
+        if text and shown and shown[-1].style == numbers:
+            shown[-1] = Styled(numbers, shown[-1].text + text)
         elif text:
-            shown.append(Styled(numbers, printable(text)))
+            shown.append(Styled(numbers, text))
     return shown
 
 

@@ -71,7 +71,7 @@ if TYPE_CHECKING:
         size: int
         is_automatic: bool
 
-    class SpaceState(TypedDict):
+    class SpaceState(TypedDict, total=False):
         """The state of a name space. A variable without a value is removed from the environment."""
 
         sessions: dict[str, SessionNote]
@@ -136,14 +136,11 @@ class NameSpace:
 
     def state(self) -> SpaceState:
         """Return its state, a new one if there is none."""
-        new: SpaceState = {"sessions": {}, "server": {}, "session_options": {}, "window_options": {}, "environment": {}, "hidden": [],
-                           "buffers": {}, "next_buffer": 0, "hooks": {}}
+        found: SpaceState = new_state()
         with suppress(OSError, ValueError, RecursionError):
             with open(os.path.join(self.folder, SPACE_STATE), encoding="utf-8") as file:
-                found = read_json(file.read(MOST_STATE))
-            if isinstance(found, dict):
-                new.update(found)
-        return new
+                found = filled(read_json(file.read(MOST_STATE)))
+        return found
 
     def changing(self) -> Change:
         """Return a `with` that locks the state, gives it, and stores it at the end."""
@@ -193,6 +190,21 @@ class NameSpace:
         """Yield the names of the folders that may be sessions."""
         if os.path.isdir(self.sessions):
             yield from sorted(os.listdir(self.sessions))
+
+
+def new_state() -> SpaceState:
+    """Return the state of a name space without sessions."""
+    return {"sessions": {}, "server": {}, "session_options": {}, "window_options": {}, "environment": {}, "hidden": [], "buffers": {},
+            "next_buffer": 0, "hooks": {}}
+
+
+def filled(found: SpaceState) -> SpaceState:
+    """Return a state that was read, with the parts that it lacks; ValueError if it is none."""
+    if not isinstance(found, dict) or not isinstance(found.get("sessions"), dict):
+        raise ValueError("no state of a name space")
+    state = new_state()
+    state.update(found)
+    return state
 
 
 class Change:

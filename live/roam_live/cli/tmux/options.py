@@ -6,6 +6,7 @@ import re
 
 from roam_live.cli.tmux.context import Context
 from roam_live.cli.tmux.shells import words_in
+from roam_live.cli.tmux.windows import default_size, demand_size
 from roam_live.commands.flags import BadCommand
 from roam_live.commands.options import (DEFAULTS, KINDS, PANE, SERVER, SESSION, WINDOW, checked, in_order, is_array, line_of,
                                         option_named, quoted)
@@ -15,6 +16,7 @@ from roam_live.commands.targets import Found
 TYPE_CHECKING = False
 if TYPE_CHECKING:
     from collections.abc import Callable
+    from roam_live.cli.tmux.model import SessionView
     from roam_live.cli.tmux.name_space import SessionNote, SpaceState
     from roam_live.commands.flags import Flags
 
@@ -142,6 +144,18 @@ def changed(context: Context, flags: Flags) -> None:
         value = f"{own.get(name, '')}{comma}{value}"
     found = checked(name, value, {"1": "on", "0": "off"}.get(before, before))
     context.change(lambda state: scope.finds(state).update({name: found}))
+    if name == "default-size":
+        resize_windows(context, context.model().sessions if flags.has("g") else [context.of_session(target_of(context, flags))])
+
+
+def resize_windows(context: Context, sessions: list[SessionView]) -> None:
+    """Give the windows of sessions without a terminal their default size, as tmux does."""
+    for session in sessions:
+        width, height = (int(one) for one in default_size(context.model(), session.note))
+        if not context.variables(Found(session)).terminals():
+            for window in session.windows():
+                demand_size(window.place, (height, width))
+    context.changed()
 
 
 def target_of(context: Context, flags: Flags) -> Found:

@@ -6,7 +6,7 @@ import time
 
 from roam_live.cli.tmux.context import Context, Failed
 from roam_live.cli.tmux.numbers import number_of
-from roam_live.cli.tmux.windows import begins_of, demand_size, set_current, window_name
+from roam_live.cli.tmux.windows import begins_of, default_size, demand_size, set_current, window_name
 from roam_live.commands.flags import BadCommand
 from roam_live.commands.targets import Found
 from roam_live.common.suppress import suppress
@@ -17,7 +17,7 @@ TYPE_CHECKING = False
 if TYPE_CHECKING:
     from collections.abc import Mapping
 
-    from roam_live.cli.tmux.model import Model, SessionView
+    from roam_live.cli.tmux.model import SessionView
     from roam_live.cli.tmux.name_space import SessionNote, SpaceState
     from roam_live.commands.flags import Flags
 
@@ -103,12 +103,6 @@ def begin(context: Context, flags: Flags, name: str, size: tuple[int | None, int
 def noted(state: SpaceState, place: LocalSession, note: SessionNote) -> None:
     """Store the note of a new session."""
     state["sessions"][place.name] = note
-
-
-def default_size(model: Model) -> list[str]:
-    """Return the columns and rows of a new window by the option `default-size`."""
-    width, _, height = model.option("default-size").partition("x")
-    return [width, height] if width.isdigit() and height.isdigit() else ["80", "24"]
 
 
 class environment:

@@ -128,7 +128,7 @@ class Variables(Scope):
             "socket_path": lambda: self.model.space.path, "uid": os.getuid, "user": lambda: pwd.getpwuid(os.getuid()).pw_name,
             "pid": lambda: min((one.place.process("host") or 0 for one in self.model.sessions), default=0),
             "start_time": lambda: min((int(one.note["created"]) for one in self.model.sessions), default=int(time.time())),
-            "config_files": lambda: "", "line": lambda: 0, "current_file": lambda: "", "server": lambda: "", "mouse_any_flag": lambda: 0,
+            "config_files": lambda: "", "line": lambda: 1, "current_file": lambda: "", "server": lambda: "",
             "next_session_id": lambda: "", "server_sessions": lambda: len(self.model.sessions),
         }
 
@@ -184,7 +184,10 @@ class Variables(Scope):
             "pane_search_string": lambda: "", "pane_fg": lambda: "default", "pane_bg": lambda: "default", "pane_tabs": lambda: "",
             "history_size": lambda: self.rows_stored(), "history_limit": lambda: self.option("history-limit") or "",
             "history_bytes": lambda: 0, "alternate_on": lambda: self.has_mode("other"), "roam_pane": lambda: one.number,
-            "mouse_button_flag": lambda: self.has_mode("1002"), "mouse_standard_flag": lambda: self.has_mode("1000"),
+            "mouse_button_flag": lambda: self.has_mode("drags"), "mouse_standard_flag": lambda: self.has_mode("buttons"),
+            "mouse_all_flag": lambda: self.has_mode("motion"), "mouse_sgr_flag": lambda: self.has_mode("sgr"),
+            "mouse_any_flag": lambda: any(map(self.has_mode, ("buttons", "drags", "motion"))),
+            "cursor_x": lambda: self.cursor()[1], "cursor_y": lambda: self.cursor()[0],
             "keypad_flag": lambda: self.has_mode("keypad"), "scroll_position": lambda: "", "search_match": lambda: "",
         }
 
@@ -233,6 +236,22 @@ class Variables(Scope):
         """Return True if the program of the pane has set a mode."""
         return bool(self.window and self.pane and self.window.ask(True).has_set(self.pane.number, mode))
 
+    def cursor(self) -> tuple[object, object]:
+        """Return the row and the column of the cursor, from 0, of a pane that is the active one of its window; two empty ones for another.
+        """
+        from roam_live.cli.capture import asked_screen
+        from roam_live.cli.connection import opened
+        from roam_live.cli.targets import ready
+        from roam_live.protocol.display_records import screen_of
+
+        if not self.window or not self.pane or self.window.active() is not self.pane:
+            return "", ""
+        try:
+            row, col = screen_of(asked_screen(opened(ready(self.window.place), True), "look")).cursor
+        except Fault:
+            return "", ""
+        return max(row - self.pane.rect.row, 0), max(col - self.pane.rect.col, 0)
+
     def rows_stored(self) -> int:
         """Return the number of stored rows above the screen of the pane."""
         from roam_live.cli.scrollback import RowsAsked
@@ -276,7 +295,12 @@ class Variables(Scope):
 
 
 def started(command: list[str]) -> str:
-    """Return the command with which a pane began, as tmux prints it."""
+    """Return the command with which a pane began, as tmux prints it, without the variables that `roam tmux` put before it."""
+    if command[:1] == ["env"]:
+        place = 1
+        while command[place : place + 1] == ["-u"] or "=" in "".join(command[place : place + 1]):
+            place += 2 if command[place] == "-u" else 1
+        command = command[place:] if len(command) > place + 1 else []
     words = command[2:] if command[1:2] == ["-c"] and len(command) == 3 else command
     return f'"{words[0]}"' if len(words) == 1 else " ".join(words)
 

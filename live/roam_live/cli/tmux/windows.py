@@ -18,7 +18,7 @@ TYPE_CHECKING = False
 if TYPE_CHECKING:
     from collections.abc import Callable, Mapping
 
-    from roam_live.cli.tmux.model import SessionView, WindowView
+    from roam_live.cli.tmux.model import Model, SessionView, WindowView
     from roam_live.cli.tmux.name_space import SessionNote, SpaceState
     from roam_live.commands.flags import Flags
     from roam_live.session.folder import SessionFolder
@@ -313,6 +313,12 @@ def swap(context: Context, flags: Flags) -> int:
     if current in (one, other) and not flags.has("d"):
         set_current(context, session, other.number if current is one else one.number)
     return 0
+
+
+def default_size(model: Model, session: SessionNote | None = None) -> list[str]:
+    """Return the columns and rows of a new window by the option `default-size`."""
+    width, _, height = model.option("default-size", session).partition("x")
+    return [width, height] if width.isdigit() and height.isdigit() else ["80", "24"]
 
 
 def demand_size(place: SessionFolder, size: tuple[int, int]) -> None:
