@@ -28,17 +28,18 @@ MESSAGE = "[#{session_name}] #{window_index}:#{window_name}, current pane #{pane
 COMMAND = "#{command_list_name}#{?command_list_alias, (#{command_list_alias}),} #{command_list_usage}"
 
 
-def line(context: Context, flags: Flags, default: str, values: Variables) -> None:
+def line(context: Context, flags: Flags, default: str, values: Variables, number: int) -> None:
     """Print the line of a list for some values, if they pass its filter."""
+    values.more["line"] = str(number)
     if context.passes(flags, values):
         context.write(expanded(flags.value("F") or default, values))
 
 
 def list_sessions(context: Context, flags: Flags) -> int:
     """Print a line for each session."""
-    for one in context.model().sessions:
+    for number, one in enumerate(context.model().sessions):
         window = one.current()
-        line(context, flags, SESSIONS, context.variables(Found(one, window, window.active() if window else None)))
+        line(context, flags, SESSIONS, context.variables(Found(one, window, window.active() if window else None)), number)
     return 0
 
 
@@ -46,8 +47,9 @@ def list_windows(context: Context, flags: Flags) -> int:
     """Print a line for each window of a session, or of all."""
     sessions = context.model().sessions if flags.has("a") else [context.session(flags)]
     for session in sessions:
-        for window in session.windows():
-            line(context, flags, ALL_WINDOWS if flags.has("a") else WINDOWS, context.variables(Found(session, window, window.active())))
+        for number, window in enumerate(session.windows()):
+            values = context.variables(Found(session, window, window.active()))
+            line(context, flags, ALL_WINDOWS if flags.has("a") else WINDOWS, values, number)
     return 0
 
 
@@ -64,8 +66,8 @@ def list_panes(context: Context, flags: Flags) -> int:
         windows = [(window.session, window)]
     before = "#{session_name}:#{window_index}." if flags.has("a") else "#{window_index}." if flags.has("s") else ""
     for session, window in windows:
-        for pane in window.panes():
-            line(context, flags, before + PANES, context.variables(Found(session, window, pane)))
+        for number, pane in enumerate(window.panes()):
+            line(context, flags, before + PANES, context.variables(Found(session, window, pane)), number)
     return 0
 
 
@@ -79,7 +81,7 @@ def list_clients(context: Context, flags: Flags) -> int:
             told = WindowsAsked(session.found[0].place).clients()
         except (Fault, IndexError):
             continue
-        for words in told:
+        for number, words in enumerate(told):
             window = session.numbered(int(words[5])) or session.current()
             terminal = words[2] if words[2].startswith("/") else f"/dev/{words[2]}"
             more = {"client_name": terminal, "client_tty": terminal, "client_height": words[3], "client_width": words[4],
@@ -87,7 +89,7 @@ def list_clients(context: Context, flags: Flags) -> int:
                     "client_readonly": "01"[words[7] == "read-only"],
                     "client_flags": "attached" + (",read-only" if words[7] == "read-only" else "")}
             found = Found(session, window, window.active() if window else None)
-            line(context, flags, CLIENTS, context.variables(found, more))
+            line(context, flags, CLIENTS, context.variables(found, more), number)
     return 0
 
 

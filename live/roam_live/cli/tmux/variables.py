@@ -128,7 +128,7 @@ class Variables(Scope):
             "socket_path": lambda: self.model.space.path, "uid": os.getuid, "user": lambda: pwd.getpwuid(os.getuid()).pw_name,
             "pid": lambda: min((one.place.process("host") or 0 for one in self.model.sessions), default=0),
             "start_time": lambda: min((int(one.note["created"]) for one in self.model.sessions), default=int(time.time())),
-            "config_files": lambda: "", "line": lambda: 1, "current_file": lambda: "", "server": lambda: "",
+            "config_files": lambda: "", "line": lambda: 0, "current_file": lambda: "", "server": lambda: "",
             "next_session_id": lambda: "", "server_sessions": lambda: len(self.model.sessions),
         }
 
