@@ -588,6 +588,15 @@ class Told(Windows):
         self.assertEqual(self.front.left, "[detached by another terminal]")
 
 
+    def test_shown(self):
+        """A command elsewhere has this terminal show another window; a line about no window does nothing."""
+        self.tell_list()
+        for line, number in ((b"0 show 2\n", 2), (b"0 show x\n", 2), (b"0 show 0\n", 2), (b"0 show 1\n", 1)):
+            self.hosts[0].send(line)
+            self.turn()
+            self.assertEqual(self.front.windows.here(), number, line)
+
+
 class Named(Windows):
     """Names, closes, and the list."""
 

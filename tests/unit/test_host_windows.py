@@ -542,6 +542,8 @@ class Told(Played):
                          b"client 2 b:/dev/pts/2 30 90 2 1000 read-only\nclients 2\n")
         self.assertEqual((self.said_by(one, b"leave 2\n"), read_now(two)), (b"left 2\n", b"leave\n"))
         self.assertEqual(self.said_by(one, b"leave 9\n"), b"left none\n")
+        self.assertEqual((self.said_by(one, b"show 2 1\n"), read_now(two)), (b"shown 2\n", b"show 1\n"))
+        self.assertEqual((self.said_by(one, b"show 9 1\n"), self.said_by(two, b"show 1 2\n")), (b"shown none\n", b"bad line\n"))
         self.assertEqual((self.said_by(one, b"leave others\n"), read_now(two)), (b"left 1\n", b"leave\n"))
         # A terminal that goes to another window keeps its arrival; one that comes later gets a new one.
         one.close()

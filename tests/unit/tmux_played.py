@@ -30,7 +30,7 @@ class PlayedModel(Model):
                                 "has_ended": False} for pane in range(1, len(rects) + 1)}}
                 number += len(rects)
                 window = types.SimpleNamespace(number=index, folder=FilePath(f"/nowhere/{name}/w/{index}"), title=lambda title=title: title,
-                                               told=told)
+                                               told=told, name=name, common=FilePath(f"/nowhere/{name}"))
                 places.append(window)
             note = {"id": len(self.sessions), "name": name, "created": 1796125273 + len(self.sessions), "activity": len(self.sessions),
                     "path": "/tmp", "windows": notes, "options": {}, "environment": {}, "hooks": {}, "stack": [], "current": 1, "seen": 0,

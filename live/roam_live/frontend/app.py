@@ -87,7 +87,7 @@ class FrontEnd:
         """Connect the parts' calls to one another."""
         views, keyboard, windows = self.views, self.keyboard, self.windows
         views.server_ends, views.shows = self.server_ended, self.connection.show
-        self.host_link.leaves = lambda: self.leave(DETACHED)
+        self.host_link.leaves, self.host_link.shows = lambda: self.leave(DETACHED), windows.go_to
         self.host_link.others_left, self.host_link.upgraded = keyboard.others_left, self.give_way
         windows.waiting.types = keyboard.typed
         keyboard.left_window = views.left_commands

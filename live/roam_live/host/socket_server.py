@@ -18,7 +18,7 @@ from roam_live.host.state import SessionState
 from roam_live.host.uploads import Uploads
 from roam_live.protocol.colours import Colours
 from roam_live.protocol.host_lines import BAD_LINE, COMMANDS, SESSION, led, parted
-from roam_live.protocol.presence import CLIENTS, LEAVE, LEAVE_OTHERS, WHO, Attended, Presence, presence_said
+from roam_live.protocol.presence import CLIENTS, LEAVE, LEAVE_OTHERS, SHOW, WHO, Attended, Presence, presence_said
 from roam_live.session.environment import PaneEnvironment
 
 TYPE_CHECKING = False
@@ -51,8 +51,9 @@ LISTENER = "listener"
 # The timer for requests about rows.
 ROWS_DUE = "rows are asked for"
 
-# The request to detach one of the terminals.
+# The requests to detach one of the terminals, and to have it show a window.
 LEAVES = LazyPattern(r"(?a)leave (\d{1,9})")
+SHOWS = LazyPattern(r"(?a)show (\d{1,9}) ([1-9]\d?)")
 
 
 class HostSocket:
@@ -255,13 +256,15 @@ class HostSocket:
 
     def take_client_line(self, peer: HostPeer, line: str) -> bool:
         """Take a line about the terminals of all windows, and return True if it is one. A read-only peer may not detach others."""
-        leaves = LEAVES.fullmatch(line)
+        leaves, shows = LEAVES.fullmatch(line), SHOWS.fullmatch(line)
         if line == CLIENTS:
             self.answer_lines(peer, self.clients())
-        elif peer.is_read_only() or not (leaves or line == LEAVE_OTHERS):
+        elif peer.is_read_only() or not (leaves or shows or line == LEAVE_OTHERS):
             return False
         elif leaves:
-            self.send(peer, [f"left {leaves[1]}" if self.leave(int(leaves[1])) else "left none"])
+            self.send(peer, [f"left {leaves[1]}" if self.ask(int(leaves[1]), LEAVE) else "left none"])
+        elif shows:
+            self.send(peer, [f"shown {shows[1]}" if self.ask(int(shows[1]), f"{SHOW} {shows[2]}") else "shown none"])
         else:
             self.send(peer, [f"left {self.leave_others(peer)}"])
         return True
@@ -273,11 +276,11 @@ class HostSocket:
             self.send(peer, [LEAVE], SESSION)
         return len(found)
 
-    def leave(self, number: int) -> bool:
-        """Ask a terminal to detach, and return True if its number exists."""
+    def ask(self, number: int, line: str) -> bool:
+        """Send a request to a terminal, and return True if its number exists."""
         found = [peer for peer in self.peers if peer.number == number and peer.presence]
         for peer in found:
-            self.send(peer, [LEAVE], SESSION)
+            self.send(peer, [line], SESSION)
         return bool(found)
 
     def await_terminals(self) -> None:

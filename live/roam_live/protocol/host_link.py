@@ -12,10 +12,10 @@ from roam_live.protocol.colours import COLOUR, Colours, told_in
 from roam_live.protocol.host_lines import SESSION, led
 from roam_live.protocol.panes_client import LET_GO, Subscription
 from roam_live.protocol.paste_text import FULL, INSERTED, LOST, MOST_BYTES, REFUSED, STORED
-from roam_live.protocol.presence import LEAVE, terminal_name
+from roam_live.protocol.presence import LEAVE, SHOW, terminal_name
 from roam_live.protocol.scrollback_client import BUFFER, AnswerReader, BadAnswer
 from roam_live.protocol.spawn_request import RAN
-from roam_live.protocol.window_lines import WINDOWS
+from roam_live.protocol.window_lines import MOST_WINDOWS, WINDOWS
 from roam_live.protocol.zoom_record import ZOOM
 
 TYPE_CHECKING = False
@@ -88,8 +88,9 @@ class HostLink(Subscription):
         # The texts whose fate the host has still to report; and a flag for a full host, to which texts go one by one.
         self.asked: set[str] = set()
         self.is_full = False
-        # Called if this terminal must detach, and with the number of others that its request detached.
+        # Called if this terminal must detach, with a window that it is to show, and with the number of others that its request detached.
         self.leaves: Callable[[], object] = lambda: None
+        self.shows: Callable[[int], object] = lambda number: None
         self.others_left: Callable[[str], object] = lambda count: None
         # The lines with this terminal's environment, sent once to each host: another terminal may have sent its own during an outage.
         self.environment: list[str] = []
@@ -191,6 +192,8 @@ class HostLink(Subscription):
             self.count_upgrades(decimal_in(upgrades, MOST_UPGRADES) or 0)
         elif line == LEAVE:
             self.leaves()
+        elif word == SHOW and (number := decimal_in(rest, MOST_WINDOWS)):
+            self.shows(number)
         elif word == LEFT:
             self.others_left(rest)
         elif word == RAN:

@@ -18,8 +18,8 @@ HERE, WHO = "here", "who"
 THERE, GONE, OTHERS = "there", "gone", "others"
 
 # The query for the terminals of all windows, and the word of each answer; the request to one terminal to detach; the line that detaches all
-# others.
-CLIENTS, CLIENT, LEAVE, LEAVE_OTHERS = "clients", "client", "leave", "leave others"
+# others; and the request to a terminal to show another window.
+CLIENTS, CLIENT, LEAVE, LEAVE_OTHERS, SHOW = "clients", "client", "leave", "leave others", "show"
 
 # Seconds in which a departed terminal counts as the same if it returns, for example to another window; and the most that are known.
 STAYS = 5.0

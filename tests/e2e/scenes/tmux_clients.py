@@ -105,6 +105,8 @@ def tmux_clients(folder):
     rows = [line.split("\t") for line in CALLS.read_text(encoding="utf-8").split("\n")[1:] if line]
     other = set()
     for client in ("tmuxp", "libtmux", "tmuxinator"):
+        for tool in (REAL, OWN):
+            ran(tool, "start-server")
         ids, calls = Ids(), [call for name, _, call in rows if name == client]
         wrong = [fault for call in calls for fault in played(call, ids, other) if call not in REFUSED]
         check(f"the {len(calls)} calls of {client} end as over tmux", not wrong, wrong)

@@ -3,7 +3,7 @@ import os
 import pathlib
 import subprocess
 
-from tried import SESSION, check, comes, said, scene
+from tried import SESSION, Outer, check, comes, said, scene
 from roam_live.common.process import TOOLS
 
 HOSTILE = "$(touch {0})`touch {0}`;touch {0};#(touch {0})'\"\\"
@@ -74,6 +74,29 @@ def tmux_hostile(folder):
     told = tool(*where, "list-buffers", "-F", "#(echo #{buffer_name} #{buffer_sample})#{E:buffer_sample}")
     check("a buffer runs nothing", told[0] == 0 and not marker.exists(), told)
     tool(*where, "kill-server")
+
+@scene
+def tmux_attached(folder):
+    """A terminal attaches, and follows the windows that a command in its pane opens and selects."""
+    own = tool("--tmux-path")[1].strip()
+    outer = Outer([f"{own}/tmux", "-L", "near", "new-session", "-s", "s", "-n", "first"], environment={"PATH": f"{own}:{os.environ['PATH']}"})
+    where = ("-L", "near")
+    check("new-session attaches this terminal", comes(lambda: "1:first*" in outer.rows()[-1]), outer.rows)
+    told = tool(*where, "list-clients", "-F", "#{client_session} #{client_width}")
+    check("which is a client then", told == (0, "s 80\n", "") and tool(*where, "ls")[1].endswith("(attached)\n"), told)
+    outer.type(b"tmux new-window -n second\r")
+    check("new-window shows the new window", comes(lambda: "2:second*" in outer.rows()[-1]), outer.rows)
+    outer.type(b"tmux select-window -t first\r")
+    check("select-window goes back", comes(lambda: "1:first*" in outer.rows()[-1]), outer.rows)
+    outer.type(b"tmux split-window -h \\; display-message -p 'panes: #{window_panes}'\r")
+    check("a split is shown", comes(lambda: any("panes: 2" in row for row in outer.rows())), outer.rows)
+    outer.type(b"\x022")
+    is_current = comes(lambda: tool(*where, "display", "-p", "-t", "s", "#W")[1] == "second\n")
+    check("a key of the terminal makes its window the current one", is_current, outer.rows)
+    outer.type(b"tmux detach-client\r")
+    check("detach-client detaches it", comes(lambda: outer.process.poll() == 0), outer.rows)
+    told = tool(*where, "kill-server")
+    check("and the session can be ended", told == (0, "", ""), told)
 
 
 def shell_word(text):

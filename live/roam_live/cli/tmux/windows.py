@@ -11,6 +11,7 @@ from roam_live.commands.targets import Found
 from roam_live.common.errors import Fault
 from roam_live.common.suppress import suppress
 from roam_live.common.tty import LEAST, MOST
+from roam_live.protocol.presence import SHOW
 from roam_live.protocol.spawn_request import MOST_BYTES, TOO_LONG, Begins
 from roam_live.protocol.window_lines import LONGEST_BYTES, LONGEST_NAME, OPENED
 
@@ -212,6 +213,20 @@ def set_current(context: Context, session: SessionView, number: int, is_closed: 
             note.update({"current": number, "stack": left + rest, "seen": seen, "activity": time.time()})
 
     context.change(set_it)
+    if before and before.number != number:
+        shown(session, before.number, number)
+
+
+def shown(session: SessionView, before: int, number: int) -> None:
+    """Have the terminals at the window that was current show another one."""
+    from roam_live.cli.windows import WindowsAsked
+
+    with suppress(Fault):
+        asked = WindowsAsked((session.numbered(before) or session.found[0]).place)
+        for words in asked.clients():
+            if words[5] == str(before):
+                asked.say(f"{SHOW} {words[1]} {number}")
+                asked.until("shown")
 
 
 def select(context: Context, flags: Flags) -> int:
