@@ -125,6 +125,7 @@ KNOWN = {
     ("roam_live/host/uploads.py", "PASTE", "re"): LINES,
     ("roam_live/host/uploads.py", "PASTE_BUFFER", "re"): LINES,
     ("roam_live/host/socket_server.py", "LEAVES", "re"): LINES,
+    ("roam_live/host/socket_server.py", "SHOWS", "re"): LINES,
     ("roam_live/relay/forwarding.py", "LED", "re"): LINES,
     ("roam_live/cli/targets.py", "WORD", "re"): NAMES,
     **{("roam_live/cli/tmux/" + name, place, "re"): COMMANDS for name, place in (

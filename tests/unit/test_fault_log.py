@@ -199,7 +199,7 @@ class Sizes(Case):
     def test_open(self):
         """A size is cut to the largest of a session; an invalid size is a bad line."""
         asked = []
-        table = mock.Mock(open=lambda size, beside, told, begins: asked.append(size))
+        table = mock.Mock(open=lambda size, beside, told, begins, request: asked.append(size))
         lines = window_commands.WindowLines(table, mock.Mock(channels={}))
         peer = mock.Mock(is_read_only=lambda: False, opening=0, asks_windows=False)
         words = ("24 80", "1 1", "24 65536", "99999 99999", "65537 80", "200 500", "201 501", "0 80", "100000 80", "24", "-1 80")

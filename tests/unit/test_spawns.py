@@ -260,7 +260,7 @@ class Outside(Case):
         self.patch_of(windows, "print", create=True)
         cmd.run(session, 0, ["neww", "-n", "logs", "htop"])
         self.assertEqual([line for line, _ in asked.said], [f"run {NAME} window {len(Begins(['htop'], '', 'logs').packed())}",
-                                                           f"open 24 80 {NAME}"])
+                                                           f"open 24 80 {NAME} for {NAME}"])
 
 
 if __name__ == "__main__":

@@ -81,7 +81,7 @@ class WindowLines:
         A front end that lost its connection asks again, and gets the same window. So does a command that repeats its request by its name,
         also at another host.
         """
-        again = self.table.of_request(request)
+        again = self.table.of_request(request) if request else None
         if again and not peer.is_read_only():
             self.handed(name)
             is_there = again.number in self.table.named()
