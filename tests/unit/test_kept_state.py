@@ -12,6 +12,12 @@ from roam_live.protocol.paste_text import INSERTED
 ONE, OTHER = "0123456789abcdef", "fedcba9876543210"
 
 
+def memfds():
+    """Return the number of this process's memfds."""
+    paths = [f"/proc/self/fd/{name}" for name in os.listdir("/proc/self/fd")]
+    return sum(os.readlink(path).startswith("/memfd:") for path in paths if os.path.islink(path))
+
+
 class States(Case):
     """The state in a folder, and the host's end of a holder."""
 
@@ -67,6 +73,7 @@ class States(Case):
             first.write()
             if text:
                 (self.folder / "host.json").write_text(text, encoding="ascii")
+                del first.link.own["state"]
             second = self.made(first, is_bare)
             self.assertEqual(second.state.last_window, 0)
             self.assertIn(f"the state of the pty host before is not used, and is kept as host.bad: {why}", second.notices[0])
@@ -98,6 +105,29 @@ class States(Case):
         self.assertEqual(os.listdir(self.folder), [])
         kept.settle()
         self.assertEqual(os.listdir(self.folder), ["host.json"])
+
+    def test_full_disk(self):
+        """Another host has the state also if no file could be written; the one at the holder is newer than the file."""
+        first, before = self.made(), memfds()
+        first.state.last_window = 3
+        first.write()
+        with mock.patch("roam_live.host.kept_state.replace_text", side_effect=OSError(28, "No space left on device")):
+            for number in (4, 5):
+                first.state.last_window = number
+                first.write()
+        self.assertEqual(json.loads((self.folder / "host.json").read_text(encoding="utf-8"))["last_window"], 3)
+        self.assertEqual(self.made(first).state.last_window, 5)
+        self.assertEqual(memfds() - before, 1)
+
+    def test_no_memory(self):
+        """Without memory for the state another host reads the file."""
+        first = self.made()
+        first.write()
+        first.state.last_window = 4
+        with mock.patch("roam_live.host.kept_state.memfd_of", side_effect=OSError(12, "Cannot allocate memory")):
+            first.write()
+        self.assertNotIn("state", first.link.own)
+        self.assertEqual(self.made(first).state.last_window, 4)
 
     def test_unwritable(self):
         """A refusal of the system is logged."""

@@ -1,7 +1,7 @@
-"""The file with the state of a pty host, which another host needs besides the descriptors at the holder.
+"""The state of a pty host, which another host needs besides the descriptors at the holder.
 
-Texts are in memfds at the holder: the file has their names and lengths. It is written before a program is started, and soon after other
-changes.
+It is in a memfd at the holder, so it needs no room on the disk, and in a file for other tools. Texts are in memfds of their own: the state
+has their names and lengths. It is written before a program is started, and soon after other changes.
 """
 from __future__ import annotations
 
@@ -25,8 +25,9 @@ WRITES = "the state is written"
 # A state that can't be read is kept under this name.
 BAD = "host.bad"
 
-# The names of texts at the holder, without their own.
+# The names of texts at the holder, without their own, and that of the state.
 PASTE, BUFFER = "paste", "buffer"
+STATE = "state"
 
 
 class KeptState:
@@ -37,7 +38,8 @@ class KeptState:
         # The folder may be another session's by now, after its own was removed.
         self.folder = os.stat(folder)
         self.state = SessionState()
-        self.was = ""
+        # The text of the state in the file, and at the holder.
+        self.was = self.held = ""
         # Notices for the user about the end of an earlier host.
         self.notices: list[str] = []
         # The reason that the file can't be written now.
@@ -55,8 +57,12 @@ class KeptState:
         try:
             if self.link.is_bare:
                 raise Fault("pty hosts failed too often with it")
-            with open(self.path, encoding="utf-8") as file:
-                self.state = state_in(file.read(MOST_STATE))
+            held = self.text_of(STATE)
+            if held is None:
+                with open(self.path, encoding="utf-8") as file:
+                    self.state = state_in(file.read(MOST_STATE))
+            else:
+                self.state = state_in(held.decode("utf-8", "replace"))
         except (Fault, OSError, ValueError) as fault:
             self.is_lost = True
             why = reason(fault) if isinstance(fault, OSError) else fault
@@ -118,6 +124,7 @@ class KeptState:
             paste["data"] = ""
         state["buffers"]["texts"] = dict.fromkeys(state["buffers"]["texts"], "")
         text = json.dumps(state)
+        self.hold(text)
         if text == self.was:
             return
         try:
@@ -128,6 +135,20 @@ class KeptState:
             if self.refused != reason(fault):
                 say(f"{self.path} cannot be written: {reason(fault)}")
             self.refused = reason(fault)
+
+    def hold(self, text: str) -> None:
+        """Give the holder the state. If there is no memory for it, the next host reads the file."""
+        if text == self.held:
+            return
+        before = self.link.own.get(STATE)
+        try:
+            self.link.put(STATE, [memfd_of(text.encode("utf-8", "replace"))])
+            self.held = text
+        except OSError:
+            self.link.drop(STATE)
+            self.held = ""
+        for end in before.ends if before else ():
+            os.close(end)
 
     def settle(self) -> None:
         """Write it into the folder that this session has made anew."""

@@ -130,8 +130,10 @@ class HostUpgrade:
         """Run the check of the new build on this host's state."""
         demand_safe_tools(self.folder)
         self.common.kept.write()
+        if not self.common.kept.held:
+            raise Fault("there is no memory for its state")
         reader, writer = os.pipe2(os.O_CLOEXEC | os.O_NONBLOCK)
-        state = memfd_of(self.common.kept.was.encode())
+        state = memfd_of(self.common.kept.held.encode())
         os.lseek(state, 0, os.SEEK_SET)
         words = [sys.executable, os.path.join(self.folder, HOST), CHECK]
         actions = [(os.POSIX_SPAWN_DUP2, state, 0), (os.POSIX_SPAWN_DUP2, writer, 1)]
