@@ -32,16 +32,24 @@ sys.exit(3)
 class Holders(Case):
     """A holder whose host is this process."""
 
+    log = os.devnull
+
     def setUp(self):
         self.folder = self.made_folder()
         self.pair, theirs = socket.socketpair(socket.AF_UNIX, socket.SOCK_SEQPACKET)
         self.addCleanup(self.pair.close)
         self.pair.settimeout(10)
         self.holder = subprocess.Popen([sys.executable, "-IS", str(TOOLS / "holder"), str(theirs.fileno())], pass_fds=[theirs.fileno()],
-                                       env=plain_environment(), start_new_session=True, stderr=subprocess.DEVNULL)
+                                       env=plain_environment(), start_new_session=True, stderr=self.opened_log())
         theirs.close()
         self.addCleanup(self.holder.wait)
         self.addCleanup(self.holder.kill)
+
+    def opened_log(self):
+        """Return the file of its messages."""
+        file = open(self.log, "wb")
+        self.addCleanup(file.close)
+        return file
 
     def send(self, line, ends=(), text=None):
         """Send a message."""
@@ -235,6 +243,14 @@ class Hosts(Holders):
             self.assertEqual((more, told), ("", [f"held terminal:%1 {process} runs 2", f"end {self.holder.pid} 0"]))
             time.sleep(0.05)
             os.kill(int(host), signal.SIGKILL)
+
+    def test_full_log(self):
+        """A log that can't be written, as on a full disk, ends nothing."""
+        self.holder.kill()
+        self.holder.wait()
+        self.log = "/dev/full"
+        self.setUp()
+        self.test_killed()
 
     def test_fails(self):
         """After three failures the next host gets no state. A holder without programs doesn't start a host that always fails."""

@@ -314,7 +314,7 @@ class SessionFolder(Processes):
         terminals = survey.terminals(self.folder)
         named = " ".join(f"{window.number}:{window.title()}" if window.title() else f"{window.number}" for window in windows)
         more = f", {len(windows)} windows: {named}" if len(windows) > 1 else ""
-        lacking = self.lacking() or (NO_ANSWER if terminals is None else "")
+        lacking = self.lacking(terminals is not None) or (NO_ANSWER if terminals is None else "")
         other = self.other_build()
         lacking += f", runs roam {other}, which `mux upgrade` explains" if other else ""
         return f"{listed(self.name, size, panes, terminals, width)}{many_clients(places)}{more}{lacking}"
@@ -324,9 +324,11 @@ class SessionFolder(Processes):
         told = (self.state or {}).get(BUILD)
         return printable(told)[:LONGEST_BUILD] if isinstance(told, str) and told != identity() else ""
 
-    def lacking(self) -> str:
-        """Return the remark of `mux ls` on a pty host that does not run."""
+    def lacking(self, answers: bool) -> str:
+        """Return the remark of `mux ls` on a pty host that does not run. One that answers runs, whatever the note says on a full disk."""
         host = self.process("host")
+        if answers:
+            return ""
         if host is None:
             return ", its pty host is not running"
         return ", the pty host is stopped" if is_stopped(host) else ""

@@ -257,11 +257,11 @@ class LocalSession(SessionFolder):
 
     # ---- its line in `mux ls`
 
-    def lacking(self) -> str:
+    def lacking(self, answers: bool) -> str:
         """Return the remark of `mux ls` on a pty host that does not run, or that follows others which ended."""
         count = (self.state or {}).get(REPLACED)
         told = f", its pty host was replaced {'once' if count == 1 else f'{count} times'}"
-        return super().lacking() or (told if type(count) is int and count > 0 else "")
+        return super().lacking(answers) or (told if type(count) is int and count > 0 else "")
 
     def shown_window(self, windows: list[SessionFolder]) -> SessionFolder:
         """Return the window used last."""

@@ -105,7 +105,7 @@ class RemoteSession(SessionFolder):
         """Take and return the session's lock."""
         return self.session.taken_lock(may_wait) if self.session else super().taken_lock(may_wait)
 
-    def lacking(self) -> str:
+    def lacking(self, answers: bool) -> str:
         """Return nothing about the shells, which belong to the other machine."""
         return ""
 
