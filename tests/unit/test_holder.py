@@ -187,7 +187,7 @@ class Programs(Holders):
         self.assertEqual(self.heard()[0], "ended terminal:%2 unknown")
 
     def test_becomes(self):
-        """Another build of it goes on in the same process with all descriptors, programs and ends. One that is not there changes nothing."""
+        """Another build goes on in the same process with all descriptors, programs and ends. One that is not there changes nothing."""
         process, terminal = self.spawn("terminal:%1", "sh", "-c", "read a; echo got $a; read b; exit 5")
         dropped, _ = self.spawn("terminal:%2", "sh", "-c", "trap '' HUP; exec sleep 60")
         self.send(b"drop terminal:%2")
@@ -211,7 +211,8 @@ class Programs(Holders):
         self.assertTrue(comes(lambda: not os.path.exists(f"/proc/{dropped}")))
         os.write(terminal, b"y\n")
         self.assertEqual(self.heard()[0], f"ended terminal:%1 {5 << 8}")
-        self.assertEqual(len(os.listdir(f"/proc/{self.holder.pid}/fd")), 3 + 1 + 2 + 2)
+        # Three standard ones, the pair, two programs, and two in reserve.
+        self.assertEqual(len(os.listdir(f"/proc/{self.holder.pid}/fd")), 3 + 1 + 2 * 2 + 2)
 
     def test_few_descriptors(self):
         """Without a free descriptor a request fails with the reason, and all else stays."""
@@ -251,6 +252,22 @@ class Hosts(Holders):
         self.log = "/dev/full"
         self.setUp()
         self.test_killed()
+
+    def test_no_descriptor(self):
+        """Another host is started even if this process has no free descriptor."""
+        lines = self.hosts()
+        process, _ = self.spawn("terminal:%1", "cat")
+        used = {int(name) for name in os.listdir(f"/proc/{self.holder.pid}/fd")}
+        hard = resource.prlimit(self.holder.pid, resource.RLIMIT_NOFILE)[1]
+        resource.prlimit(self.holder.pid, resource.RLIMIT_NOFILE, (next(one for one in range(99) if one not in used), hard))
+        self.send(b"spawn terminal:%2 1 1", text=b"\0\0001\0true")
+        self.assertEqual(self.heard()[0], "failed terminal:%2 Too many open files")
+        self.pair.close()
+        for count in (1, 2):
+            self.assertTrue(comes(lambda count=count: len(lines()) == count), lines)
+            self.assertEqual(lines()[-1][2:], [f"held terminal:%1 {process} runs 2", f"end {self.holder.pid} 0"])
+            time.sleep(0.05)
+            os.kill(int(lines()[-1][1]), signal.SIGKILL)
 
     def test_fails(self):
         """After three failures the next host gets no state. A holder without programs doesn't start a host that always fails."""
