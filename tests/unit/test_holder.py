@@ -12,7 +12,7 @@ from roam_live.common.process import TOOLS
 
 # A host that says hello, and writes its variable and the answers into a file. Then it ends as its first word says.
 HOST = """
-import array, os, signal, socket, sys
+import array, os, socket, sys
 pair, _, more = os.environ["ROAM_HOLDER"].partition(" ")
 end = socket.socket(socket.AF_UNIX, socket.SOCK_SEQPACKET, 0, int(pair))
 end.send(b"hello")
@@ -24,7 +24,9 @@ with open(sys.argv[2], "a") as file:
     file.write(";".join([more, str(os.getpid()), *lines]) + "\\n")
 if sys.argv[1] != "fails":
     end.send(b"guarded")
-    signal.pause()
+    # It ends with its holder.
+    while end.recv(4096):
+        pass
 sys.exit(3)
 """
 
