@@ -16,7 +16,7 @@ from roam_live.common.process import TOOLS
 from roam_live.common.record import written
 from roam_live.host import upgrade
 from roam_live.host.handed_rows import handed_in, text_of
-from roam_live.host.holder_link import Kept, memfd_of
+from roam_live.host.holder_link import UPGRADED, HolderLink, Kept, memfd_of
 from roam_live.host.pane_scrollback import PaneScrollback
 from roam_live.host.scrollback_store import RowsRoom
 from roam_live.host.state import SessionState
@@ -192,6 +192,31 @@ class Rows(Case):
             is_given = found.give(number, generation, pane)
             self.assertEqual((is_given, pane.terminal, pane.second, pane.size, pane.is_whole, pane.is_cut), wanted, (number, generation))
         self.assertEqual((found.rest(), handed_in(None)), ([], None))
+
+
+class Tables(Case):
+    """The entries that one host hands to the next one in the same process."""
+
+    def test_table(self):
+        """Each entry comes with its descriptors, its process and its end, also one that no pane has claimed. The holder isn't asked."""
+        first, ends = HolderLink.__new__(HolderLink), [os.dup(0) for _ in range(4)]
+        first.own = {"terminal:%1": Kept(ends[:2], 71, "256"), "socket:%1": Kept(ends[2:3])}
+        first.left, first.process, first.pair, first.most_files = {"logs:%2": Kept(ends[3:])}, 70, mock.Mock(fileno=lambda: 5), 1024
+        handed, inherited = first.handed_over("abc")
+        number, word, build, limit, table = handed.split(" ")
+        self.assertEqual((number, word, build, limit), ("5", UPGRADED, "abc", "1024"))
+        self.assertEqual((inherited[:2], sorted(inherited[2:])), ([5, int(table)], ends))
+        for end in ends:
+            os.set_inheritable(end, True)
+        second = HolderLink.__new__(HolderLink)
+        second.left = {}
+        second.take_table(int(table))
+        found = {name: (kept.process, kept.end, kept.ends) for name, kept in second.left.items()}
+        self.assertEqual((second.process, found), (70, {"terminal:%1": (71, "256", ends[:2]), "socket:%1": (0, "runs", ends[2:3]),
+                                                        "logs:%2": (0, "runs", ends[3:])}))
+        self.assertEqual([os.get_inheritable(end) for end in ends], [False] * 4)
+        for end in ends:
+            os.close(end)
 
 
 class FrontEnds(Case):

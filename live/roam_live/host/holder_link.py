@@ -10,6 +10,7 @@ import time
 
 from roam_live.common.errors import Fault, say
 from roam_live.common.event_loop import Loop, comes
+from roam_live.common.json_reader import read_json
 from roam_live.common.process import TOOLS, program
 from roam_live.common.signals import signal
 from roam_live.common.suppress import suppress
@@ -24,8 +25,8 @@ else:
     from _socket import AF_UNIX, CMSG_SPACE, MSG_CMSG_CLOEXEC, SCM_RIGHTS, SOCK_SEQPACKET, SOL_SOCKET, socket, socketpair
 
 # The variable by which a host gets its end of the pair. After it `bare` follows if hosts failed too often with their state; or `upgraded`
-# if a host of another build has executed this one: the sum of this build's files, the limit of open files of programs, and the descriptors
-# of the host before, which stay open until this one has its own.
+# if a host of another build has executed this one: the sum of this build's files, the limit of open files of programs, and a memfd with the
+# entries of that host, whose descriptors stay open in this process. So it needs no answer of the holder, which may end meanwhile.
 PAIR = "ROAM_HOLDER"
 BARE, UPGRADED = "bare", "upgraded"
 
@@ -153,12 +154,14 @@ class HolderLink:
 
     def begin(self, end: int, handed: list[str]) -> None:
         """Follow another host. One of another build handed over some words; the files must be those that its check read."""
-        if self.is_upgraded:
-            demand_sum(handed[0])
-            self.most_files = int(handed[1])
-        self.resume(end)
-        for own in handed[2].split(",") if self.is_upgraded else ():
-            os.close(int(own))
+        if not self.is_upgraded:
+            self.resume(end)
+            return
+        demand_sum(handed[0])
+        self.most_files = int(handed[1])
+        self.take_table(int(handed[2]))
+        os.set_inheritable(end, False)
+        self.join(socket(AF_UNIX, SOCK_SEQPACKET, 0, end))
 
     def resume(self, end: int) -> None:
         """Take everything that the holder keeps from an earlier host."""
@@ -359,9 +362,23 @@ class HolderLink:
         """Return the descriptor of the pair; -1 without a holder."""
         return self.pair.fileno() if self.pair else -1
 
-    def handed_over(self, build: str, ends: list[int]) -> str:
-        """Return the variable for a host of another build that this process executes: the sum of its files, and descriptors to close."""
-        return f"{self.number()} {UPGRADED} {build} {self.most_files} {','.join(map(str, ends))}"
+    def handed_over(self, build: str) -> tuple[str, list[int]]:
+        """Return the variable for a host of another build that this process executes, and the descriptors that it inherits."""
+        import json
+
+        kept = {**self.left, **self.own}
+        table = memfd_of(json.dumps([self.process, [[name, one.process, one.end, one.ends] for name, one in kept.items()]]).encode())
+        ends = [self.number(), table, *(end for one in kept.values() for end in one.ends)]
+        return f"{self.number()} {UPGRADED} {build} {self.most_files} {table}", ends
+
+    def take_table(self, table: int) -> None:
+        """Take the entries of the host that has executed this one, and the process of the holder."""
+        self.process, kept = read_json(os.pread(table, os.fstat(table).st_size, 0).decode())
+        os.close(table)
+        for name, process, told, ends in kept:
+            for end in ends:
+                os.set_inheritable(end, False)
+            self.left[name] = Kept(ends, process, told)
 
     def flush(self) -> None:
         """Send all messages; this waits for the holder."""

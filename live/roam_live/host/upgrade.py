@@ -217,24 +217,25 @@ class HostUpgrade:
         say(f"this pty host is replaced by roam {printable(build.name)} in {printable(self.folder)}")
         self.peer.put([f"{SESSION} {BEGINS} {build.sum} {printable(build.name)}"])
         self.peer.write()
-        ends = self.handed_over()
+        self.give_rows()
         words = [sys.executable, os.path.join(self.folder, HOST), *later_words()]
-        environment = {**os.environ, PAIR: self.link.handed_over(build.sum, ends)}
+        ends: list[int] = []
         try:
-            for end in (*ends, self.link.number()):
+            handed, ends = self.link.handed_over(build.sum)
+            for end in ends:
                 os.set_inheritable(end, True)
-            os.execve(words[0], words, environment)
+            os.execve(words[0], words, {**os.environ, PAIR: handed})
         except OSError as fault:
-            for end in (*ends, self.link.number()):
+            for end in ends:
                 os.set_inheritable(end, False)
+            for table in ends[1:2]:
+                os.close(table)
             self.link.drop(ROWS)
             self.link.drop(SCROLLBACK)
             self.refuse(reason(fault))
 
-    def handed_over(self) -> list[int]:
-        """Give the holder the stored rows and the scrollback process, and return the descriptors that stay open until the new host has its
-        own.
-        """
+    def give_rows(self) -> None:
+        """Give the holder the stored rows and the scrollback process, with the state as it is now."""
         rows = self.common.rows
         self.common.kept.write()
         with suppress(OSError, MemoryError):
@@ -243,7 +244,6 @@ class HostUpgrade:
                 process = rows.process
                 self.link.put(SCROLLBACK, [process.input, process.output, process.error, memfd_of(text_of(rows))])
         self.link.flush()
-        return [end for kept in (*self.link.own.values(), *self.link.left.values()) for end in kept.ends]
 
 
 def later_words() -> list[str]:
