@@ -122,7 +122,8 @@ class Refusals(Case):
     def test_quiet(self):
         """Whatever only this host knows delays the replacement, and is named."""
         self.assertEqual(self.upgrade.under_way(), "")
-        pane = types.SimpleNamespace(to_terminal=types.SimpleNamespace(waits_for_more=lambda: False), state=types.SimpleNamespace(has_ended=False))
+        queue = types.SimpleNamespace(waits_for_more=lambda: False)
+        pane = types.SimpleNamespace(to_terminal=queue, state=types.SimpleNamespace(has_ended=False))
         window = types.SimpleNamespace(stage=upgrade.THERE, host=types.SimpleNamespace(panes={1: pane}))
         self.windows.windows[1] = window
         self.assertEqual(self.upgrade.under_way(), "")
