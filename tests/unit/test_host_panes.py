@@ -20,6 +20,7 @@ from roam_live.host.input_queue import TypedQueue
 from roam_live.host.pane_hold import PaneHold
 from roam_live.host.state import PaneState, SessionState
 from roam_live.host.uploads import PendingPastes
+from roam_live.protocol.spawn_request import Begins
 from roam_live.session.environment import PaneEnvironment
 from roam_live.session.foreground import group_in_front, working_folder
 
@@ -208,6 +209,32 @@ class Kept(unittest.TestCase):
         self.assertEqual((self.folder / "ended").read_text(encoding="utf-8"), f"{server.pid} {moment}\n")
         self.assertEqual(process.wait(10), 0)
         pane.close()
+
+    def test_respawned(self):
+        """A pane that is started anew is cleared, and has the new command; without one it has the earlier command again."""
+        process = self.run_tool("--close", "--server", str(os.getpid()), str(self.folder), "sh", "-c", "echo here; exec cat")
+        self.told(b"1 1 1 23 80 1\nfocus 1\n")
+        pane = self.server.taken("p1")
+        self.assertTrue(self.shows(pane, b"here"))
+        host = socket.socket(socket.AF_UNIX, socket.SOCK_STREAM)
+        self.addCleanup(host.close)
+        host.settimeout(30)
+        host.connect(str(self.folder / "host"))
+        name = "0123456789abcdef"
+        for begins in (Begins(["echo $((40+2)); exec cat"], str(self.folder)), Begins([])):
+            data = begins.packed()
+            host.send(f"0 run {name} window {len(data)}\n".encode() + data + f"0 respawn 1 1 {name}\n".encode())
+            self.assertTrue(self.shows(pane, b"\x1bc42"), begins)
+        host.send(f"0 respawn 1 1 {name}\n0 respawn 1 2 {name}\n".encode())
+        told = b""
+        while told.count(b"respawned") < 4 and (chunk := host.recv(4096)):
+            told += chunk
+        self.assertEqual([line for line in told.decode().split("\n") if "respawned" in line],
+                         ["0 respawned 1"] * 2 + ["0 respawned none"] * 2)
+        child = json.loads((self.folder / "host.json").read_text(encoding="utf-8"))["windows"]["0"]["panes"]["1"]
+        self.assertEqual((child["command"][2:], child["has_ended"]), (["echo $((40+2)); exec cat"], False))
+        self.assertEqual(os.readlink(f"/proc/{child['process']}/cwd"), os.path.realpath(self.folder))
+        self.assertIsNone(process.poll())
 
     def test_folder(self):
         """A new pane's command starts in the folder of the focused pane's foreground program; the first one's in the server's."""

@@ -118,7 +118,7 @@ TABLE = (
             "zoom the pane, or move one of its borders", "C-b C-Up", "LRUDZ", sized),
     Command(("resize-window", "resizew"), "aADLRt:Ux:y:", (0, 1), "window", SESSION, "windows.resize",
             "give a window another size", "mux send -a NAME 'size ROWS COLS'"),
-    Command(("respawn-pane", "respawnp"), "c:e:kt:", (0, -1), "pane", SESSION, "", "start a command in a pane again"),
+    Command(("respawn-pane", "respawnp"), "c:e:kt:", (0, -1), "pane", SESSION, "panes.respawn", "start a command in a pane again"),
     Command(("respawn-window", "respawnw"), "c:e:kt:", (0, -1), "window", SESSION, "", "start a command in a window again"),
     Command(("rotate-window", "rotatew"), "Dt:UZ", (0, 0), "window", SESSION, "", "rotate the panes"),
     Command(("run-shell", "run"), "bd:Ct:", (0, 1), "pane", SESSION, "shells.run_shell",

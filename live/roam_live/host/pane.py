@@ -54,6 +54,9 @@ LAST_WAIT = 0.02
 MOST_LAST = 1 << 16
 LAST_LATER = 0.25
 GIVEN_UP = b"\r\n[closed after internal errors; a key starts the command again]\r\n"
+# What clears a pane before a command is started there anew (RIS).
+CLEARED = b"\x1bc"
+
 DROPPED = b"\r\n[a new shell; what was typed since the last one ended is dropped]\r\n"
 ENDED = b"\r\n[ended]"
 NOT_RUN = "[not run: {}; a key tries again]\r\n"
@@ -298,6 +301,16 @@ class PaneCommand:
             self.output.drop()
         self.state.process, self.state.has_ended = None, False
         self.show(GIVEN_UP)
+
+    def respawn(self, folder: str, command: list[str]) -> None:
+        """End the pane's programs, and run a command in the cleared pane; an empty folder or command stays the earlier one."""
+        self.end_programs()
+        self.loop.drop(f"last of {self.named}")
+        self.state.process, self.state.has_ended = None, False
+        self.state.folder, self.state.command = folder or self.state.folder, command or self.state.command
+        self.show(CLEARED)
+        self.run()
+        self.changes()
 
     def hang_up(self) -> None:
         """End the pane's programs, and the connection to the pane."""

@@ -243,7 +243,7 @@ class HostSocket:
     def take_own(self, peer: HostPeer, number: int, line: str) -> bool:
         """Take a read-write terminal's line about itself: its zoom, its environment, its colours; return True if it is one."""
         channel = self.channel(number)
-        return not peer.is_read_only() and (channel is not None and channel.take_zoom(peer, line)
+        return not peer.is_read_only() and (channel is not None and (channel.take_zoom(peer, line) or channel.take_respawn(peer, line))
                                             or self.pane_environment.take(line) or self.colours.take(line))
 
     # ---- attached terminals

@@ -147,6 +147,14 @@ class WindowHost:
         if query and pane and pane.state.generation == query.generation and pane.is_typed_into():
             pane.type(query.answer(self.common.socket.colours, holds_frames(self.server()), pane.state.size))
 
+    def respawn(self, number: int, generation: int, begins: Begins) -> bool:
+        """End the programs of that pane generation, and start it anew; return False if it is gone."""
+        pane = self.panes.get(number)
+        if not pane or pane.state.generation != generation or not pane.is_connected:
+            return False
+        pane.respawn(begins.folder, begins.command())
+        return True
+
     def report_focus(self, before: int) -> None:
         """Send focus reports to the programs of the pane that lost the focus and the one that got it, if they requested them."""
         for number, report in ((before, FOCUS_OUT), (self.state.focus, FOCUS_IN)):

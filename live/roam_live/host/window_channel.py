@@ -3,6 +3,7 @@ from __future__ import annotations
 
 from roam_live.host.pending_spawns import HandedCommands
 from roam_live.protocol.host_lines import COMMANDS, SESSION
+from roam_live.protocol.spawn_request import RESPAWN, RESPAWNED
 from roam_live.protocol.zoom_record import OVER
 
 TYPE_CHECKING = False
@@ -109,6 +110,16 @@ class WindowChannel:
             self.renew()
 
     # ---- programs, and notices
+
+    def take_respawn(self, peer: HostPeer, line: str) -> bool:
+        """Take a request to start a pane anew, and return True if it is one."""
+        asked = RESPAWN.fullmatch(line)
+        if not asked:
+            return False
+        begins = self.handed.for_window(asked[3])
+        is_there = begins is not None and self.host is not None and self.host.respawn(int(asked[1]), int(asked[2]), begins)
+        self.send(peer, [f"{RESPAWNED} {asked[1] if is_there else 'none'}"])
+        return True
 
     def has_asked_commands(self) -> bool:
         """Return True if somebody subscribed to foreground programs."""

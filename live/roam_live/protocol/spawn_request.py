@@ -14,6 +14,10 @@ RAN = "run"
 MOST_BYTES = 1 << 16
 WAITS = 2.0
 
+# The line that ends the programs of a pane generation and starts it anew with uploaded start options, and the word of the answer.
+RESPAWN = LazyPattern(r"(?a)respawn ([1-9]) (\d{1,20}) ([0-9a-f]{16})")
+RESPAWNED = "respawned"
+
 # The reports about a request, after its name: it waits, it is refused, it has begun, or no pane came in time.
 READY, REFUSED, DONE, LATE = "ready", "refused", "done", "late"
 

@@ -14,6 +14,7 @@ from roam_live.common.errors import Fault
 from roam_live.common.tty import MOST
 from roam_live.frontend.borders import (Above, PaneSplit, above, box_of, growths, least_of, length_of, panes_of, size_for,
                                         splits_of)
+from roam_live.protocol.spawn_request import RESPAWNED
 
 TYPE_CHECKING = False
 if TYPE_CHECKING:
@@ -126,6 +127,25 @@ def kill(context: Context, flags: Flags) -> int:
         return 0
     for one in panes:
         close_pane(window.place, one.number)
+    context.changed()
+    return 0
+
+
+def respawn(context: Context, flags: Flags) -> int:
+    """End the programs of a pane, and start a command there, by default the earlier one."""
+    from roam_live.cli.windows import WindowsAsked
+
+    found = context.target(flags, "pane")
+    pane, window, session = context.of_pane(found), context.of_window(found), context.of_session(found)
+    if not flags.has("k"):
+        raise BadCommand(f"respawn pane failed: pane {session.name}:{window.index}.{pane.index} still active")
+    folder = folder_of(context, flags, found) if flags.value("c") else ""
+    begins = begins_of(flags.words, folder, "", variables_of(context, session, flags) if flags.words else {}, False)
+    asked = WindowsAsked(window.place)
+    name = asked.hand("window", begins)
+    asked.say(f"respawn {pane.number} {pane.generation} {name}")
+    if asked.until(RESPAWNED) != [RESPAWNED, str(pane.number)]:
+        raise BadCommand(f"respawn pane failed: pane {session.name}:{window.index}.{pane.index} is gone")
     context.changed()
     return 0
 
