@@ -3,12 +3,14 @@ import os
 import pathlib
 import stat
 import threading
+import types
 import unittest
 from unittest import mock
 
 from aids import Case
 from roam_live.cli.tmux import shells, tool, windows
 from roam_live.cli.tmux.context import Failed
+from roam_live.cli.tmux.model import Model
 from roam_live.cli.tmux.name_space import NameSpace, socket_path
 from roam_live.cli.tmux.variables import checksum
 from roam_live.commands.flags import BadCommand, Flags, parted
@@ -245,6 +247,59 @@ class Spaces(Case):
         os.chmod(folder, 0o770)
         with self.assertRaises(Fault):
             tool.linked_folder()
+
+
+class Adopts(Case):
+    """The ids of sessions and windows that others start and end."""
+
+    def setUp(self):
+        self.context = PlayedContext(self, {})
+        self.space, self.there = self.context.space, {}
+        self.patch_of(Model, "live", lambda model: {
+            name: (types.SimpleNamespace(name=name, last=lambda: 0, folder=f"/nowhere/{name}"),
+                   [types.SimpleNamespace(number=number, id=lambda server=server: server, title=lambda: "") for number, server in windows])
+            for name, windows in self.there.items()})
+
+    def known(self):
+        """Return the ids and indices that a new model has."""
+        return {session.name: (session.id, [(window.id, window.index) for window in session.windows()])
+                for session in Model(self.space).sessions}
+
+    def test_ids(self):
+        """Each gets an id once, and keeps it; a window of the same number with another server is another one."""
+        self.space.make()
+        self.there = {"work": [(1, "aa"), (2, "bb")]}
+        before = self.known()
+        self.assertEqual(before, {"work": (0, [(1, 0), (2, 1)])})
+        self.assertEqual(self.known(), before)
+        self.there["work"] = [(1, "aa"), (2, "cc"), (3, "dd")]
+        self.assertEqual(self.known(), {"work": (0, [(1, 0), (3, 1), (4, 2)])})
+        self.there["other"] = [(1, "ee")]
+        self.assertEqual(self.known()["other"], (5, [(6, 0)]))
+
+    def test_another(self):
+        """A session whose windows are all new is another one, though it has the name; without sessions, options are forgotten."""
+        self.space.make()
+        self.there = {"work": [(1, "aa")]}
+        self.known()
+        with self.space.changing() as state:
+            state["session_options"]["@x"], state["session_options"]["base-index"] = "1", "5"
+            state["sessions"]["work"]["name"] = "renamed"
+        self.assertEqual(self.known(), {"renamed": (0, [(1, 0)])})
+        self.there = {"work": [(1, "bb")]}
+        self.assertEqual(self.known(), {"work": (2, [(3, 5)])})
+        self.there = {}
+        self.assertEqual((self.known(), self.space.state()["session_options"]), ({}, {}))
+
+    def test_same_name(self):
+        """A session of mux whose name a renamed session has gets a name with its id."""
+        self.space.make()
+        self.there = {"one": [(1, "aa")]}
+        self.known()
+        with self.space.changing() as state:
+            state["sessions"]["one"]["name"] = "two"
+        self.there["two"] = [(1, "bb")]
+        self.assertEqual(sorted(self.known()), ["two", "two_2"])
 
 
 class Layouts(unittest.TestCase):

@@ -163,10 +163,10 @@ class Context:
 
     def refuse(self, command: Command, flags: Flags) -> None:
         """Refuse a command that roam lacks, as tmux does if its target is not there."""
-        if command.target == "client":
+        if command.target == "client" and not self.here().window:
             raise BadCommand("no current client")
         for flag in "st":
-            if command.target and flags.value(flag) is not None:
+            if command.target not in ("", "client") and flags.value(flag) is not None:
                 self.find(flags.value(flag), command.target)
         raise BadCommand(LACKING.format(command.names[0]))
 
