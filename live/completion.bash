@@ -32,6 +32,7 @@ _roam_mux_options() {
 }
 
 _roam_commands="bind bind-key choose-buffer choose-tree choose-window command-prompt copy-mode detach detach-client display display-message display-panes displayp kill-pane kill-window killp killw last last-pane last-window lastp list-keys lsk new-window neww next next-layout next-window nextl paste-buffer pasteb prev previous-window refresh refresh-client rename-window renamew resize-pane resizep run run-shell select-layout select-pane select-window selectl selectp selectw send send-keys send-prefix set set-option set-window-option setw source source-file split-window splitw suspend-client suspendc synchronize-panes toggle-mouse toggle-status unbind unbind-key"
+_roam_tmux_commands="attach-session capture-pane delete-buffer detach-client display-message has-session if-shell kill-pane kill-server kill-session kill-window last-pane last-window list-buffers list-clients list-commands list-panes list-sessions list-windows load-buffer move-window new-session new-window next-window paste-buffer previous-window rename-session rename-window resize-pane resize-window respawn-pane run-shell save-buffer select-layout select-pane select-window send-keys send-prefix set-buffer set-environment set-hook set-option set-window-option show-buffer show-environment show-hooks show-options show-window-options source-file split-window start-server swap-window wait-for"
 # Up to here.
 
 # The names of keys. C- and M- may precede others.
@@ -148,14 +149,15 @@ _roam() {
         return
     fi
     case ${COMP_WORDS[1]} in
+    tmux) words=$_roam_tmux_commands ;;
     serve) words="--dir --port --session --turns --normalize --help" ;;
     attach) words="--dir --port --session --client --keys --acts --terminals --wire --watch --turns --help" ;;
     show) words="--rows --cols --help" ;;
     rows) words="--normalize --help" ;;
     world) words="--help" ;;
-    *) words="mux serve attach show rows world --help --version" ;;
+    *) words="mux tmux serve attach show rows world --help --version" ;;
     esac
-    [ "$COMP_CWORD" -gt 1 ] || words="mux serve attach show rows world --help --version"
+    [ "$COMP_CWORD" -gt 1 ] || words="mux tmux serve attach show rows world --help --version"
     case ${COMP_WORDS[COMP_CWORD - 1]} in
     --dir) _roam_folder "$word" "" ;;
     --keys | --acts | --terminals) mapfile -t COMPREPLY < <(compgen -f -- "$word") ;;

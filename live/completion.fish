@@ -47,11 +47,13 @@ function __roam_first
 end
 
 complete -c roam -n '__roam_first' -f -a mux -d 'run terminal sessions'
+complete -c roam -n '__roam_first' -f -a tmux -d 'run a command of tmux'
 complete -c roam -n '__roam_first' -f -a serve -d 'serve a session'
 complete -c roam -n '__roam_first' -f -a attach -d 'run a client of a session'
 complete -c roam -n '__roam_first' -f -a show -d 'print the screen that bytes produce'
 complete -c roam -n '__roam_first' -f -a rows -d 'print the rows that scroll off'
 complete -c roam -n '__roam_first' -f -a world -d 'replay a script of network events'
+complete -c roam -n '__roam_program tmux' -f -a 'attach-session capture-pane delete-buffer detach-client display-message has-session if-shell kill-pane kill-server kill-session kill-window last-pane last-window list-buffers list-clients list-commands list-panes list-sessions list-windows load-buffer move-window new-session new-window next-window paste-buffer previous-window rename-session rename-window resize-pane resize-window respawn-pane run-shell save-buffer select-layout select-pane select-window send-keys send-prefix set-buffer set-environment set-hook set-option set-window-option show-buffer show-environment show-hooks show-options show-window-options source-file split-window start-server swap-window wait-for'
 complete -c roam -n '__roam_program serve' -F -l dir -r
 complete -c roam -n '__roam_program serve' -f -l port -x
 complete -c roam -n '__roam_program serve' -f -l session -x

@@ -72,10 +72,11 @@ class Completion(unittest.TestCase):
         page = pathlib.Path(TOOLS.parent, "docs/man/roam.1").read_text(encoding="utf-8")
         synopsis = page[page.index(".SH SYNOPSIS") : page.index(".SH DESCRIPTION")].replace("\\-", "-")
         commands = synopsis.split(".B roam ")[1:]
-        self.assertEqual(completed("_roam", "roam", ""), ["mux", *(one.split()[0] for one in commands), "--help", "--version"])
+        self.assertEqual(completed("_roam", "roam", ""), ["mux", "tmux", *(one.split()[0] for one in commands), "--help", "--version"])
         for one in commands:
             options = [word for word in one.replace('"', " ").split() if word.startswith("--")]
             self.assertCountEqual(completed("_roam", "roam", one.split()[0], ""), [*options, "--help"])
+        self.assertEqual(completed("_roam", "roam", "tmux", "split"), ["split-window"])
 
     def test_every_act(self):
         """Each act that roam(1) lists is offered."""
