@@ -92,6 +92,19 @@ class Commands(Case):
         for words, said in LISTS:
             self.assertEqual(self.said(words), said, words)
 
+    def test_file(self):
+        """Before a first session the options of a file are set; nothing else of it is done, and an invalid line stops no other."""
+        context = PlayedContext(self, {})
+        path = pathlib.Path(context.space.own, "conf")
+        path.write_text("nosuch\nset -g base-index 3\nbind x kill-server\nset -g status foo\nrun-shell 'touch /nowhere'\nsetenv -g A b\n"
+                        "# a remark\nsetw -g pane-base-index 1\n", encoding="utf-8")
+        tool.run(context, ["start-server"], str(path))
+        state = context.model().state
+        self.assertEqual((state["session_options"], state["window_options"], state["environment"]),
+                         ({"base-index": "3"}, {"pane-base-index": "1"}, {"A": "b"}))
+        tool.run(context, ["start-server"], str(path) + "x")
+        self.assertEqual(context.printed(), "")
+
     def test_limit(self):
         """Of the buffers whose names tmux chose, the oldest go first."""
         self.context.space.make()

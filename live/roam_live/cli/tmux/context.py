@@ -44,8 +44,6 @@ class Context:
         self.known: Model | None = None
         # The place of a command within a command, such as one of if-shell; None for the caller's own.
         self.place: Found | None = None
-        # True while a command may start the first session.
-        self.may_start = False
 
     # ---- the model
 

@@ -9,6 +9,7 @@ from roam_live.cli.tmux.numbers import number_of
 from roam_live.cli.tmux.windows import begins_of, default_size, demand_size, set_current, window_name
 from roam_live.commands.flags import BadCommand
 from roam_live.commands.targets import Found
+from roam_live.common.errors import Fault
 from roam_live.common.suppress import suppress
 from roam_live.protocol.spawn_request import FIRST
 from roam_live.session.local import LocalSession
@@ -95,7 +96,9 @@ def begin(context: Context, flags: Flags, name: str, size: tuple[int | None, int
         if title:
             context.change(lambda state: state["sessions"][place.name]["windows"][str(number)]["options"].update(
                 {"automatic-rename": "off"}))
-        demand_size(window.place, (height, width))
+        # Its command may have ended already.
+        with suppress(Fault):
+            demand_size(window.place, (height, width))
         set_current(context, made, window.number)
     return place.name
 

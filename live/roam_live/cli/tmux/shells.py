@@ -126,18 +126,22 @@ def words_in(text: str, environment: dict[str, str] | None = None) -> list[list[
     return [[told(word) for word in one.words] for one in found if one.words and not one.is_condition]
 
 
+def words_of_file(path: str) -> list[list[str]]:
+    """Return the commands of a file, each as its words; BadCommand if it can't be read."""
+    try:
+        with open(path, encoding="utf-8", errors="replace") as file:
+            return words_in(file.read(MOST_FILE))
+    except OSError as fault:
+        raise BadCommand(f"{path}: {reason(fault)}") from None
+
+
 def source(context: Context, flags: Flags) -> int:
     """Run the commands of files."""
     for path in flags.words:
         path = os.path.expanduser(path)
-        try:
-            with open(path, encoding="utf-8", errors="replace") as file:
-                text = file.read(MOST_FILE)
-        except OSError as fault:
-            if flags.has("q"):
-                continue
-            raise BadCommand(f"{path}: {reason(fault)}") from None
-        commands = [read_command(words) for words in words_in(text)]
+        if flags.has("q") and not os.path.exists(path):
+            continue
+        commands = [read_command(words) for words in words_of_file(path)]
         if not flags.has("n"):
             context.run(commands)
     return 0

@@ -26,6 +26,8 @@ VALUED, BARE = "cfLST", "2CDdlNquUvV"
 
 # The commands that tmux starts a server for.
 STARTERS = ("new-session", "start-server", "attach-session", "list-commands", "list-keys")
+# The commands of a file that -f names which have an effect.
+SETTING = ("set-option", "set-window-option", "set-environment", "set-hook")
 CONTROL_MODE = "tmux: roam does not support control mode (-C)"
 
 # The option of `roam tmux-path`, and the folder beside the name spaces in which a script finds a program named tmux, which is this tool.
@@ -83,7 +85,7 @@ def called(asked: Options) -> int:
         space = NameSpace(socket_path(asked.found.get("L", ""), asked.found.get("S", "") or inherited(asked)))
         space.enter()
         context = Context(space)
-        run(context, asked.words or ["new-session"])
+        run(context, asked.words or ["new-session"], asked.found.get("f", ""))
         sys.stdout.flush()
         return 0
     except Failed as ended:
@@ -127,8 +129,10 @@ def inherited(asked: Options) -> str:
         return ""
 
 
-def run(context: Context, words: Sequence[str]) -> None:
-    """Run a command line. As in tmux, an invalid command is told only where a server runs, and nothing is done then."""
+def run(context: Context, words: Sequence[str], file: str = "") -> None:
+    """Run a command line, before a first session the options in a file. As in tmux, an invalid command is told only where a server runs, and
+    nothing is done then.
+    """
     why: BadCommand | None = None
     commands = []
     try:
@@ -140,5 +144,22 @@ def run(context: Context, words: Sequence[str]) -> None:
         raise BadCommand((NO_SERVER if context.space.is_known() else NO_SOCKET).format(context.space.path))
     if why:
         raise why
-    context.may_start = starts
+    if starts and not context.is_served():
+        context.space.reset()
+        context.changed()
+        configure(context, file)
     context.run(commands)
+
+
+def configure(context: Context, file: str) -> None:
+    """Set the options and variables in a settings file. As in tmux, a missing file or an invalid command in it stops nothing."""
+    from roam_live.cli.tmux.shells import words_of_file
+
+    found: list[list[str]] = []
+    with suppress(BadCommand):
+        found = words_of_file(file) if file else []
+    for words in found:
+        with suppress(BadCommand):
+            command = read_command(words)
+            if command[0].names[0] in SETTING:
+                context.run([command])
