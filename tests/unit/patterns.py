@@ -114,7 +114,7 @@ KNOWN = {
     ("roam_live/common/tty.py", "RESET", "ESC"): BEGIN,
     ("roam_live/common/tty.py", "unwrapped", "ESC"): WRITES,
     ("roam_live/protocol/spawn_request.py", "RUN", "re"): LINES,
-    ("roam_live/protocol/spawn_request.py", "RESPAWN", "re"): LINES,
+    **{("roam_live/protocol/spawn_request.py", name, "re"): LINES for name in ("PIPE", "RESPAWN")},
     ("roam_live/host/socket_server.py", "SHOWS", "re"): LINES,
     ("roam_live/host/pane.py", "CLEARED", "ESC"): "clears a pane whose command starts anew, and reads nothing",
     ("roam_live/host/uploads.py", "STATUS", "re"): LINES,

@@ -236,6 +236,43 @@ class Kept(unittest.TestCase):
         self.assertEqual(os.readlink(f"/proc/{child['process']}/cwd"), os.path.realpath(self.folder))
         self.assertIsNone(process.poll())
 
+    def test_piped(self):
+        """A command gets a copy of a pane's output until that is ended; another one replaces it; one that does not read delays nothing."""
+        self.run_tool("--close", "--server", str(os.getpid()), str(self.folder), "cat")
+        self.told(b"1 1 1 23 80 1\nfocus 1\n")
+        pane = self.server.taken("p1")
+        host = socket.socket(socket.AF_UNIX, socket.SOCK_STREAM)
+        self.addCleanup(host.close)
+        host.settimeout(30)
+        host.connect(str(self.folder / "host"))
+        host.send(b"0 here test:/dev/pts/1 24 80 read-write\n")
+        told = []
+
+        def piped(command):
+            """Request a pipe, and return the answer."""
+            data, text = Begins([command]).packed(), b""
+            upload = f"0 run 0123456789abcdef window {len(data)}\n".encode() + data if command else b""
+            host.send(upload + f"0 pipe 1 1 {'0123456789abcdef' if command else 'none'}\n".encode())
+            while b"piped" not in text and (chunk := host.recv(4096)):
+                text += chunk
+            lines = text.decode().strip().split("\n")
+            told.extend(line for line in lines if "say " in line)
+            return next(line for line in lines if "piped" in line)
+
+        out = self.folder / "out"
+        self.assertEqual(piped(f"cat >> {out}"), "0 piped 1 begun")
+        pane.send(b"one\n")
+        self.assertTrue(comes(lambda: out.exists() and b"one" in out.read_bytes()))
+        self.assertEqual(piped("sleep 60"), "0 piped 1 begun")
+        for _ in range(40):
+            pane.send(b"x" * 4000 + b"\n")
+            self.assertTrue(self.shows(pane, b"xxx"))
+        pane.send(b"end of it\n")
+        self.assertTrue(self.shows(pane, b"end of it"))
+        self.assertEqual([piped(""), piped("")], ["0 piped 1 ended", "0 piped 1 none"])
+        self.assertNotIn(b"xxx", out.read_bytes())
+        self.assertRegex(told[0], r"^0 say pipe-pane: \d+ bytes were lost, since 'sleep 60' did not read them$")
+
     def test_folder(self):
         """A new pane's command starts in the folder of the focused pane's foreground program; the first one's in the server's."""
         (self.folder / "there").mkdir()

@@ -32,6 +32,7 @@ if TYPE_CHECKING:
     from collections.abc import Callable
 
     from roam_live.common.tty import Size
+    from roam_live.host.pane_pipe import PanePipe
     from roam_live.protocol.spawn_request import Begins
 
 # Seconds until an unanswered request to close a pane is repeated.
@@ -64,6 +65,8 @@ class WindowHost:
         # The panes of an earlier host that the server hasn't reported yet.
         self.left = set(self.state.panes)
         self.resizers: dict[int, PaneResizer] = {}
+        # The commands that get a copy of a pane's output.
+        self.pipes: dict[int, PanePipe] = {}
         # The panes without a report since the last subscription.
         self.untold: set[int] = set()
         # The reported state of the panes since the subscription, including modes of their programs.
@@ -154,6 +157,38 @@ class WindowHost:
             return False
         pane.respawn(begins.folder, begins.command())
         return True
+
+    def pipe(self, number: int, generation: int, command: str) -> str:
+        """Give a copy of a pane's output to a shell command, or to none any more. Return `begun`, `ended`, or nothing without an effect."""
+        pane, key = self.panes.get(number), self.key(number)
+        if not pane or pane.state.generation != generation:
+            return ""
+        fate = "ended" if self.end_pipe(number) else ""
+        pane.keeps = lambda data: self.rows.feed(key, data)
+        if command:
+            from roam_live.host.pane_pipe import PanePipe
+
+            try:
+                pipe = self.pipes[number] = PanePipe(self.loop, command, self.channel.notify, self.common.link.most_files)
+            except OSError as fault:
+                self.channel.notify(f"pipe-pane: {reason(fault)}")
+                return ""
+            self.common.hung.append(pipe.process)
+
+            def keep(data: bytes) -> None:
+                """Store output, and copy it to the command."""
+                self.rows.feed(key, data)
+                pipe.feed(data)
+
+            pane.keeps, fate = keep, "begun"
+        return fate
+
+    def end_pipe(self, number: int) -> bool:
+        """End the copying of a pane's output, and return True if there was one."""
+        pipe = self.pipes.pop(number, None)
+        if pipe:
+            pipe.close()
+        return pipe is not None
 
     def report_focus(self, before: int) -> None:
         """Send focus reports to the programs of the pane that lost the focus and the one that got it, if they requested them."""
@@ -303,6 +338,7 @@ class WindowHost:
         self.state.history = [other for other in self.state.history if other != number]
         if pane:
             del self.state.panes[number]
+            self.end_pipe(number)
             self.fronts.drop(number)
             self.resizers.pop(number).close()
             self.rows.drop(self.key(number))

@@ -3,7 +3,7 @@ from __future__ import annotations
 
 from roam_live.host.pending_spawns import HandedCommands
 from roam_live.protocol.host_lines import COMMANDS, SESSION
-from roam_live.protocol.spawn_request import RESPAWN, RESPAWNED
+from roam_live.protocol.spawn_request import PIPE, PIPED, RESPAWN, RESPAWNED
 from roam_live.protocol.zoom_record import OVER
 
 TYPE_CHECKING = False
@@ -112,8 +112,13 @@ class WindowChannel:
     # ---- programs, and notices
 
     def take_respawn(self, peer: HostPeer, line: str) -> bool:
-        """Take a request to start a pane anew, and return True if it is one."""
-        asked = RESPAWN.fullmatch(line)
+        """Take a request to start a pane anew, or to copy its output to a command, and return True if it is one."""
+        asked, pipes = RESPAWN.fullmatch(line), PIPE.fullmatch(line)
+        if pipes:
+            command = self.handed.for_window(pipes[3])
+            fate = self.host.pipe(int(pipes[1]), int(pipes[2]), command.words[0] if command and command.words else "") if self.host else ""
+            self.send(peer, [f"{PIPED} {pipes[1]} {fate or 'none'}"])
+            return True
         if not asked:
             return False
         begins = self.handed.for_window(asked[3])

@@ -18,6 +18,11 @@ WAITS = 2.0
 RESPAWN = LazyPattern(r"(?a)respawn ([1-9]) (\d{1,20}) ([0-9a-f]{16})")
 RESPAWNED = "respawned"
 
+# The line that gives a copy of a pane's output to an uploaded shell command, or to none any more, and the word of the answer. Behind the pane
+# the answer has `begun`, `ended` if it had such a command before and has none now, or `none` if there is nothing to do.
+PIPE = LazyPattern(r"(?a)pipe ([1-9]) (\d{1,20}) ([0-9a-f]{16}|none)")
+PIPED = "piped"
+
 # The reports about a request, after its name: it waits, it is refused, it has begun, or no pane came in time.
 READY, REFUSED, DONE, LATE = "ready", "refused", "done", "late"
 

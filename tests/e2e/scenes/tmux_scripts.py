@@ -12,7 +12,6 @@ SCRIPTS = pathlib.Path(__file__).resolve().parents[1] / "tmux_scripts"
 # The scripts that need a command which roam lacks, and what it says.
 LACKING = {
     "select_layout": "main-vertical: roam does not move panes; it only sets their sizes",
-    "pipe_pane": "pipe-pane: roam does not support this tmux command",
     "swap_break_join": "swap-pane: roam does not support this tmux command",
 }
 LIMIT = 60
@@ -61,4 +60,4 @@ def tmux_scripts(folder):
             check(f"{script.stem} is the same over tmux", by_roam == by_tmux, (by_roam, by_tmux))
         left = tool("ls")
         check("and leaves no session", left[0] == 1 and not left[1], left)
-    check(f"{len(same)} of {len(list(SCRIPTS.glob('*.sh')))} scripts are the same", len(same) >= 23, same)
+    check(f"{len(same)} of {len(list(SCRIPTS.glob('*.sh')))} scripts are the same", len(same) >= 24, same)

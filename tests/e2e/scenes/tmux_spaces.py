@@ -66,7 +66,7 @@ def tmux_hostile(folder):
     tool(*where, "rename-session", text.replace("#", "##"))
     tool(*where, "set-buffer", "-b", text, text)
     for name in ("pane_title", "pane_current_path", "window_name", "session_name"):
-        for words in (("run-shell", f"echo #{{{name}}} '#{{{name}}}'"), ("if-shell", f"echo \"#{{{name}}}\"", "display x"),
+        for words in (("run-shell", f"echo #{{{name}}} '#{{{name}}}'"), ("if-shell", f"echo \"#{{{name}}}\"", "display x"), ("pipe-pane", f"echo #{{{name}}} '#{{{name}}}'"),
                       ("display", "-p", f"#(echo #{{{name}}})"), ("display", "-p", f"#{{E:{name}}}"), ("display", "-p", f"#{{T:{name}}}"),
                       ("set", "-gF", "@x", f"#{{{name}}}", ";", "run-shell", "echo #{@x}", ";", "display", "-p", "#{E:@x}#(echo #{@x})")):
             told = tool(*where, *words)

@@ -14,14 +14,13 @@ from roam_live.common.errors import Fault
 from roam_live.common.tty import MOST
 from roam_live.frontend.borders import (Above, PaneSplit, above, box_of, growths, least_of, length_of, panes_of, size_for,
                                         splits_of)
-from roam_live.protocol.spawn_request import RESPAWNED
+from roam_live.protocol.spawn_request import PIPED, RESPAWNED, Begins
 
 TYPE_CHECKING = False
 if TYPE_CHECKING:
     from roam_live.cli.tmux.model import WindowView
     from roam_live.commands.flags import Flags
     from roam_live.protocol.panes import Rect
-    from roam_live.protocol.spawn_request import Begins
 
 NO_SPACE = "no space for new pane"
 NOT_BEFORE = "split-window: roam opens a pane only right of another or below it"
@@ -147,6 +146,27 @@ def respawn(context: Context, flags: Flags) -> int:
     if asked.until(RESPAWNED) != [RESPAWNED, str(pane.number)]:
         raise BadCommand(f"respawn pane failed: pane {session.name}:{window.index}.{pane.index} is gone")
     context.changed()
+    return 0
+
+
+def pipe(context: Context, flags: Flags) -> int:
+    """Give a copy of a pane's output to a shell command from now on, or to none any more."""
+    from roam_live.cli.windows import WindowsAsked
+
+    found = context.target(flags, "pane")
+    pane, window = context.of_pane(found), context.of_window(found)
+    if flags.has("I"):
+        raise BadCommand("pipe-pane: roam types no output of a command into a pane")
+    command = context.expand(flags.words[0], found, has_time=True, is_shell=True) if flags.words else ""
+    asked, place = WindowsAsked(window.place), f"{pane.number} {pane.generation}"
+    if flags.has("o") or not command:
+        asked.say(f"pipe {place} none")
+        if asked.until(PIPED)[2:] == ["ended"] or not command:
+            return 0
+    name = asked.hand("window", Begins([command]))
+    asked.say(f"pipe {place} {name}")
+    if asked.until(PIPED)[2:] != ["begun"]:
+        raise BadCommand("pipe-pane: the command was not started")
     return 0
 
 

@@ -179,7 +179,7 @@ class Variables(Scope):
             "pane_start_path": lambda: one.note["folder"] or self.session and self.session.note["path"] or "",
             "pane_start_command": lambda: started(one.note["command"]), "pane_in_mode": lambda: 0, "pane_mode": lambda: "",
             "pane_dead": lambda: bool(one.note["has_ended"]), "pane_dead_status": lambda: "", "pane_dead_signal": lambda: "",
-            "pane_dead_time": lambda: "", "pane_synchronized": lambda: self.option("synchronize-panes") == "1", "pane_pipe": lambda: 0,
+            "pane_dead_time": lambda: "", "pane_synchronized": lambda: self.option("synchronize-panes") == "1",
             "pane_format": lambda: 1, "pane_input_off": lambda: 0, "pane_marked": lambda: 0, "pane_marked_set": lambda: 0,
             "pane_search_string": lambda: "", "pane_fg": lambda: "default", "pane_bg": lambda: "default", "pane_tabs": lambda: "",
             "history_size": lambda: self.rows_stored(), "history_limit": lambda: self.option("history-limit") or "",
