@@ -29,7 +29,8 @@ WRONG = (
     ("%2.1", "window", "can't find window: %2"), ("=", "window", "no mouse target"), ("{mouse}", "pane", "no mouse target"),
     ("{marked}", "session", "no marked target"), ("~", "window", "no marked target"), ("!", "session", "can't find session: !"),
     ("+", "session", "can't find session: +"), ("%", "window", "can't find pane: %"), (":1.!", "window", "can't find pane: !"),
-    (":1.{last}", "pane", "can't find pane: !"), ("0", "session", "can't find session: 0"), (":1.{down-of}", "pane", "can't find pane: {down-of}"),
+    (":1.{last}", "pane", "can't find pane: !"), ("0", "session", "can't find session: 0"),
+    (":1.{down-of}", "pane", "can't find pane: {down-of}"),
     ("b:1", "pane", "can't find session: b"),
 )
 

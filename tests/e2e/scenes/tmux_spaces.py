@@ -66,7 +66,8 @@ def tmux_hostile(folder):
     tool(*where, "rename-session", text.replace("#", "##"))
     tool(*where, "set-buffer", "-b", text, text)
     for name in ("pane_title", "pane_current_path", "window_name", "session_name"):
-        for words in (("run-shell", f"echo #{{{name}}} '#{{{name}}}'"), ("if-shell", f"echo \"#{{{name}}}\"", "display x"), ("pipe-pane", f"echo #{{{name}}} '#{{{name}}}'"),
+        for words in (("run-shell", f"echo #{{{name}}} '#{{{name}}}'"), ("if-shell", f"echo \"#{{{name}}}\"", "display x"),
+                      ("pipe-pane", f"echo #{{{name}}} '#{{{name}}}'"),
                       ("display", "-p", f"#(echo #{{{name}}})"), ("display", "-p", f"#{{E:{name}}}"), ("display", "-p", f"#{{T:{name}}}"),
                       ("set", "-gF", "@x", f"#{{{name}}}", ";", "run-shell", "echo #{@x}", ";", "display", "-p", "#{E:@x}#(echo #{@x})")):
             told = tool(*where, *words)
@@ -79,7 +80,8 @@ def tmux_hostile(folder):
 def tmux_attached(folder):
     """A terminal attaches, and follows the windows that a command in its pane opens and selects."""
     own = tool("--tmux-path")[1].strip()
-    outer = Outer([f"{own}/tmux", "-L", "near", "new-session", "-s", "s", "-n", "first"], environment={"PATH": f"{own}:{os.environ['PATH']}"})
+    first = [f"{own}/tmux", "-L", "near", "new-session", "-s", "s", "-n", "first"]
+    outer = Outer(first, environment={"PATH": f"{own}:{os.environ['PATH']}"})
     where = ("-L", "near")
     check("new-session attaches this terminal", comes(lambda: "1:first*" in outer.rows()[-1]), outer.rows)
     told = tool(*where, "list-clients", "-F", "#{client_session} #{client_width}")

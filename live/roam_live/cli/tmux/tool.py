@@ -130,8 +130,8 @@ def inherited(asked: Options) -> str:
 
 
 def run(context: Context, words: Sequence[str], file: str = "") -> None:
-    """Run a command line, before a first session the options in a file. As in tmux, an invalid command is told only where a server runs, and
-    nothing is done then.
+    """Run a command line, before a first session the options in a file. As in tmux, an invalid command is reported only if a server runs,
+    and nothing is done then.
     """
     why: BadCommand | None = None
     commands = []
