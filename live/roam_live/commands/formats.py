@@ -89,9 +89,7 @@ def expanded(text: str, scope: Scope, has_time: bool = False, is_shell: bool = F
 
 
 def with_marks(text: str, scope: Scope, moment: time.struct_time | None = None) -> str:
-    """Return a format with its values and a time, in which LITERAL stands for the `#` of values, so that styles are only those of the user's
-    text.
-    """
+    """Return a format with its values and a time. LITERAL stands for the `#` of values, so styles are only those of the user's text."""
     return Expansion(scope, False, moment).text(text, moment is not None)
 
 

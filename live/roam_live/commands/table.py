@@ -105,7 +105,7 @@ TABLE = (
             "go to the next window", "C-b n", "", wish("go next")),
     Command(("paste-buffer", "pasteb"), "db:prs:t:", (0, 0), "pane", SESSION, "buffers.paste",
             "paste the newest buffer", "mux buffer paste NAME", "p", wish("paste")),
-    Command(("pipe-pane", "pipep"), "IOot:", (0, 1), "pane", SESSION, "panes.pipe", "send the output of a pane to a program", "mux log NAME"),
+    Command(("pipe-pane", "pipep"), "IOot:", (0, 1), "pane", SESSION, "panes.pipe", "send a pane's output to a program", "mux log NAME"),
     Command(("previous-layout", "prevl"), "t:", (0, 0), "window", SESSION, "", "use the previous layout"),
     Command(("previous-window", "prev"), "at:", (0, 0), "session", SESSION, "windows.previous",
             "go to the previous window", "C-b p", "", wish("go previous")),

@@ -62,8 +62,8 @@ class Found(NamedFields):
 
 
 class Parts(NamedFields):
-    """The parts of a target, each None if it is missing: the session, the window and the pane; flags for exact names of the first two, for a
-    window that may not be a session, and for a pane that may not be a window.
+    """The parts of a target, each None if it is missing: the session, the window and the pane. Flags: for exact names of the first two, for
+    a window that may not be a session, and for a pane that may not be a window.
     """
 
     session: str | None
