@@ -40,6 +40,18 @@ class Folders(Case):
                 self.assertEqual(self.refused(), f"{path} can be written by other users")
                 os.chmod(path, before)
 
+    def test_compiled(self):
+        """Compiled modules are code too: a file or a folder of them that others may write is refused, and one that has just gone is none."""
+        folder = f"{self.folder}/roam_live/__pycache__"
+        for path in (f"{folder}/a.pyc", folder):
+            before = os.stat(path).st_mode
+            os.chmod(path, 0o777)
+            self.assertEqual(self.refused(), f"{path} can be written by other users")
+            os.chmod(path, before)
+        found = [*tools_folder.files_in(self.folder, has_compiled=True), f"{folder}/a.pyc.4711"]
+        with mock.patch.object(tools_folder, "files_in", lambda *words, **more: found):
+            demand_safe_tools(self.folder)
+
     def test_others(self):
         """A file of another user, a link, or a folder without a host is refused."""
         with mock.patch.object(tools_folder.os, "getuid", lambda: 4242):
@@ -56,7 +68,9 @@ class Folders(Case):
 
     def test_many(self):
         """A folder with too many files is refused, so that none is walked for long."""
-        with mock.patch.object(tools_folder, "MOST_FILES", 3):
+        with mock.patch.object(tools_folder, "MOST_FILES", 3), self.assertRaisesRegex(Fault, "more than 3 files"):
+            build_sum(self.folder, f"{self.folder}/roam")
+        with mock.patch.object(tools_folder, "MOST_COMPILED", 3):
             self.assertIn("more than 3 files", self.refused())
 
     def test_sum(self):

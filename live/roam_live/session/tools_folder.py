@@ -5,6 +5,7 @@ import os
 import stat
 
 from roam_live.common.errors import Fault
+from roam_live.common.suppress import suppress
 
 TYPE_CHECKING = False
 if TYPE_CHECKING:
@@ -14,8 +15,8 @@ if TYPE_CHECKING:
 HOST, HOLDER, MUX = "pane_shells", "holder", "mux"
 COMPILED = "__pycache__"
 
-# The most files of a folder of tools. A larger one is none.
-MOST_FILES = 2000
+# The most files of a folder of tools, without compiled modules and with them. A larger one is none.
+MOST_FILES, MOST_COMPILED = 2000, 20_000
 
 # The bits of a mode by which others than the owner may write.
 OTHERS_WRITE = stat.S_IWGRP | stat.S_IWOTH
@@ -28,14 +29,15 @@ def parents(path: str) -> Iterator[str]:
         yield path
 
 
-def files_in(folder: str) -> list[str]:
-    """Return the folders and files below a folder in order, without compiled modules; Fault if there are too many."""
+def files_in(folder: str, has_compiled: bool = False) -> list[str]:
+    """Return the folders and files below a folder in order, on request with compiled modules; Fault if there are too many."""
     found: list[str] = []
+    most = MOST_COMPILED if has_compiled else MOST_FILES
     for place, folders, files in os.walk(folder):
-        folders[:] = sorted(one for one in folders if one != COMPILED)
+        folders[:] = sorted(one for one in folders if has_compiled or one != COMPILED)
         found += [os.path.join(place, name) for name in (*folders, *sorted(files))]
-        if len(found) > MOST_FILES:
-            raise Fault(f"{folder} is no folder of roam's tools: it has more than {MOST_FILES} files")
+        if len(found) > most:
+            raise Fault(f"{folder} is no folder of roam's tools: it has more than {most} files")
     return found
 
 
@@ -56,14 +58,16 @@ def demand_safe(path: str) -> None:
 
 
 def demand_safe_tools(folder: str) -> None:
-    """Refuse a folder of tools that another user than root and this one may change."""
+    """Refuse a folder of tools that another user than root and this one may change. Python runs its compiled modules unread."""
     demand_safe(folder)
     if not os.path.isfile(os.path.join(folder, HOST)):
         raise Fault(f"{folder} is no folder of roam's tools")
-    for path in (folder, *files_in(folder)):
-        found = os.lstat(path)
-        if found.st_uid not in (0, os.getuid()) or found.st_mode & OTHERS_WRITE or stat.S_ISLNK(found.st_mode):
-            demand_safe(path)
+    for path in (folder, *files_in(folder, has_compiled=True)):
+        # Python replaces compiled modules at any time.
+        with suppress(FileNotFoundError):
+            found = os.lstat(path)
+            if found.st_uid not in (0, os.getuid()) or found.st_mode & OTHERS_WRITE or stat.S_ISLNK(found.st_mode):
+                demand_safe(path)
 
 
 def build_sum(folder: str, program: str) -> str:
