@@ -1,5 +1,6 @@
 """Formats as tmux 3.3a expands them, and hostile values in them."""
 import unittest
+from unittest import mock
 
 from aids import Case
 from roam_live.commands.formats import LITERAL, Scope, expanded, with_marks
@@ -72,6 +73,15 @@ class Formats(Case):
 
 class Hostile(Case):
     """Values of programs and other machines in formats."""
+
+    def test_odd(self):
+        """A value that is no valid number or expression where a format wants one ends no command: it matches nothing."""
+        for value, text, said in (("²", "#{a:#{title}}", ""), ("a{4294967295}", "#{m/r:#{title},a}", "0"),
+                                  ("(" * 2000, "#{m/r:#{title},a}", "0"), ("a{4294967295}", "#{s/#{title}/b/:pane_id}", "%7"),
+                                  ("\\²", "#{s/7/#{title}/:pane_id}", "%²"),
+                                  ("1e308", "#{e|*|:#{title},1e308}", ""), ("1e308", "#{e|*|f:#{title},1e308}", "inf")):
+            with mock.patch(f"{__name__}.HOSTILE", value):
+                self.assertEqual(expanded(text, Chosen("title")), said, text)
 
     def test_again(self):
         """A value that is expanded again runs nothing, has no value of its own, and gives no style."""

@@ -10,6 +10,9 @@ from roam_live.common.cell_widths import width_of
 # The most columns of a padded value.
 LONGEST = 1 << 16
 
+# What Python raises for an expression that is invalid, repeats too often or nests too deep.
+INVALID = (re.error, OverflowError, RecursionError)
+
 # Seconds of a day, of the days for which a time has its weekday, and of a year.
 DAY, MONTH, YEAR = 86400, 28 * 86400, 365 * 86400
 
@@ -24,11 +27,11 @@ def substituted(value: str, pattern: str, other: str, flags: list[str]) -> str:
     """Return a value with each match of an extended regular expression replaced; unchanged if that is invalid."""
     def put(found: re.Match[str]) -> str:
         return re.sub(r"\\(.)", lambda part: (found[int(part[1])] or "" if int(part[1]) <= (found.re.groups) else "")
-                      if part[1].isdigit() else part[1], other, flags=re.DOTALL)
+                      if part[1] in "0123456789" else part[1], other, flags=re.DOTALL)
 
     try:
         return re.sub(pattern, put, value, flags=re.IGNORECASE if flags and "i" in flags[0] else 0)
-    except re.error:
+    except INVALID:
         return value
 
 
@@ -39,7 +42,7 @@ def matched(pattern: str, text: str, flags: str) -> bool:
         if "r" in flags:
             return re.search(pattern, text, how) is not None
         return re.match(fnmatch.translate(pattern), text, how) is not None
-    except re.error:
+    except INVALID:
         return False
 
 

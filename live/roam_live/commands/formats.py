@@ -234,7 +234,7 @@ class Expansion:
             return copy
         if "a" in named:
             code = self.text(copy)
-            return chr(int(code)) if code.isdigit() and 32 <= int(code[:9]) <= 126 else ""
+            return chr(int(code)) if code.isascii() and code.isdigit() and 32 <= int(code[:9]) <= 126 else ""
         loop = next((kind for kind in "SWPL" if kind in named), "")
         if loop:
             return self.loop(loop, copy)
@@ -359,9 +359,10 @@ class Expansion:
             numbers = [float(left), float(right)] if is_real else [float(int(float(left))), float(int(float(right)))]
             one, two = numbers
             result = CALCULATED[words[0]](one, two)
+            result = float(result) if is_real else int(result)
         except (ValueError, ZeroDivisionError, OverflowError, KeyError, IndexError):
             return ""
-        return f"{float(result):.{min(max(digits, 0), 100)}f}" if is_real else f"{int(result):.{min(max(digits, 0), 100)}f}"
+        return f"{result:.{min(max(digits, 0), 100)}f}"
 
 
 # ---- what a format has
