@@ -3,6 +3,7 @@ import unittest
 from unittest import mock
 
 from aids import Case
+from roam_live.cli.tmux import shows
 from roam_live.commands.formats import LITERAL, Scope, expanded, with_marks
 from tmux_played import PlayedContext
 
@@ -82,6 +83,14 @@ class Hostile(Case):
                                   ("1e308", "#{e|*|:#{title},1e308}", ""), ("1e308", "#{e|*|f:#{title},1e308}", "inf")):
             with mock.patch(f"{__name__}.HOSTILE", value):
                 self.assertEqual(expanded(text, Chosen("title")), said, text)
+
+    def test_all(self):
+        """The list of all variables has no control of a folder or a title either."""
+        context = PlayedContext(self, {"a": [("one", [(1, 1, 30, 100)])]})
+        context.known.sessions[0].note["path"] = "/w\x1b]0;x\x07#(id)"
+        with mock.patch.object(shows, "known", lambda values: ["pane_id", "session_path"]):
+            context.run_words([["display-message", "-a", "-t", "a"]])
+        self.assertEqual(context.printed(), "pane_id=%0\nsession_path=/w]0;x#(id)\n")
 
     def test_again(self):
         """A value that is expanded again runs nothing, has no value of its own, and gives no style."""

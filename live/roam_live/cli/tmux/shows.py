@@ -119,8 +119,8 @@ def message(context: Context, flags: Flags) -> int:
         found = Found()
     values = context.variables(found)
     if flags.has("a"):
-        for name, value in sorted(known(values).items()):
-            context.write(f"{name}={value}")
+        for name in known(values):
+            context.write(f"{name}={expanded(f'#{{{name}}}', values)}")
         return 0
     text = expanded(template, values, has_time=True)
     if flags.has("p"):
@@ -128,6 +128,6 @@ def message(context: Context, flags: Flags) -> int:
     return 0
 
 
-def known(values: Variables) -> dict[str, str]:
-    """Return all variables with their values."""
-    return {name: values.variable(name) or "" for table in values.tables() for name in table}
+def known(values: Variables) -> list[str]:
+    """Return the names of all variables."""
+    return sorted(name for table in values.tables() for name in table)
