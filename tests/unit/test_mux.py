@@ -424,6 +424,27 @@ class Far(Mux):
         with mock.patch.object(attaching, "JUST_ENDED_SECONDS", 0.0):
             self.assertEqual((attaching.enter_far(asked), calls), (1, [True]))
 
+    def test_ends_meanwhile(self):
+        """If the relay ends while a terminal begins to attach by it, another one is started; a client that fails otherwise is reported."""
+        relays = self.patch_of(RemoteSession, "launch_relay", side_effect=lambda *words: self.runs.add("main") or 0)
+
+        def demand_client(session):
+            if not relays.called:
+                if is_ending:
+                    self.runs.clear()
+                raise Fault("the client process did not start")
+
+        self.patch_of(attaching, "RELAY_ENDS_SECONDS", 0.0)
+        self.patch_each("demand_client", demand_client)
+        self.patch_each("find", lambda session: bool(self.runs))
+        self.patch_each("runs", lambda session, role=None: bool(self.runs))
+        for is_ending in (False, True):
+            self.runs.add("main")
+            if is_ending:
+                self.assertEqual((self.mux("ssh", "there"), relays.call_count), (7, 1))
+            else:
+                self.refuses("the client process did not start", "ssh", "there")
+
     def test_ssh(self):
         """A relay is started if none runs, and a relay without an answer gives the exit status."""
         clients = self.patch_of(RemoteSession, "launch_relay", return_value=0)

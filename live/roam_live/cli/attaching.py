@@ -27,6 +27,13 @@ if TYPE_CHECKING:
 # The end of a remote session may be reported so many seconds after an attach by the relay that exists.
 JUST_ENDED_SECONDS = 3.0
 
+# Seconds for a relay to end once its files are gone.
+RELAY_ENDS_SECONDS = 1.0
+
+
+class RelayEnded(Fault):
+    """The existing relay of a remote session ended before its window was ready."""
+
 
 def launched(session: SessionFolder) -> bool:
     """Check that a session runs with its pty host, and return False if it has to be started. The caller has its lock."""
@@ -170,7 +177,10 @@ def enter_far(asked: Asked) -> int:
     asked.name = target.name
     unmet: list[float] = []
     begun = time.monotonic()
-    status = follow_far(asked, target.window, lambda: unmet.append(time.monotonic()))
+    try:
+        status = follow_far(asked, target.window, lambda: unmet.append(time.monotonic()))
+    except RelayEnded:
+        return follow_far(asked, target.window)
     # The existing relay led to a session that had just ended. The user wants the next one.
     return follow_far(asked, target.window) if unmet and unmet[0] < begun + JUST_ENDED_SECONDS else status
 
@@ -189,10 +199,23 @@ def follow_far(asked: Asked, number: int | None, ends_unmet: Callable[[], object
             if status:
                 return status
             session.await_windows(number, ssh.TOLD_WAIT)
-        window = session.window(number)
-        window.demand_client()
+        try:
+            window = session.window(number)
+            window.demand_client()
+        except Fault as fault:
+            if has_begun or not ends_soon(session):
+                raise
+            raise RelayEnded(str(fault)) from fault
     is_first: Callable[[Places | None], bool] = lambda places: has_begun and ssh.is_first_client(places)
     return follow(window, False, asked.predict, is_first, (lambda: None) if has_begun else ends_unmet)
+
+
+def ends_soon(session: SessionFolder) -> bool:
+    """Return True if the relay of a remote session has ended, or does soon."""
+    end = time.monotonic() + RELAY_ENDS_SECONDS
+    while session.runs() and time.monotonic() < end:
+        time.sleep(0.01)
+    return not session.runs()
 
 
 def carry(asked: Asked) -> int:
