@@ -135,7 +135,7 @@ KNOWN = {
         ("numbers.py", "NUMBER"), ("options.py", "put_array"), ("panes.py", "acts_of_words"), ("panes.py", "row_word"))},
     ("roam_live/cli/tmux/options.py", "show_environment", "re"): "quotes a value for a shell that the user asks for",
     **{("roam_live/commands/format_modifiers.py", place, "re"): COMMANDS for place in (
-        "matched", "number_of", "substituted", "substituted.put")},
+        "INVALID", "matched", "number_of", "substituted", "substituted.put")},
     **{("roam_live/commands/formats.py", place, "re"): SETTINGS for place in ("COMMAND", "TIME")},
     ("roam_live/commands/formats.py", "HARMLESS", "re"): "takes from a value all that a shell may interpret",
     **{("roam_live/commands/options.py", place, "re"): COMMANDS for place in (

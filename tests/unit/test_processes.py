@@ -142,16 +142,17 @@ class Read(Based):
         self.assertTrue(line_of(session, one, None).endswith("1 pane   ? terminals, its pty host does not answer"))
 
     def test_lacking(self):
-        """A line of `ls` shows a missing or stopped pty host, but not for a remote session."""
+        """A line of `ls` shows a missing or stopped pty host, but not for a remote session, nor if one answers that isn't noted."""
         self.note(server=OWN)
         self.assertTrue(line_of(self.session(), None, None).endswith(" ? terminals, its pty host is not running"))
+        self.assertTrue(line_of(self.session()).endswith(" 0 terminals"))
         host = self.process()
         self.note(server=OWN, host=[host.pid, begun(host.pid)])
         self.assertTrue(line_of(self.session()).endswith(" 0 terminals"))
         host.send_signal(signal.SIGSTOP)
         os.waitid(os.P_PID, host.pid, os.WSTOPPED | os.WNOWAIT)
         self.assertTrue(line_of(self.session(), None, None).endswith(" ? terminals, the pty host is stopped"))
-        self.assertEqual(RemoteSession(self.base / "ssh:a:b").lacking(), "")
+        self.assertEqual(RemoteSession(self.base / "ssh:a:b").lacking(False), "")
 
     def test_command_found(self):
         """One with a lost note is found by its sockets."""
