@@ -264,14 +264,45 @@ class Kept(unittest.TestCase):
         pane.send(b"one\n")
         self.assertTrue(comes(lambda: out.exists() and b"one" in out.read_bytes()))
         self.assertEqual(piped("sleep 60"), "0 piped 1 begun")
-        for _ in range(40):
-            pane.send(b"x" * 4000 + b"\n")
-            self.assertTrue(self.shows(pane, b"xxx"))
+        for count in range(40):
+            # More than 64 kB of unread input would be dropped.
+            pane.send(b"x" * 4000 + b"%03d\n" % count)
+            self.assertTrue(self.shows(pane, b"xxx%03d" % count))
         pane.send(b"end of it\n")
         self.assertTrue(self.shows(pane, b"end of it"))
         self.assertEqual([piped(""), piped("")], ["0 piped 1 ended", "0 piped 1 none"])
         self.assertNotIn(b"xxx", out.read_bytes())
         self.assertRegex(told[0], r"^0 say pipe-pane: \d+ bytes were lost, since 'sleep 60' did not read them$")
+
+    def test_piped_on(self):
+        """A command that gets a copy of the output goes on with the next host, after a kill of this one, until it is ended."""
+        process = self.run_tool("--server", str(os.getpid()), str(self.folder), "cat")
+        self.told(b"1 1 1 23 80 1\nfocus 1\n")
+        pane, out = self.server.taken("p1"), self.folder / "out"
+        data = Begins([f"cat >> {out}"]).packed()
+
+        def asked(text, answer):
+            """Send the host a request, and return True if it answers so."""
+            with socket.socket(socket.AF_UNIX, socket.SOCK_STREAM) as asker:
+                asker.settimeout(30)
+                asker.connect(str(self.folder / "host"))
+                asker.send(text)
+                told = b""
+                while answer not in told and (chunk := asker.recv(4096)):
+                    told += chunk
+                return answer in told
+
+        self.assertTrue(asked(b"0 run 0123456789abcdef window %d\n%s0 pipe 1 1 0123456789abcdef\n" % (len(data), data), b"piped 1 begun"))
+        pane.send(b"one\n")
+        self.assertTrue(comes(lambda: out.exists() and b"one" in out.read_bytes()))
+        os.kill(process.pid, signal.SIGKILL)
+        process.wait()
+        self.told(b"1 1 1 23 80 1\nfocus 1\n")
+        self.assertTrue(asked(b"0 clients\n", b"clients 0"))
+        pane.send(b"two\n")
+        self.assertTrue(comes(lambda: b"two" in out.read_bytes()))
+        self.assertTrue(asked(b"0 pipe 1 1 none\n", b"piped 1 ended"))
+        self.assertTrue(asked(b"0 pipe 1 1 none\n", b"piped 1 none"))
 
     def test_folder(self):
         """A new pane's command starts in the folder of the focused pane's foreground program; the first one's in the server's."""
@@ -303,7 +334,7 @@ class Kept(unittest.TestCase):
             before = self.host()
             pane.send(b"before%d " % count)
             if count == 3:
-                # Without the state a program is known by its environment.
+                # The file is for other tools; the state is at the holder.
                 (self.folder / "host.json").write_text("{", encoding="ascii")
             os.kill(before, signal.SIGKILL)
             if before == process.pid:
@@ -313,6 +344,12 @@ class Kept(unittest.TestCase):
             pane.send(b"after%d." % count)
             self.assertTrue(self.shows(pane, b"before%d between%d after%d." % (count, count, count)), count)
             self.assertTrue(comes(lambda: self.host() not in (0, before)))
+        # A host that answers handles signals.
+        with socket.socket(socket.AF_UNIX, socket.SOCK_STREAM) as asker:
+            asker.settimeout(30)
+            asker.connect(str(self.folder / "host"))
+            asker.send(b"0 clients\n")
+            self.assertEqual(asker.recv(99), b"0 clients 0\n")
         subscriber.close()
         os.kill(self.host(), signal.SIGTERM)
         self.assertEqual(pane.recv(16), b"")

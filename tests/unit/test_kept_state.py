@@ -117,16 +117,35 @@ class States(Case):
                 first.write()
         self.assertEqual(json.loads((self.folder / "host.json").read_text(encoding="utf-8"))["last_window"], 3)
         self.assertEqual(self.made(first).state.last_window, 5)
-        self.assertEqual(memfds() - before, 1)
+        self.assertEqual(memfds() - before, 0)
 
     def test_no_memory(self):
-        """Without memory for the state another host reads the file."""
+        """Without memory or a descriptor for the state another host reads the file, also if an older state was there."""
         first = self.made()
         first.write()
         first.state.last_window = 4
-        with mock.patch("roam_live.host.kept_state.memfd_of", side_effect=OSError(12, "Cannot allocate memory")):
+        with mock.patch("os.pwrite", side_effect=OSError(27, "File too large")):
             first.write()
-        self.assertNotIn("state", first.link.own)
+        self.assertEqual((first.held, self.made(first).state.last_window), ("", 4))
+        with mock.patch("roam_live.host.kept_state.memfd_of", side_effect=OSError(24, "Too many open files")):
+            second = self.made()
+        second.state.last_window = 5
+        second.write()
+        self.assertEqual((second.held, self.made(second).state.last_window), ("", 5))
+
+    def test_torn(self):
+        """Of two states the newest whole one counts: a write that is cut at any byte leaves the one before."""
+        first = self.made()
+        for number in (3, 4, 5):
+            first.state.last_window = number
+            first.write()
+        newest = first.link.own["state"].ends[first.pages.last % 2]
+        whole = os.pread(newest, 1 << 20, 0)
+        for cut in (0, 5, 11, 12, 40, len(whole) - 1):
+            os.ftruncate(newest, cut)
+            self.assertEqual(self.made(first).state.last_window, 4, cut)
+            os.pwrite(newest, whole, 0)
+        os.pwrite(newest, b"{", 30)
         self.assertEqual(self.made(first).state.last_window, 4)
 
     def test_unwritable(self):

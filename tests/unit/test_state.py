@@ -26,7 +26,8 @@ def full_state():
     paste.is_placed = True
     paste.begin(True)
     panes = {1: PaneState(id=7, number=1, generation=4, size=(23, 80), folder="/tmp/\udcff", command=["sh", "-c", "a\nb"], process=71),
-             3: PaneState(id=7, number=3, generation=2**63, size=(1, 2), process=72, has_ended=True, program="vi")}
+             3: PaneState(id=7, number=3, generation=2**63, size=(1, 2), process=72, has_ended=True, program="vi",
+                          pipe="cat >> log")}
     zoom = NotedZoom(note=ZoomNote((24, 80), ((48, 160), (50, 170))))
     window = WindowState(number=7, name="l\u00f6gs \u4e2d", panes=panes, focus=3, history=[3, 1], program="vi", zoom=zoom,
                          processes={"server": (70, 5000), "client": (71, None)}, request=NAME, begins=b"a\0b")

@@ -124,7 +124,7 @@ class Refusals(Case):
         self.assertEqual(self.upgrade.under_way(), "")
         queue = types.SimpleNamespace(waits_for_more=lambda: False)
         pane = types.SimpleNamespace(to_terminal=queue, state=types.SimpleNamespace(has_ended=False))
-        window = types.SimpleNamespace(stage=upgrade.THERE, host=types.SimpleNamespace(panes={1: pane}))
+        window = types.SimpleNamespace(stage=upgrade.THERE, host=types.SimpleNamespace(panes={1: pane}, pipes={}))
         self.windows.windows[1] = window
         self.assertEqual(self.upgrade.under_way(), "")
         pane.to_terminal.waits_for_more = lambda: True
@@ -145,7 +145,9 @@ class Refusals(Case):
         self.upgrade.until -= upgrade.READ_SECONDS
         self.assertEqual(self.upgrade.under_way(), "")
         self.upgrade.until += upgrade.READ_SECONDS
-        peer.waiting, self.is_quiet = b"", False
+        peer.waiting, window.host.pipes = b"", {1: types.SimpleNamespace(waiting=b"a")}
+        self.assertIn("pipe-pane", self.upgrade.under_way())
+        window.host.pipes, self.is_quiet = {}, False
         self.assertIn("scrollback", self.upgrade.under_way())
         self.is_quiet = True
         self.windows.common.link.is_there = lambda: False

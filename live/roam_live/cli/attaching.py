@@ -25,7 +25,7 @@ if TYPE_CHECKING:
 
 
 # The end of a remote session may be reported so many seconds after an attach by the relay that exists.
-JUST_ENDED_SECONDS = 3.0
+JUST_ENDED_SECONDS = 10.0
 
 # Seconds for a relay to end once its files are gone.
 RELAY_ENDS_SECONDS = 1.0

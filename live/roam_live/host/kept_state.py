@@ -5,7 +5,10 @@ has their names and lengths. It is written before a program is started, and soon
 """
 from __future__ import annotations
 
+import errno
 import os
+import struct
+from binascii import crc32
 
 from roam_live.common.errors import Fault, reason, say
 from roam_live.common.event_loop import Loop
@@ -29,6 +32,48 @@ BAD = "host.bad"
 PASTE, BUFFER = "paste", "buffer"
 STATE = "state"
 
+# What precedes a state there: its number, and a CRC-32 of it.
+HEADER = struct.Struct(">QI")
+
+
+class StatePages:
+    """Two memfds at the holder with the last two states. A killed write spoils one of them, and none needs another descriptor."""
+
+    def __init__(self, link: HolderLink) -> None:
+        kept = link.claim(STATE)
+        self.ends = kept.ends if kept and len(kept.ends) == 2 else []
+        self.last = 0
+        if not self.ends:
+            with suppress(OSError):
+                self.ends = [memfd_of(b""), memfd_of(b"")]
+                link.put(STATE, self.ends)
+
+    def read(self) -> str | None:
+        """Return the newest whole state; None if there is none."""
+        newest = None
+        for end in self.ends:
+            data = os.pread(end, os.fstat(end).st_size, 0)
+            number, check = HEADER.unpack_from(data) if len(data) >= HEADER.size else (0, 0)
+            if number > self.last and crc32(data[HEADER.size :]) == check:
+                self.last, newest = number, data[HEADER.size :].decode("utf-8", "replace")
+        return newest
+
+    def write(self, text: str) -> bool:
+        """Write a state over the older one. If the system refuses, both go, since the file is newer then; return False."""
+        data = text.encode("utf-8", "replace")
+        data = HEADER.pack(self.last + 1, crc32(data)) + data
+        try:
+            end = self.ends[(self.last + 1) % 2]
+            if os.pwrite(end, data, 0) != len(data):
+                raise OSError(errno.ENOSPC, os.strerror(errno.ENOSPC))
+            os.ftruncate(end, len(data))
+        except (OSError, IndexError):
+            for one in self.ends:
+                os.ftruncate(one, 0)
+            return False
+        self.last += 1
+        return True
+
 
 class KeptState:
     """The state of a session's host, and its file."""
@@ -40,6 +85,7 @@ class KeptState:
         self.state = SessionState()
         # The text of the state in the file, and at the holder.
         self.was = self.held = ""
+        self.pages = StatePages(link)
         # Notices for the user about the end of an earlier host.
         self.notices: list[str] = []
         # The reason that the file can't be written now.
@@ -57,12 +103,11 @@ class KeptState:
         try:
             if self.link.is_bare:
                 raise Fault("pty hosts failed too often with it")
-            held = self.text_of(STATE)
+            held = self.pages.read()
             if held is None:
                 with open(self.path, encoding="utf-8") as file:
-                    self.state = state_in(file.read(MOST_STATE))
-            else:
-                self.state = state_in(held.decode("utf-8", "replace"))
+                    held = file.read(MOST_STATE)
+            self.state = state_in(held)
         except (Fault, OSError, ValueError) as fault:
             self.is_lost = True
             why = reason(fault) if isinstance(fault, OSError) else fault
@@ -138,17 +183,8 @@ class KeptState:
 
     def hold(self, text: str) -> None:
         """Give the holder the state. If there is no memory for it, the next host reads the file."""
-        if text == self.held:
-            return
-        before = self.link.own.get(STATE)
-        try:
-            self.link.put(STATE, [memfd_of(text.encode("utf-8", "replace"))])
-            self.held = text
-        except OSError:
-            self.link.drop(STATE)
-            self.held = ""
-        for end in before.ends if before else ():
-            os.close(end)
+        if text != self.held:
+            self.held = text if self.pages.write(text) else ""
 
     def settle(self) -> None:
         """Write it into the folder that this session has made anew."""

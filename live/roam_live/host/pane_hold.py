@@ -1,4 +1,6 @@
-"""The entries of a pane at the holder, by the pane's id: its terminal with the program's pidfd, its socket, and the logs of the pump."""
+"""The entries of a pane at the holder, by the pane's id: its terminal with the program's pidfd, its socket, the logs of the pump, and the pipe
+of a command that gets a copy of its output.
+"""
 from __future__ import annotations
 
 from roam_live.host.holder_link import HolderLink, Kept
@@ -11,7 +13,7 @@ if TYPE_CHECKING:
     from roam_live.common.tty import Size
 
 # The names at the holder: those of a pane, without its id, and that of the pump's pipe.
-TERMINAL, SOCKET, LOGS = "terminal", "socket", "logs"
+TERMINAL, SOCKET, LOGS, PIPE = "terminal", "socket", "logs", "pipe"
 TRANSIT = "transit"
 
 # The directions of a pane, in the order of its logs.
@@ -24,7 +26,7 @@ class PaneHold:
     def __init__(self, link: HolderLink, transit: Transit, number: int) -> None:
         self.link, self.transit = link, transit
         self.id = f"%{number}"
-        self.terminal, self.socket, self.logs = (f"{kind}:{self.id}" for kind in (TERMINAL, SOCKET, LOGS))
+        self.terminal, self.socket, self.logs, self.pipe = (f"{kind}:{self.id}" for kind in (TERMINAL, SOCKET, LOGS, PIPE))
 
     def opened_logs(self) -> list[ByteLog]:
         """Return the logs of output and of input, those of an earlier host or new ones; OSError without a free descriptor."""
@@ -79,4 +81,4 @@ def transit_of(link: HolderLink) -> Transit:
 
 def drop_left(link: HolderLink, number: int) -> int:
     """Drop the entries of a pane of an earlier host, and return its running process; 0 if there is none."""
-    return max(link.drop_left(f"{kind}:%{number}") for kind in (TERMINAL, SOCKET, LOGS))
+    return max(link.drop_left(f"{kind}:%{number}") for kind in (TERMINAL, SOCKET, LOGS, PIPE))

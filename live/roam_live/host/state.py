@@ -214,8 +214,9 @@ class PaneState(StateRecord):
     command: list[str] = field(list_of(text_of(LONGEST_WORD, has_no_nul), 0, MOST_WORDS), list)
     process: int | None = field(optional(number_from(1, MOST_PROCESS)), nothing)
     has_ended: bool = field(flag, bool)
-    # The foreground program, if it was looked up.
+    # The foreground program, if it was looked up; and the command that gets a copy of the output, if any.
     program: str = field(PROGRAM, str)
+    pipe: str = field(text_of(LONGEST_WORD, has_no_nul), str)
 
 
 class WindowState(StateRecord):

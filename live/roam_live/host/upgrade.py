@@ -204,12 +204,17 @@ class HostUpgrade:
             return "a paste is being typed, or a program does not read its input"
         if any(pane.state.has_ended for pane in panes):
             return "a program has just ended"
+        if any(pipe.waiting for host in hosts for pipe in host.pipes.values()) and self.is_early():
+            return "a command of pipe-pane does not read its input"
         if not self.common.rows.is_quiet():
             return "the scrollback process does not read its output"
-        is_early = self.loop.clock() < self.until - QUIET_SECONDS + READ_SECONDS
-        if is_early and any(peer.waiting and peer.answers for peer in self.common.socket.peers):
+        if self.is_early() and any(peer.waiting and peer.answers for peer in self.common.socket.peers):
             return "an answer is being read"
         return "" if self.link.is_there() else "the holder is being replaced"
+
+    def is_early(self) -> bool:
+        """Return True while others have time to read what waits for them."""
+        return self.loop.clock() < self.until - QUIET_SECONDS + READ_SECONDS
 
     def replace(self, build: BuildAnswer) -> None:
         """Execute the new host in this process. If the system refuses, go on as before."""

@@ -169,25 +169,46 @@ class WindowHost:
             from roam_live.host.pane_pipe import PanePipe
 
             try:
-                pipe = self.pipes[number] = PanePipe(self.loop, command, self.channel.notify, self.common.link.most_files)
+                pipe = PanePipe.spawned(self.loop, command, self.channel.notify, self.common.link.most_files)
             except OSError as fault:
                 self.channel.notify(f"pipe-pane: {reason(fault)}")
                 return ""
             self.common.hung.append(pipe.process)
-
-            def keep(data: bytes) -> None:
-                """Store output, and copy it to the command."""
-                self.rows.feed(key, data)
-                pipe.feed(data)
-
-            pane.keeps, fate = keep, "begun"
+            pane.held.link.put(pane.held.pipe, [pipe.end])
+            self.copy_to(pane, pipe)
+            fate = "begun"
         return fate
+
+    def copy_to(self, pane: PaneCommand, pipe: PanePipe) -> None:
+        """Copy a pane's output to a command from now on."""
+        self.pipes[pane.state.number], pane.state.pipe = pipe, pipe.command
+        key = self.key(pane.state.number)
+
+        def keep(data: bytes) -> None:
+            """Store output, and copy it to the command."""
+            self.rows.feed(key, data)
+            pipe.feed(data)
+
+        pane.keeps = keep
+
+    def claim_pipe(self, pane: PaneCommand) -> None:
+        """Go on with the command to which an earlier host copied a pane's output, if it still reads."""
+        kept = pane.held.link.claim(pane.held.pipe) if pane.state.pipe else None
+        if kept and kept.ends:
+            from roam_live.host.pane_pipe import PanePipe
+
+            self.copy_to(pane, PanePipe(self.loop, pane.state.pipe, self.channel.notify, kept.ends[0]))
+        else:
+            pane.state.pipe = ""
 
     def end_pipe(self, number: int) -> bool:
         """End the copying of a pane's output, and return True if there was one."""
-        pipe = self.pipes.pop(number, None)
+        pipe, pane = self.pipes.pop(number, None), self.panes.get(number)
         if pipe:
             pipe.close()
+        if pipe and pane:
+            pane.state.pipe = ""
+            pane.held.drop(pane.held.pipe)
         return pipe is not None
 
     def report_focus(self, before: int) -> None:
@@ -220,6 +241,7 @@ class WindowHost:
             key = self.key(number)
             self.rows.begin(key, generation, size)
             pane.keeps, pane.hears = lambda data: self.rows.feed(key, data), self.rows.hears
+            self.claim_pipe(pane)
             self.resizers[number] = PaneResizer(self.loop, self.rows, key, pane)
             # Another host finds the pane's program by this.
             self.common.kept.write()
@@ -334,11 +356,11 @@ class WindowHost:
 
     def drop(self, number: int) -> None:
         """Hang up the programs of a pane that is gone."""
+        self.end_pipe(number)
         pane = self.panes.pop(number, None)
         self.state.history = [other for other in self.state.history if other != number]
         if pane:
             del self.state.panes[number]
-            self.end_pipe(number)
             self.fronts.drop(number)
             self.resizers.pop(number).close()
             self.rows.drop(self.key(number))
