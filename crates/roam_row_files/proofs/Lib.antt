@@ -1,0 +1,4 @@
+pub mod Framing
+pub mod Beginnings
+pub mod Tails
+pub mod Weights

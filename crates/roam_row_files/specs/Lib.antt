@@ -1,0 +1,4 @@
+pub mod Changes
+pub mod Records
+pub mod Reading
+pub mod Laws

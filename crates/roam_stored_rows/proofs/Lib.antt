@@ -1,0 +1,9 @@
+pub mod Placing
+pub mod Joining
+pub mod Sums
+pub mod Ends
+pub mod Letters
+pub mod Places
+pub mod Blocks
+pub mod Numbers
+pub mod Ascii
