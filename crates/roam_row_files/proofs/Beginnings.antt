@@ -184,7 +184,7 @@ some-reading fuel bytes h = by_front fuel bytes h (front_of bytes) refl
         let (found, end, r) = by_front fuel (drop size bytes) (omega (arith, first.some, first.within, h, length-drop size bytes)) (front_of (drop size bytes)) refl in
         (change ∷ found, size + end, goes bytes change size found end e r)
 
-same-reading : (bytes : List ℕ) (found others : List RowChange) (end n : ℕ) → Reads bytes found end → Reads bytes others n → (others ≡ found) × (n ≡ end)
+pub same-reading : (bytes : List ℕ) (found others : List RowChange) (end n : ℕ) → Reads bytes found end → Reads bytes others n → (others ≡ found) × (n ≡ end)
 same-reading bytes found others end n (stops b e) r = none-read b others n r e
 same-reading bytes found others end n (goes b change size changes more e s) r =
     let (rest, m, is, sum, q) = some-read b others n change size r e in

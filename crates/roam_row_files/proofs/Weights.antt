@@ -4,17 +4,18 @@ use Rattle.std.proofs.lemmas.List.Sums.{sum_by_push, sum_by-take-drop, sum_by-ta
 use Rattle.roam_stored_rows.specs.Ends.{empty_at}
 use Rattle.roam_stored_rows.specs.Rows.{RowsView, bytes_of, end_of, size_of}
 use Rattle.roam_row_files.specs.Changes.{RowChange, after, appends, begins, checks, clears, forgets, withdraws}
-use Rattle.roam_row_files.specs.Records.{weight}
+use Rattle.roam_row_files.specs.Records.{record_of}
+use Rattle.roam_row_files.proofs.Framing.{record-length}
 
 one-of : (b : Bool) (x y view : RowsView) → bytes_of x.rows ≤ bytes_of view.rows → bytes_of y.rows ≤ bytes_of view.rows
     → bytes_of (if b then x else y).rows ≤ bytes_of view.rows
 one-of true x y view h i = h
 one-of false x y view h i = i
 
--- they grow by no more than the line of the change's row
-pub after-light : (change : RowChange) (view : RowsView) → bytes_of (after change view).rows ≤ bytes_of view.rows + weight change
+-- they grow by no more than the record of the change
+pub after-light : (change : RowChange) (view : RowsView) → bytes_of (after change view).rows ≤ bytes_of view.rows + length (record_of change)
 after-light (begins number) view = omega (arith, one-of (number == end_of view) view (empty_at number) view (omega arith) (omega arith))
-after-light (appends row) view = omega (arith, sum_by_push size_of view.rows row)
+after-light (appends row) view = omega (arith, sum_by_push size_of view.rows row, record-length (appends row))
 after-light (withdraws end) view =
     omega (
       arith,

@@ -3,7 +3,6 @@ use Rattle.std.specs.Prelude.{ℕ, ◌+◌, ◌-◌, ◌*◌, ◌%◌, ◌^◌, 
 use Rattle.std.specs.List.{flat_map}
 use Rattle.std.specs.Option.{option_map}
 use Rattle.byteorder.specs.Endian.{big_bytes, big_number}
-use Rattle.roam_stored_rows.specs.Rows.{size_of}
 use Rattle.roam_stored_rows.specs.declared.wraps.Wrap.{Wrap}
 use Rattle.roam_stored_rows.specs.declared.wraps.Wrap.TheVariants.{Ends, Full, Early}
 use Rattle.roam_row_files.specs.Changes.{RowChange, appends, begins, checks, clears, forgets, withdraws}
@@ -92,12 +91,3 @@ front_with size bytes =
 -- the change of the first record of bytes, and the length of the record
 abbrev pub front_of : List ℕ → Option (RowChange × ℕ)
 front_of bytes = front_with (big_number 4 bytes) bytes
-
--- how many bytes the line of a change's row has
-abbrev pub weight : RowChange → ℕ
-weight (begins number) = 0
-weight (appends row) = size_of row
-weight (withdraws end) = 0
-weight clears = 0
-weight (forgets first) = 0
-weight (checks count rows cols text) = 0

@@ -8,4 +8,4 @@ mod replays;
 
 pub use changes::{Change, Checkpoint};
 pub use records::{SEGMENT_BYTES, front, push_change};
-pub use replays::replay;
+pub use replays::{last_checkpoint, replay};

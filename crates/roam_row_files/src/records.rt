@@ -2,7 +2,7 @@
 ghost use Rattle.std.specs.Prelude.{◌≡◌, ◌^◌, ◌<◌, ◌≤◌, ◌+◌, ◌∷◌, ◌++◌, IfOk, IfSome, length, take, MatchOption, None, OnErr, OnOk, Some};
 ghost use Rattle.byteorder.specs.Endian.{big_bytes};
 ghost use Rattle.roam_row_files.specs.Changes.{RowChange, appends, checks, said};
-ghost use Rattle.roam_row_files.specs.Records.{NumbersFit, adler, change_in, check_in, front_of, numbered, payload_of, record_of, short_change_in, weight, wrap_byte};
+ghost use Rattle.roam_row_files.specs.Records.{NumbersFit, adler, change_in, check_in, front_of, numbered, payload_of, record_of, short_change_in, wrap_byte};
 
 use crate::changes::{Change, Checkpoint};
 use byteorder::{BigEndian, ByteOrder};
@@ -137,7 +137,7 @@ pub fn push_change(alloc: Global, out: &mut Vec<u8>, change: Change<'_>) -> Resu
 // The change of a letter and a number.
 fn numbered(kind: u8, number: u64) -> Option<Change<'static>>
     ensures change { MatchOption result (numbered kind number ≡ None) (λ change. numbered kind number ≡ Some (said change)) }
-    ensures light { IfSome result (λ change. weight (said change) ≡ 0) }
+    ensures size { IfSome result (λ change. length (payload_of (said change)) ≡ 9) }
 {
     match kind {
         b'B' => Some(Change::Begin(number)),
@@ -150,7 +150,7 @@ fn numbered(kind: u8, number: u64) -> Option<Change<'static>>
 // The checkpoint that these bytes spell behind their letter.
 fn check_in(rest: &[u8]) -> Option<Change<'_>>
     ensures change { MatchOption result (check_in rest.now ≡ None) (λ change. check_in rest.now ≡ Some (said change)) }
-    ensures light { IfSome result (λ change. weight (said change) ≡ 0) }
+    ensures size { IfSome result (λ change. length (payload_of (said change)) ≡ length rest.now + 1) }
 {
     if rest.len() < 12 {
         return None;
@@ -166,7 +166,7 @@ fn check_in(rest: &[u8]) -> Option<Change<'_>>
 // The change of a letter, and of a number if one follows.
 fn short_change_in(kind: u8, rest: &[u8]) -> Option<Change<'static>>
     ensures change { MatchOption result (short_change_in kind rest.now ≡ None) (λ change. short_change_in kind rest.now ≡ Some (said change)) }
-    ensures light { IfSome result (λ change. weight (said change) ≡ 0) }
+    ensures size { IfSome result (λ change. length (payload_of (said change)) ≡ length rest.now + 1) }
 {
     if rest.is_empty() {
         return if kind == b'C' {
@@ -184,7 +184,7 @@ fn short_change_in(kind: u8, rest: &[u8]) -> Option<Change<'static>>
 // The change that these bytes spell.
 fn change_in(payload: &[u8]) -> Option<Change<'_>>
     ensures change { MatchOption result (change_in payload.now ≡ None) (λ change. change_in payload.now ≡ Some (said change)) }
-    ensures light { IfSome result (λ change. weight (said change) ≤ length payload.now + 1) }
+    ensures size { IfSome result (λ change. length (payload_of (said change)) ≡ length payload.now) }
 {
     let (kind, rest) = payload.split_first()?;
     match *kind {
@@ -200,7 +200,7 @@ fn change_in(payload: &[u8]) -> Option<Change<'_>>
 pub fn front(bytes: &[u8]) -> Option<(Change<'_>, usize)>
     ensures front { MatchOption result (front_of bytes.now ≡ None) (λ r. front_of bytes.now ≡ Some (said r.0, r.1)) }
     ensures within { IfSome result (λ r. (0 < r.1) × (r.1 ≤ length bytes.now)) }
-    ensures light { IfSome result (λ r. weight (said r.0) ≤ r.1) }
+    ensures size { IfSome result (λ r. r.1 ≡ length (record_of (said r.0))) }
 {
     if bytes.len() < 8 {
         return None;

@@ -1,11 +1,11 @@
 //! The rows that files give.
-ghost use Rattle.std.specs.Prelude.{◌≡◌, ◌≤◌, ◌+◌, IfOk, List, OnOk, length};
-ghost use Rattle.roam_row_files.specs.Changes.{RowChange, after, after_all, said};
-ghost use Rattle.roam_row_files.specs.Reading.{Reads};
-ghost use Rattle.roam_row_files.specs.Records.{weight};
+ghost use Rattle.std.specs.Prelude.{◌≡◌, ◌≤◌, ◌+◌, ℕ, true, false, IfErr, IfOk, List, MatchOption, OnOk, Some, length};
+ghost use Rattle.std.specs.Option.{option_map};
+ghost use Rattle.roam_row_files.specs.Changes.{RowChange, after, after_all, checks, said};
+ghost use Rattle.roam_row_files.specs.Reading.{IsLastCheck, Reads, check_of, is_check};
 ghost use Rattle.roam_stored_rows.specs.Rows.{bytes_of};
 
-use crate::changes::Change;
+use crate::changes::{Change, Checkpoint};
 use crate::records::front;
 use roam_stored_rows::{StoreFault, StoredRows};
 
@@ -33,6 +33,7 @@ fn withdraw(rows: &mut StoredRows, end: u64)
 // Makes a change.
 fn apply(rows: &mut StoredRows, change: Change<'_>) -> Result<(), StoreFault>
     ensures after { OnOk result (rows.new ≡ after (said change.entry) rows.old) }
+    ensures faults { IfErr result (λ e. e ≡ StoreFault.OutOfMemory) }
 {
     match change {
         Change::Begin(number) => begin(rows, number),
@@ -53,6 +54,7 @@ fn apply(rows: &mut StoredRows, change: Change<'_>) -> Result<(), StoreFault>
 pub fn replay(rows: &mut StoredRows, bytes: &[u8]) -> Result<usize, StoreFault>
     ensures rows { IfOk result (λ end. (changes : List RowChange) × Reads bytes.now changes end × (rows.new ≡ after_all changes rows.old)) }
     ensures within { IfOk result (λ end. end ≤ length bytes.now) }
+    ensures faults { IfErr result (λ e. e ≡ StoreFault.OutOfMemory) }
     ensures light { IfOk result (λ end. bytes_of rows.new.rows ≤ bytes_of rows.old.rows + end) }
 {
     let mut end = 0;
@@ -61,4 +63,47 @@ pub fn replay(rows: &mut StoredRows, bytes: &[u8]) -> Result<usize, StoreFault>
         end += size;
     }
     Ok(end)
+}
+
+// The checkpoint of a change that is one.
+fn checkpoint_of(change: Change<'_>) -> Option<Checkpoint<'_>>
+    ensures check { MatchOption result (is_check (said change.entry) ≡ false)
+        (λ p. (is_check (said change.entry) ≡ true) × (said change.entry ≡ checks p.count p.rows p.cols p.text.now)) }
+{
+    match change {
+        Change::Begin(_) => None,
+        Change::Append(_, _) => None,
+        Change::Withdraw(_) => None,
+        Change::Clear => None,
+        Change::Forget(_) => None,
+        Change::Check(point) => Some(point),
+    }
+}
+
+// A checkpoint, if there is one, with its end; else an earlier one.
+fn later<'a>(
+    point: Option<Checkpoint<'a>>,
+    end: usize,
+    found: Option<(Checkpoint<'a>, usize)>,
+) -> Option<(Checkpoint<'a>, usize)>
+    ensures later { MatchOption point.entry (result ≡ found.entry) (λ p. result ≡ Some (p, end)) }
+{
+    match point {
+        Some(point) => Some((point, end)),
+        None => found,
+    }
+}
+
+/// Searches the changes that are read of bytes for the last checkpoint. Returns it, and how many bytes the records have that end with its own:
+/// a process that starts again replays these, and goes on from the checkpoint.
+pub fn last_checkpoint(bytes: &[u8]) -> Option<(Checkpoint<'_>, usize)>
+    ensures last { (changes : List RowChange) (end : ℕ) → Reads bytes.now changes end → IsLastCheck changes (option_map check_of result) }
+{
+    let mut end = 0;
+    let mut found = None;
+    while let Some((change, size)) = front(bytes.split_at(end).1) {
+        end += size;
+        found = later(checkpoint_of(change), end, found);
+    }
+    found
 }

@@ -138,7 +138,7 @@ fn gather_block(
     Ok(())
 }
 
-// Puts the bytes of a block's letters into the buffer, and of so many letters behind it as a text of this length may reach that begins in it.
+// Puts the bytes of a block's letters into the buffer, and of so many letters behind it as a text may reach that begins in it.
 // Returns the number of bytes of the block itself.
 fn gather(
     rows: &RowChunks,

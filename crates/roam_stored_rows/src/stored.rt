@@ -109,6 +109,7 @@ impl StoredRows {
     pub fn push(&mut self, wrap: Wrap, text: &[u8]) -> Result<(), StoreFault>
         ensures ok { OnOk result (self.new ≡ added (record { wrap = wrap; text = text.now }) self.old) }
         ensures err { OnErr result (self.new ≡ self.old) }
+        ensures faults { IfErr result (λ e. e ≡ StoreFault.OutOfMemory) }
     {
         let size = text.len() as u64;
         if u64::MAX - 2 < size || u64::MAX - 2 - size < self.bytes {
@@ -190,6 +191,7 @@ impl StoredRows {
         ensures count { IfOk result (λ page. IsFit most_bytes (asked self.now from count) page.count) }
         ensures lines { IfOk result (λ page. out.new.items ≡ out.old.items ++ lines_of (take page.count (asked self.now from count))) }
         ensures err { OnErr result (out.new.items ≡ out.old.items) }
+        ensures faults { IfErr result (λ e. e ≡ StoreFault.OutOfMemory) }
     {
         let first = from
             .max(self.first)

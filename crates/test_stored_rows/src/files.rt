@@ -1,5 +1,5 @@
 //! A file of ten changes: cut off at each of its bytes and continued, and with a wrong bit in each.
-use roam_row_files::{Change, Checkpoint, front, push_change, replay};
+use roam_row_files::{Change, Checkpoint, front, last_checkpoint, push_change, replay};
 use roam_stored_rows::{StoreFault, StoredRows, Wrap};
 use std::alloc::Global;
 
@@ -131,6 +131,17 @@ fn segments_are_read_alone(alloc: Global) -> Result<bool, StoreFault> {
     Ok(end == newer.len() && rows.first() == 95 && rows.end() == 96)
 }
 
+// The checkpoint is the fifth change; without its last byte there is none.
+fn checkpoints_are_found(alloc: Global) -> Result<bool, StoreFault> {
+    let mut file = written(alloc, &CHANGES)?;
+    let found = match last_checkpoint(&file) {
+        Some((point, end)) => point.count == 99 && end == ENDS[5],
+        None => false,
+    };
+    file.truncate(ENDS[5] - 1);
+    Ok(found && last_checkpoint(&file).is_none())
+}
+
 // The records of a row and of a checkpoint, with the checksums that zlib gives.
 fn has_the_bytes_of_zlib(alloc: Global) -> Result<bool, StoreFault> {
     let mut file = Vec::new(alloc);
@@ -158,5 +169,6 @@ fn changes_are_kept(rt: HostRuntime) {
     assert!(rt; matches!(cut_files_are_continued(rt.alloc()), Ok(true)));
     assert!(rt; matches!(spoiled_ends_are_left(rt.alloc()), Ok(true)));
     assert!(rt; matches!(segments_are_read_alone(rt.alloc()), Ok(true)));
+    assert!(rt; matches!(checkpoints_are_found(rt.alloc()), Ok(true)));
     assert!(rt; matches!(has_the_bytes_of_zlib(rt.alloc()), Ok(true)));
 }

@@ -28,7 +28,7 @@ loop-change-preserved c =
     let bytes_after = ap (λ (v : RowsView). bytes_of v.rows) after in
     record {
       within = omega (arith, left, c.in-Some.ensures.within.1, c.loop-change.invariant.within);
-      light = omega (arith, bytes_after, after-light change c.loop-change.rows, c.in-Some.ensures.light, c.loop-change.invariant.light);
+      light = omega (arith, bytes_after, after-light change c.loop-change.rows, c.in-Some.ensures.size, c.loop-change.invariant.light);
       rows = λ changes end r.
           let behind : Reads (drop size (drop at bytes)) changes end = subst (λ (b : List ℕ). Reads b changes end) (sym (drop-drop size at bytes)) r in
           let (all, read, rows) = c.loop-change.invariant.rows (change ∷ changes) (size + end) (goes (drop at bytes) change size changes end front behind) in
@@ -47,5 +47,6 @@ returns c =
     record {
       rows = (all, whole, sym rows);
       within = c.loop-change.invariant.within;
+      faults = tt;
       light = c.loop-change.invariant.light;
     }
