@@ -2,21 +2,30 @@
 use roam_stored_rows::{StoreFault, StoredRows, Way, Wrap};
 use std::alloc::Global;
 
-// Rows 10 to 709; row 11 goes on into row 12, row 500 has styles, and rows 501 to 503 are a line that a wide character wrapped early.
+// How many rows, how they end, and their text: rows 10 to 709. Row 11 goes on into row 12, row 500 has styles, and rows 501 to 503 are a line
+// that a wide character wrapped early.
+const ROWS: [(u32, Wrap, &str); 9] = [
+    (1, Wrap::Ends, "first"),
+    (1, Wrap::Full, "a needle in two ro"),
+    (1, Wrap::Ends, "ws Behind"),
+    (487, Wrap::Ends, "filler"),
+    (
+        1,
+        Wrap::Ends,
+        "\u{1b}[1;31mred\u{1b}[0m and pl\u{1b}[4mai\u{1b}[0mn",
+    ),
+    (1, Wrap::Early, "\u{c9}t\u{e9} "),
+    (1, Wrap::Full, "\u{65e5}\u{672c}"),
+    (1, Wrap::Ends, "\u{8a9e}\u{212a}"),
+    (206, Wrap::Ends, ""),
+];
+
 fn many(alloc: Global) -> Result<StoredRows, StoreFault> {
     let mut rows = StoredRows::new(alloc, 10);
-    rows.push(Wrap::Ends, b"first")?;
-    rows.push(Wrap::Full, b"a needle in two ro")?;
-    rows.push(Wrap::Ends, b"ws Behind")?;
-    for _ in 0..487 {
-        rows.push(Wrap::Ends, b"filler")?;
-    }
-    rows.push(Wrap::Ends, b"\x1b[1;31mred\x1b[0m and pl\x1b[4mai\x1b[0mn")?;
-    rows.push(Wrap::Early, "\u{c9}t\u{e9} ".as_bytes())?;
-    rows.push(Wrap::Full, "\u{65e5}\u{672c}".as_bytes())?;
-    rows.push(Wrap::Ends, "\u{8a9e}\u{212a}".as_bytes())?;
-    for _ in 0..206 {
-        rows.push(Wrap::Ends, b"")?;
+    for (count, wrap, text) in ROWS.iter() {
+        for _ in 0..*count {
+            rows.push(*wrap, text.as_bytes())?;
+        }
     }
     Ok(rows)
 }
