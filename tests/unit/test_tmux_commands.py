@@ -1,4 +1,5 @@
 """Commands of `roam tmux` on options, variables, buffers and channels, and its name spaces: answers of tmux 3.3a."""
+import json
 import os
 import pathlib
 import stat
@@ -8,7 +9,7 @@ import unittest
 from unittest import mock
 
 from aids import Case
-from roam_live.cli.tmux import shells, tool, windows
+from roam_live.cli.tmux import model, shells, tool, windows
 from roam_live.cli.tmux.context import Failed
 from roam_live.cli.tmux.model import Model
 from roam_live.cli.tmux.name_space import NameSpace, socket_path
@@ -16,6 +17,7 @@ from roam_live.cli.tmux.variables import checksum
 from roam_live.commands.flags import BadCommand, Flags, parted
 from roam_live.commands.table import OF_TMUX, command_named, read_command
 from roam_live.common.errors import Fault
+from roam_live.common.file_path import FilePath
 from roam_live.protocol.spawn_request import FIRST, Begins, of_first_window
 from tmux_played import PlayedContext
 
@@ -313,6 +315,25 @@ class Adopts(Case):
             state["sessions"]["one"]["name"] = "two"
         self.there["two"] = [(1, "bb")]
         self.assertEqual(sorted(self.known()), ["two", "two_2"])
+
+
+class HostStates(Case):
+    """The state of the pty host, as `roam tmux` reads it."""
+
+    def test_form(self):
+        """A file that is no state counts as one without windows, and no command fails by it."""
+        pane = {"id": 1, "generation": 5, "folder": "/", "command": ["sh"], "process": None, "has_ended": False}
+        window = {"panes": {"1": pane}, "focus": 1, "history": []}
+        place = types.SimpleNamespace(folder=FilePath(self.made_folder()))
+        self.assertEqual(model.written_by_host(place), {"windows": {}})
+        wrong = [None, [], 5, {}, {"windows": []}, {"windows": {"1": 5}}, {"windows": {"1": {}}},
+                 {"windows": {"1": {**window, "focus": "1"}}}, {"windows": {"1": {**window, "history": None}}},
+                 {"windows": {"1": {**window, "panes": {"x": pane}}}}, {"windows": {"1": {**window, "panes": {"1": []}}}}]
+        wrong += [{"windows": {"1": {**window, "panes": {"1": {**pane, name: value}}}}} for name, value in (
+            ("id", "1"), ("generation", 1.5), ("folder", None), ("command", "sh"), ("command", [1]), ("process", "7"))]
+        for state in ({"windows": {"1": window}}, *wrong):
+            (pathlib.Path(place.folder) / "host.json").write_text(json.dumps(state), encoding="ascii")
+            self.assertEqual(model.written_by_host(place), {"windows": {}} if state in wrong else state)
 
 
 class Layouts(unittest.TestCase):

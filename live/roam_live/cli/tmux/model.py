@@ -202,11 +202,36 @@ class SessionView:
 
 
 def written_by_host(place: LocalSession) -> HostState:
-    """Return the state that the pty host of a session wrote last."""
+    """Return the state that the pty host of a session wrote last; one without windows if the file has none."""
     state: HostState = {"windows": {}}
     with suppress(OSError, ValueError, RecursionError):
-        state = read_json(FilePath(place.folder / HOST_STATE).read_text())
+        found = read_json(FilePath(place.folder / HOST_STATE).read_text())
+        state = found if has_windows(found) else state
     return state
+
+
+def has_windows(found: object) -> bool:
+    """Return True if JSON has the form of a host's state, as far as it is used here."""
+    windows = found.get("windows") if isinstance(found, dict) else None
+    return isinstance(windows, dict) and all(has_panes(window) for window in windows.values())
+
+
+def has_panes(window: object) -> bool:
+    """Return True if JSON has the form of a window in a host's state."""
+    panes = window.get("panes") if isinstance(window, dict) else None
+    if not isinstance(window, dict) or not isinstance(panes, dict):
+        return False
+    is_known = type(window.get("focus")) is int and isinstance(window.get("history"), list)
+    return is_known and all(number.isdecimal() and is_pane_note(pane) for number, pane in panes.items())
+
+
+def is_pane_note(pane: object) -> bool:
+    """Return True if JSON has the form of a pane in a host's state."""
+    if not isinstance(pane, dict) or not isinstance(pane.get("command"), list):
+        return False
+    numbers = (pane.get("id"), pane.get("generation"), pane.get("process") or 0)
+    texts = (pane.get("folder"), *pane["command"])
+    return all(type(one) is int for one in numbers) and all(isinstance(one, str) for one in texts) and "has_ended" in pane
 
 
 class Model:
