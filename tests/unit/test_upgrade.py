@@ -46,8 +46,10 @@ class Checks(Case):
             self.assertEqual((status != 0, told), (True, ""), text[:20])
 
     def test_answer(self):
-        """An answer that lacks a line is none."""
-        for text in ("", "protocol 1\nsum 1\nname 1\n", "protocol\nsum\nname\nprogram\n", "\x00" * 50):
+        """An answer that lacks a line is none, and one whose sum is no number of eight hexadecimal digits."""
+        told = "protocol 1\nsum {}\nname 1\nprogram /bin/true\n"
+        self.assertEqual(BuildAnswer(told.format("0123abcd")).sum, "0123abcd")
+        for text in (told.format("\x1b]0;x\x07"), told.format("0123abcd 1"), told.format("unknown"), "", "protocol 1\nsum 1\nname 1\n", "protocol\nsum\nname\nprogram\n", "\x00" * 50):
             with self.assertRaises(Fault):
                 BuildAnswer(text)
 

@@ -12,6 +12,7 @@ import sys
 from roam_live.common.build_info import PROTOCOL, identity
 from roam_live.common.errors import Fault, reason, say
 from roam_live.common.io import read
+from roam_live.common.patterns import LazyPattern
 from roam_live.common.process import TOOLS, program
 from roam_live.common.signals import signal
 from roam_live.common.suppress import suppress
@@ -44,6 +45,8 @@ READ_SECONDS = 2.0
 
 # The words of the check's lines.
 PROTOCOL_WORD, SUM_WORD, NAME_WORD, PROGRAM_WORD = "protocol", "sum", "name", "program"
+# The sum of a build, which goes into a line and into the new host's variable.
+SUM = LazyPattern(r"[0-9a-f]{8}")
 
 # Seconds after the start until the sum of the own build is computed, which nobody waits for.
 KNOWN_SECONDS = 1.0
@@ -60,6 +63,8 @@ class BuildAnswer:
             self.protocol, self.sum, self.name, self.program = (words[word] for word in (PROTOCOL_WORD, SUM_WORD, NAME_WORD, PROGRAM_WORD))
         except KeyError:
             raise Fault("its check printed no build") from None
+        if not SUM.fullmatch(self.sum):
+            raise Fault("its check printed no build")
 
 
 def checked() -> int:
