@@ -46,7 +46,7 @@ ROOTS = {
     "all_sessions": (("mux",), (f"{PACKAGE}.cli.all_sessions", f"{PACKAGE}.session.survey")),
     "asking": (("mux",), (f"{PACKAGE}.cli.asking", f"{PACKAGE}.cli.send", f"{PACKAGE}.cli.capture")),
     "tmux": (("mux",), tuple(f"{PACKAGE}.cli.tmux.{name}" for name in (
-        "tool", "sessions", "windows", "panes", "shows", "options", "buffers", "shells"))),
+        "tool", "sessions", "windows", "panes", "shows", "options", "buffers", "shell_commands"))),
     "first_painting": (("mux",), (f"{PACKAGE}.frontend.follow",)),
     "front_end": (("mux", "first_painting"), (f"{PACKAGE}.frontend.app",)),
     "late": (("mux", "first_painting", "front_end"), tuple(f"{PACKAGE}.{name}" for name in (

@@ -116,6 +116,7 @@ KNOWN = {
     ("roam_live/protocol/spawn_request.py", "RUN", "re"): LINES,
     **{("roam_live/protocol/spawn_request.py", name, "re"): LINES for name in ("PIPE", "RESPAWN")},
     ("roam_live/host/socket_server.py", "SHOWS", "re"): LINES,
+    ("roam_live/host/upgrade.py", "SUM", "re"): "reads what the check of another build prints",
     ("roam_live/host/pane.py", "CLEARED", "ESC"): "clears a pane whose command starts anew, and reads nothing",
     ("roam_live/host/uploads.py", "STATUS", "re"): LINES,
     ("roam_live/host/log_skip.py", "without", "ESC"): ROWS,

@@ -9,7 +9,7 @@ import unittest
 from unittest import mock
 
 from aids import Case
-from roam_live.cli.tmux import model, shells, tool, windows
+from roam_live.cli.tmux import model, shell_commands, tool, windows
 from roam_live.cli.tmux.context import Failed
 from roam_live.cli.tmux.model import Model
 from roam_live.cli.tmux.name_space import NameSpace, socket_path
@@ -77,7 +77,7 @@ class Commands(Case):
 
     def said(self, words):
         """Return what commands print, separated by ` ; `."""
-        tool.run(self.context, [word for part in shells.words_in(words) for word in [*part, ";"]])
+        tool.run(self.context, [word for part in shell_commands.words_in(words) for word in [*part, ";"]])
         return self.context.printed()
 
     def test_options(self):
@@ -148,10 +148,10 @@ class Commands(Case):
 
     def test_limits_of_jobs(self):
         """The output of a command in a format is cut, and has no controls; what runs too long ends."""
-        self.assertEqual(shells.last_line("printf 'a\\033[31mb\\n'"), "a?[31mb")
-        self.assertEqual(len(shells.last_line("yes aaaaaaaaa | tr -d '\\n'")), shells.JOB_BYTES)
-        with mock.patch.object(shells, "JOB_SECONDS", 0.2):
-            self.assertEqual(shells.last_line("echo a; sleep 9"), "a")
+        self.assertEqual(shell_commands.last_line("printf 'a\\033[31mb\\n'"), "a?[31mb")
+        self.assertEqual(len(shell_commands.last_line("yes aaaaaaaaa | tr -d '\\n'")), shell_commands.JOB_BYTES)
+        with mock.patch.object(shell_commands, "JOB_SECONDS", 0.2):
+            self.assertEqual(shell_commands.last_line("echo a; sleep 9"), "a")
 
     def test_begins(self):
         """The start options of a pane, with variables around its command."""
@@ -233,10 +233,10 @@ class Spaces(Case):
 
     def test_channels(self):
         """A wake-up before the wait counts once; a waiter is woken; a lock is held by one."""
-        channel = shells.Channel(self.space, "c/../d")
+        channel = shell_commands.Channel(self.space, "c/../d")
         channel.wake()
         channel.wait()
-        waiter = threading.Thread(target=shells.Channel(self.space, "c/../d").wait)
+        waiter = threading.Thread(target=shell_commands.Channel(self.space, "c/../d").wait)
         waiter.start()
         while not [name for name in os.listdir(channel.folder) if name.isdigit()]:
             pass
@@ -244,7 +244,7 @@ class Spaces(Case):
         waiter.join(10)
         self.assertFalse(waiter.is_alive())
         channel.lock()
-        other = threading.Thread(target=shells.Channel(self.space, "c/../d").lock)
+        other = threading.Thread(target=shell_commands.Channel(self.space, "c/../d").lock)
         other.start()
         other.join(0.1)
         self.assertTrue(other.is_alive())

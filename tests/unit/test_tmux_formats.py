@@ -4,7 +4,7 @@ from unittest import mock
 
 from aids import Case
 from roam_live.cli.tmux import shows
-from roam_live.commands.formats import LITERAL, Scope, expanded, with_marks
+from roam_live.commands.formats import LITERAL, FormatScope, expanded, with_marks
 from tmux_played import PlayedContext
 
 # Formats, and what `tmux display-message -p` of tmux 3.3a printed for a session `a` with the windows `one` and `two`.
@@ -30,7 +30,7 @@ SAYS = {
 HOSTILE = "$(touch /tmp/x)`id`;|&<>'\"\\#(id)#{pane_id}#[fg=red]*?!~^{}é\n"
 
 
-class Chosen(Scope):
+class Chosen(FormatScope):
     """A scope in which one variable is hostile, and which records the commands that run."""
 
     def __init__(self, name):

@@ -3,7 +3,7 @@ import unittest
 
 from aids import Case
 from roam_live.commands.flags import BadCommand
-from roam_live.commands.targets import Found
+from roam_live.commands.targets import FoundTarget
 from tmux_played import PlayedContext
 
 # The panes of the second window, as rows from and columns from, rows and columns: above left, above right, below.
@@ -74,7 +74,7 @@ class Finds(Case):
         """The sides of the caller's pane, around the window's edges."""
         model = self.context.known
         panes = model.sessions[0].found[1].panes()
-        self.context.place = Found(model.sessions[0], model.sessions[0].found[1], panes[0])
+        self.context.place = FoundTarget(model.sessions[0], model.sessions[0].found[1], panes[0])
         for text, pane in ((".{up-of}", 2), (".{down-of}", 2), (".{right-of}", 3), (".{left-of}", 3), (".+", 2), (".-", 3), (".+2", 3)):
             self.assertEqual(self.context.find(text, "pane").pane.id, pane, text)
 

@@ -46,7 +46,7 @@ class Modifier(NamedFields):
     words: list[str]
 
 
-class Scope:
+class FormatScope:
     """The values for a format: variables and options, the parts over which loops run, and commands in `#(..)`. This one has none."""
 
     def variable(self, name: str) -> str | None:
@@ -61,7 +61,7 @@ class Scope:
         """Return True if a program, another machine or a name decides the value of a variable."""
         return True
 
-    def parts(self, kind: str) -> Iterable[tuple[Scope, bool]]:
+    def parts(self, kind: str) -> Iterable[tuple[FormatScope, bool]]:
         """Return the sessions (S), windows (W), panes (P) or terminals (L) of a loop, and True for the active one."""
         return ()
 
@@ -83,12 +83,12 @@ def harmless(text: str) -> str:
     return HARMLESS.sub("_", text)
 
 
-def expanded(text: str, scope: Scope, has_time: bool = False, is_shell: bool = False) -> str:
+def expanded(text: str, scope: FormatScope, has_time: bool = False, is_shell: bool = False) -> str:
     """Return a format with its values. `is_shell` is for a text that a shell runs, or that is stored and may be run later."""
     return Expansion(scope, is_shell).text(text, has_time).replace(LITERAL, "#")
 
 
-def with_marks(text: str, scope: Scope, moment: time.struct_time | None = None) -> str:
+def with_marks(text: str, scope: FormatScope, moment: time.struct_time | None = None) -> str:
     """Return a format with its values and a time. LITERAL stands for the `#` of values, so styles are only those of the user's text."""
     return Expansion(scope, False, moment).text(text, moment is not None)
 
@@ -135,7 +135,7 @@ def end_of(text: str, at: int, ends: str) -> int:
 class Expansion:
     """The expansion of one format, with the formats in it."""
 
-    def __init__(self, scope: Scope, is_shell: bool, moment: time.struct_time | None = None, depth: int = 0) -> None:
+    def __init__(self, scope: FormatScope, is_shell: bool, moment: time.struct_time | None = None, depth: int = 0) -> None:
         self.scope, self.is_shell, self.moment, self.depth = scope, is_shell, moment, depth
 
     def text(self, text: str, has_time: bool = False) -> str:
@@ -386,7 +386,7 @@ def names_in(chunk: str) -> list[str]:
     """Return the variables in a chunk of a format: those of its conditions, comparisons and loops too."""
     if chunk[1:2] != "{":
         return [LETTERS.get(chunk[1:2], chunk)] if chunk[1:2].isalpha() else []
-    modifiers, copy = Expansion(Scope(), False).modifiers(chunk[2:-1])
+    modifiers, copy = Expansion(FormatScope(), False).modifiers(chunk[2:-1])
     kinds = {one.name for one in modifiers}
     if kinds & {"l", "N", "C", "a"}:
         return []

@@ -52,7 +52,7 @@ PANE_WORDS = {"{last}": "!", "{next}": "+", "{previous}": "-", **{f"{{{word}}}":
 SIDES = {"{up-of}": (-1, 0), "{down-of}": (1, 0), "{left-of}": (0, -1), "{right-of}": (0, 1)}
 
 
-class Found(NamedFields):
+class FoundTarget(NamedFields):
     """A target: a session, a window and a pane, each None if it was not asked for; and the index of a window that may not exist."""
 
     session: SessionLike | None = None
@@ -61,7 +61,7 @@ class Found(NamedFields):
     at: int | None = None
 
 
-class Parts(NamedFields):
+class TargetParts(NamedFields):
     """The parts of a target, each None if it is missing: the session, the window and the pane. Flags: for exact names of the first two, for
     a window that may not be a session, and for a pane that may not be a window.
     """
@@ -75,7 +75,7 @@ class Parts(NamedFields):
     is_pane_only: bool
 
 
-def parts_of(text: str, kind: str) -> Parts:
+def parts_of(text: str, kind: str) -> TargetParts:
     """Return the parts of a target of a kind: session, window or pane."""
     before, colon, after = text.partition(":")
     name, period, pane = (after if colon else before).partition(".")
@@ -90,7 +90,7 @@ def parts_of(text: str, kind: str) -> Parts:
     window = window[1:] if window and is_exact_window else window
     window = WINDOW_WORDS.get(window, window) if window else None
     found_pane = PANE_WORDS.get(found_pane, found_pane) if found_pane else None
-    return Parts(session or None, window, found_pane, is_exact, is_exact_window, bool(colon), bool(period))
+    return TargetParts(session or None, window, found_pane, is_exact, is_exact_window, bool(colon), bool(period))
 
 
 def number_in(text: str) -> int | None:
@@ -101,10 +101,10 @@ def number_in(text: str) -> int | None:
 class Targets:
     """Finds targets among sessions. `here` is the session, window and pane of the caller, or the session used last."""
 
-    def __init__(self, sessions: Sequence[SessionLike], here: Found, may_index: bool = False) -> None:
+    def __init__(self, sessions: Sequence[SessionLike], here: FoundTarget, may_index: bool = False) -> None:
         self.sessions, self.here, self.may_index = sessions, here, may_index
 
-    def find(self, text: str | None, kind: str) -> Found:
+    def find(self, text: str | None, kind: str) -> FoundTarget:
         """Return the target of a text; BadCommand in tmux's words if there is none."""
         if text in ("=", "{mouse}"):
             raise BadCommand("no mouse target")
@@ -119,14 +119,14 @@ class Targets:
         found = self.in_session(session, parts) if session else self.anywhere(parts)
         return self.completed(found)
 
-    def current(self, parts: Parts, kind: str) -> Found:
+    def current(self, parts: TargetParts, kind: str) -> FoundTarget:
         """Return the target of the caller."""
         if not self.here.session:
             raise BadCommand("no current target")
         return self.completed(self.here)
 
     @staticmethod
-    def completed(found: Found) -> Found:
+    def completed(found: FoundTarget) -> FoundTarget:
         """Return a target with the current window of its session and the active pane of its window."""
         if found.at is not None and found.window is None:
             return found
@@ -146,16 +146,16 @@ class Targets:
         near = near or [one for one in self.sessions if fnmatch.fnmatchcase(one.name, text)]
         return near[0] if len(near) == 1 else None
 
-    def in_session(self, session: SessionLike, parts: Parts) -> Found:
+    def in_session(self, session: SessionLike, parts: TargetParts) -> FoundTarget:
         """Return the window and the pane in a session."""
         if not parts.window and not parts.pane:
-            return Found(session)
-        found = self.window_in(session, parts.window, parts.is_exact_window) if parts.window else Found(session, session.current())
+            return FoundTarget(session)
+        found = self.window_in(session, parts.window, parts.is_exact_window) if parts.window else FoundTarget(session, session.current())
         if not found:
             raise BadCommand(f"can't find window: {parts.window}")
         return self.with_pane(found, parts.pane)
 
-    def with_pane(self, found: Found, text: str | None) -> Found:
+    def with_pane(self, found: FoundTarget, text: str | None) -> FoundTarget:
         """Return a target with a pane of its window."""
         if not text:
             return found
@@ -166,32 +166,32 @@ class Targets:
 
     # ---- windows
 
-    def window_in(self, session: SessionLike, text: str, is_exact: bool) -> Found | None:
+    def window_in(self, session: SessionLike, text: str, is_exact: bool) -> FoundTarget | None:
         """Return a window of a session, or only an index if windows may be new; None if there is none."""
         windows, current = session.windows(), session.current()
         if text.startswith("@"):
-            return next((Found(session, one) for one in windows if f"@{one.id}" == text), None)
+            return next((FoundTarget(session, one) for one in windows if f"@{one.id}" == text), None)
         if not is_exact and text[0] in "+-" and current:
             return self.at_offset(session, windows, current, text)
         if text == "!":
-            return Found(session, session.last_window()) if session.last_window() else None
+            return FoundTarget(session, session.last_window()) if session.last_window() else None
         if text in "^$" and windows:
-            return Found(session, windows[0 if text == "^" else -1])
+            return FoundTarget(session, windows[0 if text == "^" else -1])
         number = number_in(text)
         at = next((one for one in windows if one.index == number), None) if number is not None else None
         if at:
-            return Found(session, at, at=at.index)
+            return FoundTarget(session, at, at=at.index)
         if number is not None and self.may_index:
-            return Found(session, None, at=number)
+            return FoundTarget(session, None, at=number)
         for near in ([one for one in windows if one.name == text], [one for one in windows if one.name.startswith(text)],
                      [one for one in windows if fnmatch.fnmatchcase(one.name, text)]):
             if len(near) == 1:
-                return Found(session, near[0])
+                return FoundTarget(session, near[0])
             if near or is_exact:
                 return None
         return None
 
-    def at_offset(self, session: SessionLike, windows: Sequence[WindowLike], current: WindowLike, text: str) -> Found | None:
+    def at_offset(self, session: SessionLike, windows: Sequence[WindowLike], current: WindowLike, text: str) -> FoundTarget | None:
         """Return the window so many places behind the current one, or before it, or that index if windows may be new."""
         steps = number_in(text[1:]) if text[1:] else 1
         if not steps:
@@ -200,11 +200,11 @@ class Targets:
         if self.may_index:
             index = current.index + steps
             at = next((one for one in windows if one.index == index), None)
-            return Found(session, at, at=index) if 0 <= index <= MOST_INDEX else None
+            return FoundTarget(session, at, at=index) if 0 <= index <= MOST_INDEX else None
         place = next((place for place, one in enumerate(windows) if one.id == current.id), 0)
-        return Found(session, windows[(place + steps) % len(windows)])
+        return FoundTarget(session, windows[(place + steps) % len(windows)])
 
-    def anywhere(self, parts: Parts) -> Found:
+    def anywhere(self, parts: TargetParts) -> FoundTarget:
         """Return a window or a pane without a named session."""
         if parts.window:
             found = self.any_window(parts.window, parts.is_exact_window, parts.is_window_only)
@@ -216,24 +216,24 @@ class Targets:
             raise BadCommand(f"can't find pane: {parts.pane}")
         return found
 
-    def any_window(self, text: str, is_exact: bool, is_only: bool) -> Found | None:
+    def any_window(self, text: str, is_exact: bool, is_only: bool) -> FoundTarget | None:
         """Return a window by its id, else one of the caller's session, else the current one of a session."""
         if text.startswith("@"):
-            return next((Found(session, one) for session in self.sessions for one in session.windows() if f"@{one.id}" == text), None)
+            return next((FoundTarget(session, one) for session in self.sessions for one in session.windows() if f"@{one.id}" == text), None)
         found = self.window_in(self.here.session, text, is_exact) if self.here.session else None
         session = None if found or is_only else self.session(text, is_exact)
         if self.may_index and found and not found.window and session is None and not is_only:
             session = self.session(text, is_exact)
-        return self.completed(Found(session)) if session else found
+        return self.completed(FoundTarget(session)) if session else found
 
     # ---- panes
 
-    def any_pane(self, text: str, is_only: bool) -> Found | None:
+    def any_pane(self, text: str, is_only: bool) -> FoundTarget | None:
         """Return a pane by its id, else one of the caller's window, else the active one of a window."""
         if text.startswith("%"):
-            return next((Found(session, window, pane) for session in self.sessions for window in session.windows()
+            return next((FoundTarget(session, window, pane) for session in self.sessions for window in session.windows()
                          for pane in window.panes() if f"%{pane.id}" == text), None)
-        here = self.completed(self.here) if self.here.session else Found()
+        here = self.completed(self.here) if self.here.session else FoundTarget()
         pane = self.pane_in(here.window, text) if here.window else None
         if pane:
             return here._replace(pane=pane)

@@ -4,7 +4,7 @@ from __future__ import annotations
 import re
 import time
 
-from roam_live.commands.formats import LETTERS, LITERAL, TIME, Scope, chunks, names_in, with_marks
+from roam_live.commands.formats import LETTERS, LITERAL, TIME, FormatScope, chunks, names_in, with_marks
 from roam_live.common.named_fields import NamedFields
 from roam_live.common.text import printable
 from roam_live.config.styled_text import ROW_STYLE, Styled
@@ -42,7 +42,7 @@ class Format(NamedFields):
     step: int
 
 
-class RowValues(Scope):
+class RowValues(FormatScope):
     """The values of a front end for the formats of its row. It runs no commands."""
 
     def __init__(self, values: dict[str, str]) -> None:

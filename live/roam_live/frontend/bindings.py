@@ -9,7 +9,7 @@ from roam_live.protocol.colours import COLOUR
 
 TYPE_CHECKING = False
 if TYPE_CHECKING:
-    from roam_live.commands.table import Command
+    from roam_live.commands.table import TmuxCommand
     from roam_live.commands.wishes import CommandWish
     from roam_live.config.loader import Binding
 
@@ -192,7 +192,7 @@ def default_lines(own: Own) -> list[str]:
     from roam_live.commands.table import BY_NAME, DEFAULT_KEYS
     from roam_live.input.key_names import named, named_key
 
-    found: dict[Command, list[tuple[str, str]]] = {}
+    found: dict[TmuxCommand, list[tuple[str, str]]] = {}
     for key, words in DEFAULT_KEYS.items():
         known, (name, _, rest) = named_key(key), words.partition(" ")
         if known and ("prefix", named(known)) not in own:
@@ -200,7 +200,7 @@ def default_lines(own: Own) -> list[str]:
     return [command_line(command, keys) for command, keys in found.items()]
 
 
-def command_line(command: Command, keys: list[tuple[str, str]]) -> str:
+def command_line(command: TmuxCommand, keys: list[tuple[str, str]]) -> str:
     """Return the line of a command: its keys with their arguments, its name, and its effect."""
     rests = ", ".join(rest for _, rest in keys if rest)
     does = command.help.partition(", with a command")[0]

@@ -8,7 +8,7 @@ import time
 from roam_live.cli.tmux.context import Context
 from roam_live.commands.flags import BadCommand
 from roam_live.commands.formats import expanded
-from roam_live.commands.targets import Found
+from roam_live.commands.targets import FoundTarget
 from roam_live.common.errors import Fault, reason
 from roam_live.common.suppress import suppress
 
@@ -173,8 +173,9 @@ def load(context: Context, flags: Flags) -> int:
 def list_all(context: Context, flags: Flags) -> int:
     """Print a line for each buffer, the newest first."""
     for name, note in sorted(notes(context).items(), key=lambda item: -int(item[1]["order"])):
-        values = context.variables(Found(), {"buffer_name": name, "buffer_size": str(note["size"]), "buffer_created": str(note["created"]),
-                                             "buffer_sample": sample(text_of(context, name))})
+        facts = {"buffer_name": name, "buffer_size": str(note["size"]), "buffer_created": str(note["created"]),
+                 "buffer_sample": sample(text_of(context, name))}
+        values = context.variables(FoundTarget(), facts)
         if context.passes(flags, values):
             context.write(expanded(flags.value("F") or BUFFER, values))
     return 0

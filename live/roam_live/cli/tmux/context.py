@@ -9,7 +9,7 @@ from roam_live.cli.tmux.variables import Variables
 from roam_live.commands.flags import BadCommand
 from roam_live.commands.formats import expanded, is_true
 from roam_live.commands.table import read_command
-from roam_live.commands.targets import Found, Targets
+from roam_live.commands.targets import FoundTarget, Targets
 from roam_live.session.foreground import own_pane
 
 TYPE_CHECKING = False
@@ -18,7 +18,7 @@ if TYPE_CHECKING:
 
     from roam_live.cli.tmux.name_space import NameSpace, SpaceState
     from roam_live.commands.flags import Flags
-    from roam_live.commands.table import Command
+    from roam_live.commands.table import TmuxCommand
 
     Effect = Callable[["Context", Flags], "int | None"]
 
@@ -43,7 +43,7 @@ class Context:
         self.writes = writes or sys.stdout.buffer.write
         self.known: Model | None = None
         # The place of a command within a command, such as one of if-shell; None for the caller's own.
-        self.place: Found | None = None
+        self.place: FoundTarget | None = None
 
     # ---- the model
 
@@ -69,18 +69,18 @@ class Context:
 
     # ---- targets
 
-    def here(self) -> Found:
+    def here(self) -> FoundTarget:
         """Return the caller's session, window and pane, or the session that was used last."""
         model = self.model()
         folder, number = own_pane()
         for session in model.sessions if folder else ():
             for window in session.windows():
                 if str(window.place.folder) == os.path.abspath(folder):
-                    return Found(session, window, next((pane for pane in window.panes() if pane.number == number), None))
+                    return FoundTarget(session, window, next((pane for pane in window.panes() if pane.number == number), None))
         recent = max(model.sessions, key=lambda session: float(session.note["activity"]), default=None)
-        return Found(recent)
+        return FoundTarget(recent)
 
-    def find(self, text: str | None, kind: str, may_index: bool = False) -> Found:
+    def find(self, text: str | None, kind: str, may_index: bool = False) -> FoundTarget:
         """Return the target of a text; BadCommand in tmux's words if there is none."""
         sessions = self.model().sessions
         if not sessions and not (text or ""):
@@ -88,7 +88,7 @@ class Context:
         here = self.place or self.here()
         return Targets(sessions, here, may_index).find(text, kind)
 
-    def target(self, flags: Flags, kind: str, may_index: bool = False, flag: str = "t") -> Found:
+    def target(self, flags: Flags, kind: str, may_index: bool = False, flag: str = "t") -> FoundTarget:
         """Return the target of a flag."""
         return self.find(flags.value(flag), kind, may_index)
 
@@ -97,7 +97,7 @@ class Context:
         return self.of_session(self.target(flags, "session"))
 
     @staticmethod
-    def of_session(found: Found) -> SessionView:
+    def of_session(found: FoundTarget) -> SessionView:
         """Return the session of a target."""
         if not isinstance(found.session, SessionView):
             raise BadCommand("can't find session")
@@ -108,7 +108,7 @@ class Context:
         return self.of_window(self.target(flags, "window"))
 
     @staticmethod
-    def of_window(found: Found) -> WindowView:
+    def of_window(found: FoundTarget) -> WindowView:
         """Return the window of a target."""
         if not isinstance(found.window, WindowView):
             raise BadCommand("can't find window")
@@ -119,7 +119,7 @@ class Context:
         return self.of_pane(self.target(flags, "pane"))
 
     @staticmethod
-    def of_pane(found: Found) -> PaneView:
+    def of_pane(found: FoundTarget) -> PaneView:
         """Return the pane of a target."""
         if not isinstance(found.pane, PaneView):
             raise BadCommand("can't find pane")
@@ -127,11 +127,11 @@ class Context:
 
     # ---- formats and output
 
-    def variables(self, found: Found, more: Mapping[str, str] | None = None) -> Variables:
+    def variables(self, found: FoundTarget, more: Mapping[str, str] | None = None) -> Variables:
         """Return the values for formats about a target."""
         return Variables(self.model(), found, more)
 
-    def expand(self, text: str, found: Found, has_time: bool = False, is_shell: bool = False) -> str:
+    def expand(self, text: str, found: FoundTarget, has_time: bool = False, is_shell: bool = False) -> str:
         """Return a format with the values of a target."""
         return expanded(text, self.variables(found), has_time, is_shell)
 
@@ -146,7 +146,7 @@ class Context:
 
     # ---- commands
 
-    def run(self, commands: Sequence[tuple[Command, Flags]]) -> None:
+    def run(self, commands: Sequence[tuple[TmuxCommand, Flags]]) -> None:
         """Run commands in order. The first that fails ends them."""
         for command, flags in commands:
             if not command.effect:
@@ -159,7 +159,7 @@ class Context:
         """Run commands by their words, once all of them are valid."""
         self.run([read_command([*words]) for words in commands])
 
-    def refuse(self, command: Command, flags: Flags) -> None:
+    def refuse(self, command: TmuxCommand, flags: Flags) -> None:
         """Refuse a command that roam lacks, as tmux does if its target is not there."""
         if command.target == "client" and not self.here().window:
             raise BadCommand("no current client")
@@ -168,7 +168,7 @@ class Context:
                 self.find(flags.value(flag), command.target)
         raise BadCommand(LACKING.format(command.names[0]))
 
-    def effect(self, command: Command) -> Effect:
+    def effect(self, command: TmuxCommand) -> Effect:
         """Return the function of a command."""
         module, _, name = command.effect.partition(".")
         found: Effect = getattr(__import__(f"roam_live.cli.tmux.{module}", fromlist=(name,)), name)

@@ -142,10 +142,10 @@ class NameSpace:
                 found = filled(read_json(file.read(MOST_STATE)))
         return found
 
-    def changing(self) -> Change:
+    def changing(self) -> SpaceChange:
         """Return a `with` that locks the state, gives it, and stores it at the end."""
         self.make()
-        return Change(self)
+        return SpaceChange(self)
 
     def reset(self) -> None:
         """Forget options, buffers and channels, as a server of tmux does with its last session."""
@@ -207,7 +207,7 @@ def filled(found: SpaceState) -> SpaceState:
     return state
 
 
-class Change:
+class SpaceChange:
     """A change of a state, in a `with`: other calls wait for it."""
 
     def __init__(self, space: NameSpace) -> None:

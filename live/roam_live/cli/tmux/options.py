@@ -5,13 +5,13 @@ import os
 import re
 
 from roam_live.cli.tmux.context import Context
-from roam_live.cli.tmux.shells import words_in
+from roam_live.cli.tmux.shell_commands import words_in
 from roam_live.cli.tmux.windows import default_size, demand_size
 from roam_live.commands.flags import BadCommand
 from roam_live.commands.options import (DEFAULTS, KINDS, PANE, SERVER, SESSION, WINDOW, checked, in_order, is_array, line_of,
                                         option_named, quoted)
 from roam_live.commands.table import command_named
-from roam_live.commands.targets import Found
+from roam_live.commands.targets import FoundTarget
 
 TYPE_CHECKING = False
 if TYPE_CHECKING:
@@ -40,7 +40,7 @@ window-layout-changed window-linked window-pane-changed window-renamed window-re
 COMMAS = ("command-alias", "terminal-overrides", "terminal-features", "user-keys")
 
 
-class Scope:
+class FormatScope:
     """The place of an option: a call that returns its values in a state, and the default values."""
 
     def __init__(self, finds: Callable[[SpaceState], Values], defaults: Values) -> None:
@@ -58,35 +58,35 @@ def is_of_windows(flags: Flags) -> bool:
     return flags.has("w") or flags.has("of windows")
 
 
-def scope_of(context: Context, flags: Flags, name: str) -> Scope:
+def scope_of(context: Context, flags: Flags, name: str) -> FormatScope:
     """Return the scope of an option by its name and the flags; a name that begins with @ has the one of the flags."""
     kind = KINDS[name].scopes if name in KINDS else ""
     is_window = is_of_windows(flags)
     if SERVER in kind or not kind and flags.has("s"):
-        return Scope(lambda state: state["server"], DEFAULTS[SERVER] if kind or not name else {})
+        return FormatScope(lambda state: state["server"], DEFAULTS[SERVER] if kind or not name else {})
     if flags.has("p") and (not kind or PANE in kind):
         return pane_scope(context, flags)
     if WINDOW in kind or not kind and is_window:
         if flags.has("g"):
-            return Scope(lambda state: state["window_options"], DEFAULTS[WINDOW])
+            return FormatScope(lambda state: state["window_options"], DEFAULTS[WINDOW])
         found = wanted(context, flags, "window", "window")
         folder, number = context.of_session(found).folder, str(context.of_window(found).number)
-        return Scope(lambda state: state["sessions"][folder]["windows"][number]["options"], {})
+        return FormatScope(lambda state: state["sessions"][folder]["windows"][number]["options"], {})
     if flags.has("g"):
-        return Scope(lambda state: state["session_options"], DEFAULTS[SESSION])
+        return FormatScope(lambda state: state["session_options"], DEFAULTS[SESSION])
     folder = context.of_session(wanted(context, flags, "session", "session")).folder
-    return Scope(lambda state: state["sessions"][folder]["options"], {})
+    return FormatScope(lambda state: state["sessions"][folder]["options"], {})
 
 
-def pane_scope(context: Context, flags: Flags) -> Scope:
+def pane_scope(context: Context, flags: Flags) -> FormatScope:
     """Return the scope of the options of a pane."""
     found = wanted(context, flags, "pane", "pane")
     folder, number = context.of_session(found).folder, str(context.of_window(found).number)
     pane = str(context.of_pane(found).id)
-    return Scope(lambda state: state["sessions"][folder]["windows"][number]["panes"].setdefault(pane, {}), {})
+    return FormatScope(lambda state: state["sessions"][folder]["windows"][number]["panes"].setdefault(pane, {}), {})
 
 
-def wanted(context: Context, flags: Flags, kind: str, what: str) -> Found:
+def wanted(context: Context, flags: Flags, kind: str, what: str) -> FoundTarget:
     """Return the target of a command on options; BadCommand in tmux's words if there is none."""
     name = flags.value("t")
     try:
@@ -152,18 +152,18 @@ def resize_windows(context: Context, sessions: list[SessionView]) -> None:
     """Give the windows of sessions without a terminal their default size, as tmux does."""
     for session in sessions:
         width, height = (int(one) for one in default_size(context.model(), session.note))
-        if not context.variables(Found(session)).terminals():
+        if not context.variables(FoundTarget(session)).terminals():
             for window in session.windows():
                 demand_size(window.place, (height, width))
     context.changed()
 
 
-def target_of(context: Context, flags: Flags) -> Found:
+def target_of(context: Context, flags: Flags) -> FoundTarget:
     """Return the target for formats; none if there is no such target."""
     try:
         return context.find(flags.value("t"), "pane")
     except BadCommand:
-        return Found()
+        return FoundTarget()
 
 
 def unset(own: Values, name: str, index: str) -> None:
@@ -172,7 +172,7 @@ def unset(own: Values, name: str, index: str) -> None:
         del own[key]
 
 
-def put_array(scope: Scope, state: SpaceState, name: str, index: str, value: str, is_added: bool) -> None:
+def put_array(scope: FormatScope, state: SpaceState, name: str, index: str, value: str, is_added: bool) -> None:
     """Set an element of an array, all of it, or append to it."""
     own = scope.finds(state)
     before = {key: text for key, text in scope.values(state).items() if key.startswith(f"{name}[")}
@@ -219,7 +219,7 @@ def show_options(context: Context, flags: Flags) -> int:
     return 0
 
 
-def arrays_in(scope: Scope) -> set[str]:
+def arrays_in(scope: FormatScope) -> set[str]:
     """Return the arrays among the options of a global scope."""
     return {kind.name for kind in KINDS.values() if kind.kind[0] == "array" and DEFAULTS[kind.scopes[0]] is scope.defaults}
 
@@ -227,7 +227,7 @@ def arrays_in(scope: Scope) -> set[str]:
 def wider(context: Context, flags: Flags, name: str) -> Values:
     """Return the global options that a session or a window inherits."""
     is_window = WINDOW in KINDS[name].scopes if name in KINDS else is_of_windows(flags)
-    scope = Scope(lambda state: state["window_options"] if is_window else state["session_options"],
+    scope = FormatScope(lambda state: state["window_options"] if is_window else state["session_options"],
                   DEFAULTS[WINDOW if is_window else SESSION])
     return scope.values(context.model().state)
 

@@ -9,7 +9,7 @@ from roam_live.cli.tmux.model import PaneView
 from roam_live.cli.tmux.numbers import number_of, part_of
 from roam_live.cli.tmux.windows import await_focus, begins_of, close, demand_size, folder_of, variables_of
 from roam_live.commands.flags import BadCommand
-from roam_live.commands.targets import Found, beside
+from roam_live.commands.targets import FoundTarget, beside
 from roam_live.common.errors import Fault
 from roam_live.common.tty import MOST
 from roam_live.frontend.borders import (Above, PaneSplit, above, box_of, growths, least_of, length_of, panes_of, size_for,
@@ -60,11 +60,11 @@ def split(context: Context, flags: Flags) -> int:
     return 0
 
 
-def found_in(window: WindowView | None, number: int) -> Found:
+def found_in(window: WindowView | None, number: int) -> FoundTarget:
     """Return a pane of a window as a target."""
     if not window:
-        return Found()
-    return Found(window.session, window, next((one for one in window.panes() if one.number == number), None))
+        return FoundTarget()
+    return FoundTarget(window.session, window, next((one for one in window.panes() if one.number == number), None))
 
 
 def split_length(flags: Flags, whole: int, way: str) -> int:
@@ -297,7 +297,7 @@ def shift(window: WindowView, rects: dict[int, Rect], split: PaneSplit, steps: i
     await_focus(window, focused)
 
 
-def zoom(context: Context, found: Found) -> None:
+def zoom(context: Context, found: FoundTarget) -> None:
     """Give a pane the size of its window by a larger session, or undo that."""
     pane, window = context.of_pane(found), context.of_window(found)
     places = window.ask().places()

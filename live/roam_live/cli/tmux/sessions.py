@@ -8,7 +8,7 @@ from roam_live.cli.tmux.context import Context, Failed
 from roam_live.cli.tmux.numbers import number_of
 from roam_live.cli.tmux.windows import begins_of, default_size, demand_size, set_current, window_name
 from roam_live.commands.flags import BadCommand
-from roam_live.commands.targets import Found
+from roam_live.commands.targets import FoundTarget
 from roam_live.common.errors import Fault
 from roam_live.common.suppress import suppress
 from roam_live.protocol.spawn_request import FIRST
@@ -39,11 +39,11 @@ def session_name(text: str) -> str:
 def new(context: Context, flags: Flags) -> int:
     """Start a session."""
     model, given = context.model(), flags.value("s")
-    here = Found() if not model.sessions else context.here()
+    here = FoundTarget() if not model.sessions else context.here()
     name = session_name(context.expand(given, here)) if given is not None else ""
     same = next((one for one in model.sessions if one.name == name), None)
     if same and flags.has("A"):
-        return attach_to(context, Found(same), flags.has("D"))
+        return attach_to(context, FoundTarget(same), flags.has("D"))
     if same:
         raise BadCommand(f"duplicate session: {name}")
     if flags.has("t"):
@@ -55,9 +55,9 @@ def new(context: Context, flags: Flags) -> int:
     folder = begin(context, flags, name, (width, height))
     made = context.model().session_of(folder)
     if made and flags.has("P"):
-        found = Found(made, made.current(), active if (current := made.current()) and (active := current.active()) else None)
+        found = FoundTarget(made, made.current(), active if (current := made.current()) and (active := current.active()) else None)
         context.write(context.expand(flags.value("F") or "#{session_name}:", found, has_time=True))
-    return 0 if is_detached or not made else attach_to(context, Found(made), False)
+    return 0 if is_detached or not made else attach_to(context, FoundTarget(made), False)
 
 
 def size_of(flags: Flags, flag: str, what: str) -> int | None:
@@ -77,7 +77,7 @@ def begin(context: Context, flags: Flags, name: str, size: tuple[int | None, int
     name = name or next(str(place) for place in range(len(taken) + 1) if str(place) not in taken)
     place = LocalSession(os.path.join(space.sessions, space.folder_for(name, number)))
     width, height = (one or int(default) for one, default in zip(size, default_size(model)))
-    path = context.expand(flags.value("c") or "", Found()) or os.getcwd()
+    path = context.expand(flags.value("c") or "", FoundTarget()) or os.getcwd()
     title = window_name(context, flags)
     own = dict(pair.split("=", 1) for pair in flags.values.get("e", []) if "=" in pair)
     begins = begins_of(flags.words, path, title, {**model.state["environment"], **own}, False)
@@ -141,7 +141,7 @@ def has(context: Context, flags: Flags) -> int:
 def rename(context: Context, flags: Flags) -> int:
     """Name a session."""
     session = context.session(flags)
-    name = session_name(context.expand(flags.words[0], Found(session)))
+    name = session_name(context.expand(flags.words[0], FoundTarget(session)))
     if name == session.name:
         return 0
     if any(one.name == name for one in context.model().sessions):
@@ -197,7 +197,7 @@ def attach(context: Context, flags: Flags) -> int:
     return attach_to(context, found, flags.has("d"), flags.has("r"))
 
 
-def attach_to(context: Context, found: Found, is_alone: bool, is_read_only: bool = False) -> int:
+def attach_to(context: Context, found: FoundTarget, is_alone: bool, is_read_only: bool = False) -> int:
     """Attach this terminal to a session, and return the status once it has left."""
     from roam_live.cli.attaching import enter
     from roam_live.cli.windows import detach_others

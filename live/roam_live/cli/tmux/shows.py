@@ -6,7 +6,7 @@ from roam_live.cli.tmux.variables import Variables
 from roam_live.commands.flags import BadCommand
 from roam_live.commands.formats import expanded
 from roam_live.commands.table import OF_TMUX, command_named
-from roam_live.commands.targets import Found
+from roam_live.commands.targets import FoundTarget
 from roam_live.common.errors import Fault
 
 TYPE_CHECKING = False
@@ -39,7 +39,7 @@ def list_sessions(context: Context, flags: Flags) -> int:
     """Print a line for each session."""
     for number, one in enumerate(context.model().sessions):
         window = one.current()
-        line(context, flags, SESSIONS, context.variables(Found(one, window, window.active() if window else None)), number)
+        line(context, flags, SESSIONS, context.variables(FoundTarget(one, window, window.active() if window else None)), number)
     return 0
 
 
@@ -48,7 +48,7 @@ def list_windows(context: Context, flags: Flags) -> int:
     sessions = context.model().sessions if flags.has("a") else [context.session(flags)]
     for session in sessions:
         for number, window in enumerate(session.windows()):
-            values = context.variables(Found(session, window, window.active()))
+            values = context.variables(FoundTarget(session, window, window.active()))
             line(context, flags, ALL_WINDOWS if flags.has("a") else WINDOWS, values, number)
     return 0
 
@@ -67,7 +67,7 @@ def list_panes(context: Context, flags: Flags) -> int:
     before = "#{session_name}:#{window_index}." if flags.has("a") else "#{window_index}." if flags.has("s") else ""
     for session, window in windows:
         for number, pane in enumerate(window.panes()):
-            line(context, flags, before + PANES, context.variables(Found(session, window, pane)), number)
+            line(context, flags, before + PANES, context.variables(FoundTarget(session, window, pane)), number)
     return 0
 
 
@@ -88,7 +88,7 @@ def list_clients(context: Context, flags: Flags) -> int:
                     "client_created": words[6], "client_termname": "", "client_session": session.name,
                     "client_readonly": "01"[words[7] == "read-only"],
                     "client_flags": "attached" + (",read-only" if words[7] == "read-only" else "")}
-            found = Found(session, window, window.active() if window else None)
+            found = FoundTarget(session, window, window.active() if window else None)
             line(context, flags, CLIENTS, context.variables(found, more), number)
     return 0
 
@@ -103,7 +103,7 @@ def list_commands(context: Context, flags: Flags) -> int:
         usage = " ".join(([f"[-{plain}]"] if plain else []) + valued)
         more = {"command_list_name": one.names[0], "command_list_alias": one.names[1] if len(one.names) > 1 else "",
                 "command_list_usage": usage}
-        context.write(expanded(flags.value("F") or COMMAND, Variables(context.model(), Found(), more)))
+        context.write(expanded(flags.value("F") or COMMAND, Variables(context.model(), FoundTarget(), more)))
     return 0
 
 
@@ -116,7 +116,7 @@ def message(context: Context, flags: Flags) -> int:
         found = context.target(flags, "pane")
     except BadCommand:
         # As in tmux, a format without a target has no values.
-        found = Found()
+        found = FoundTarget()
     values = context.variables(found)
     if flags.has("a"):
         for name in known(values):

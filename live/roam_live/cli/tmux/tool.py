@@ -153,7 +153,7 @@ def run(context: Context, words: Sequence[str], file: str = "") -> None:
 
 def configure(context: Context, file: str) -> None:
     """Set the options and variables in a settings file. As in tmux, a missing file or an invalid command in it stops nothing."""
-    from roam_live.cli.tmux.shells import words_of_file
+    from roam_live.cli.tmux.shell_commands import words_of_file
 
     found: list[list[str]] = []
     with suppress(BadCommand):

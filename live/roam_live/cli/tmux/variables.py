@@ -7,9 +7,9 @@ import socket
 import time
 
 from roam_live.cli.tmux.model import PaneView, SessionView, WindowView
-from roam_live.commands.formats import Scope
+from roam_live.commands.formats import FormatScope
 from roam_live.commands.options import DEFAULTS, KINDS, is_array
-from roam_live.commands.targets import Found
+from roam_live.commands.targets import FoundTarget
 from roam_live.common.errors import Fault
 from roam_live.common.suppress import suppress
 from roam_live.common.text import printable
@@ -65,10 +65,10 @@ def layout_of(window: WindowView) -> str:
     return checksum(told(parts)) if parts is not None else ""
 
 
-class Variables(Scope):
+class Variables(FormatScope):
     """The values for formats about a target. `more` has values that the caller knows, such as those of a buffer."""
 
-    def __init__(self, model: Model, found: Found, more: Mapping[str, str] | None = None) -> None:
+    def __init__(self, model: Model, found: FoundTarget, more: Mapping[str, str] | None = None) -> None:
         self.model, self.more = model, dict(more or {})
         self.session = found.session if isinstance(found.session, SessionView) else None
         self.window = found.window if isinstance(found.window, WindowView) else None
@@ -268,17 +268,17 @@ class Variables(Scope):
 
     # ---- loops, names and commands
 
-    def parts(self, kind: str) -> Iterable[tuple[Scope, bool]]:
+    def parts(self, kind: str) -> Iterable[tuple[FormatScope, bool]]:
         """Return the sessions, windows or panes of a loop."""
         if kind == "S":
-            return [(Variables(self.model, Found(one, window, window.active() if window else None)), one is self.session)
+            return [(Variables(self.model, FoundTarget(one, window, window.active() if window else None)), one is self.session)
                     for one in self.model.sessions for window in (one.current(),)]
         if kind == "W" and self.session:
             current = self.session.current()
-            return [(Variables(self.model, Found(self.session, one, one.active())), one is current) for one in self.session.windows()]
+            return [(Variables(self.model, FoundTarget(self.session, one, one.active())), one is current) for one in self.session.windows()]
         if kind == "P" and self.window:
             active = self.window.active()
-            return [(Variables(self.model, Found(self.session, self.window, one)), one is active) for one in self.window.panes()]
+            return [(Variables(self.model, FoundTarget(self.session, self.window, one)), one is active) for one in self.window.panes()]
         return ()
 
     def has_name(self, name: str, is_window: bool) -> bool:
@@ -289,7 +289,7 @@ class Variables(Scope):
 
     def ran(self, command: str) -> str:
         """Return the last line that a shell command prints."""
-        from roam_live.cli.tmux.shells import last_line
+        from roam_live.cli.tmux.shell_commands import last_line
 
         return last_line(command)
 

@@ -7,7 +7,7 @@ import time
 from roam_live.cli.tmux.context import Context
 from roam_live.cli.tmux.numbers import number_of
 from roam_live.commands.flags import BadCommand
-from roam_live.commands.targets import Found
+from roam_live.commands.targets import FoundTarget
 from roam_live.common.errors import Fault
 from roam_live.common.suppress import suppress
 from roam_live.common.tty import LEAST, MOST
@@ -37,7 +37,7 @@ def window_name(context: Context, flags: Flags) -> str:
     given = flags.value("n")
     if given is None:
         return ""
-    return storable(context.expand(given, context.here() if context.model().sessions else Found()))
+    return storable(context.expand(given, context.here() if context.model().sessions else FoundTarget()))
 
 
 def storable(name: str) -> str:
@@ -63,7 +63,7 @@ def begins_of(words: list[str], folder: str, title: str, variables: Mapping[str,
     return begins
 
 
-def folder_of(context: Context, flags: Flags, found: Found) -> str:
+def folder_of(context: Context, flags: Flags, found: FoundTarget) -> str:
     """Return the folder of a new pane: that of -c, else the caller's."""
     given = flags.value("c")
     path = os.path.join(os.getcwd(), context.expand(given, found)) if given else os.getcwd()
@@ -101,12 +101,12 @@ def new(context: Context, flags: Flags) -> int:
         set_current(context, session, number)
     made = (context.model().session_of(session.folder) or session).numbered(number)
     if made and flags.has("P"):
-        target = Found(made.session, made, made.active())
+        target = FoundTarget(made.session, made, made.active())
         context.write(context.expand(flags.value("F") or "#{session_name}:#{window_index}.#{pane_index}", target, has_time=True))
     return 0
 
 
-def new_index(context: Context, session: SessionView, found: Found, flags: Flags) -> int:
+def new_index(context: Context, session: SessionView, found: FoundTarget, flags: Flags) -> int:
     """Return the index of a new window: the wanted one, one beside another window, or the first free one."""
     taken = {one.index for one in session.windows()}
     if flags.has("a") or flags.has("b"):
@@ -300,7 +300,7 @@ def move(context: Context, flags: Flags) -> int:
         raise BadCommand("move-window: roam does not move a window to another session")
     index = -1 if found.at is None else found.at
     if index < 0:
-        index = new_index(context, window.session, Found(window.session), flags)
+        index = new_index(context, window.session, FoundTarget(window.session), flags)
     at = next((one for one in window.session.windows() if one.index == index), None)
     if at and at is not window and not flags.has("k"):
         raise BadCommand(f"index in use: {index}")
