@@ -5,10 +5,11 @@ import pathlib
 import signal
 import socket
 import subprocess
+import sys
 import unittest
 from unittest import mock
 
-from aids import Case, line_of, read_now, record
+from aids import Case, comes, line_of, read_now, record
 from roam_live.cli import capture, send
 from roam_live.cli.args import WordParser
 from roam_live.common.errors import Fault
@@ -162,6 +163,18 @@ class Read(Based):
         self.assertEqual(session.state, {"version": WINDOWS_VERSION, "server": OWN, "host": OWN})
         session.note_found()
         self.assertEqual(json.loads((self.folder / "state.json").read_text(encoding="utf-8")), session.state)
+
+    def test_holder_beside(self):
+        """The holder of a host that was found by its command may be its child; a process of another command is none."""
+        for word, is_holder in (("/a/holder", True), ("/a/other", False)):
+            one = subprocess.Popen([sys.executable, "-c", "import time; time.sleep(60)", word])
+            self.addCleanup(one.wait)
+            self.addCleanup(one.kill)
+            words = pathlib.Path(f"/proc/{one.pid}/cmdline")
+            self.assertTrue(comes(lambda words=words, word=word: word.encode() in words.read_bytes()))
+            self.assertEqual(local.holder_beside(os.getpid()), one.pid if is_holder else None)
+            one.kill()
+            one.wait()
 
     def test_names(self):
         for name, is_one in (("main", True), ("a-b_9", True), ("x" * 32, True), ("x" * 33, False), ("", False), ("a.b", False),

@@ -7,14 +7,14 @@ import time
 from roam_live.common.build_info import identity
 from roam_live.common.errors import Fault
 from roam_live.common.file_path import FilePath
-from roam_live.common.process import begun, end_words, holder_of, note_ends
+from roam_live.common.process import begun, end_words, holder_of, note_ends, stated
 from roam_live.common.suppress import suppress
 from roam_live.common.unix_socket import is_listened
 from roam_live.protocol.window_lines import MOST_WINDOWS, name_in
 from roam_live.session.folder import SessionFolder
 from roam_live.session.names import (BUILD, JOINED, LONGEST_PATH, REPLACED, SPARE, WINDOWS, WINDOWS_VERSION, base, check_name,
                                      is_spare_server, numbers_in)
-from roam_live.session.processes import end_left, noted_in
+from roam_live.session.processes import children_of, end_left, noted_in
 from roam_live.session.roles import HOLDER, ROLES, host_words, server_words
 
 TYPE_CHECKING = False
@@ -125,7 +125,9 @@ class LocalSession(SessionFolder):
             host = self.holder() if host is None else host
             if host is not None:
                 command = command_of(host, self.folder)
-                self.state = {"version": WINDOWS_VERSION, "command": command, self.served: [host, begun(host)]}
+                beside = holder_beside(host)
+                self.state = {"version": WINDOWS_VERSION, "command": command, self.served: [host, begun(host)],
+                              **({HOLDER: [beside, begun(beside)]} if beside else {})}
                 self.is_found = True
                 return True
         return bool(self.windows())
@@ -240,7 +242,11 @@ class LocalSession(SessionFolder):
         self.end(self.served)
         # A host that didn't end by itself has not told the holder, which starts another one.
         for role in (HOLDER, self.served):
+            before = self.state
             self.read()
+            # Without its files the processes are those that were found by their commands, and a host that follows.
+            self.state = self.state or before
+            self.find()
             self.end(role)
         for window in self.all_windows():
             window.end_all()
@@ -395,6 +401,22 @@ class Window(SessionFolder):
         for folder in (self.folder / "relays", self.folder):
             with suppress(OSError):
                 folder.rmdir()
+
+
+def holder_beside(host: int) -> int | None:
+    """Return the holder of a pty host, which is its parent or its child; None if there is none."""
+    parent = stated(host)[1:2]
+    found = [*map(int, parent), *children_of(host)]
+    return next((process for process in found if is_holder(process)), None)
+
+
+def is_holder(process: int) -> bool:
+    """Return True if a process is a holder, by its command."""
+    try:
+        words = FilePath(f"/proc/{process}/cmdline").read_bytes().split(b"\0")
+    except OSError:
+        return False
+    return any(os.path.basename(word) == HOLDER.encode() for word in words[1:4])
 
 
 def host_of(folder: FilePath) -> int | None:
