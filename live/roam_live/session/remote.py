@@ -97,6 +97,10 @@ class RemoteSession(SessionFolder):
         """Return the process of a role: the relay is the session's."""
         return self.session.process(role) if self.session and role == self.served else super().process(role)
 
+    def has_met(self) -> bool:
+        """Return True if the relay was seen to run, which is the session's."""
+        return self.session.has_met() if self.session else super().has_met()
+
     def find(self) -> bool:
         """Return True if it runs."""
         return self.session.find() and (self.folder / "session").exists() if self.session else super().find()
