@@ -155,6 +155,14 @@ class Read(Based):
         self.assertTrue(line_of(self.session(), None, None).endswith(" ? terminals, the pty host is stopped"))
         self.assertEqual(RemoteSession(self.base / "ssh:a:b").lacking(False), "")
 
+    def test_far_met(self):
+        """A window of a remote session has met its relay if the session has."""
+        whole = RemoteSession(self.base / "ssh:a:b")
+        window = RemoteSession(self.base / "ssh:a:b/w/1", "ssh:a:b:1", whole, 1)
+        self.assertEqual((whole.has_met(), window.has_met()), (False, False))
+        whole.met = OWN[0], OWN[1]
+        self.assertEqual((whole.has_met(), window.has_met()), (True, True))
+
     def test_command_found(self):
         """One with a lost note is found by its sockets."""
         session = self.session()
