@@ -69,7 +69,7 @@ impl RowChunk {
 
     /// The bytes of a row.
     pub(crate) fn text_at(&self, at: usize) -> &[u8]
-        requires { at < length self.now }
+        requires within { at < length self.now }
         ensures text { result.now ≡ (row_of self.now at).text }
     {
         let place = self.places[at];
@@ -78,7 +78,7 @@ impl RowChunk {
 
     /// How a row ends.
     pub(crate) fn wrap_at(&self, at: usize) -> Wrap
-        requires { at < length self.now }
+        requires within { at < length self.now }
         ensures wrap { result ≡ (row_of self.now at).wrap }
     {
         self.places[at].wrap

@@ -24,7 +24,7 @@ pub(crate) fn bytes_between(rows: &RowChunks, from: usize, to: usize) -> u64
 
 /// How many of the oldest rows are above these limits, and the bytes of the lines of the others.
 pub(crate) fn above(rows: &RowChunks, bytes: u64, most_rows: u64, most_bytes: u64) -> (usize, u64)
-    requires { bytes ≡ bytes_of rows.now }
+    requires bytes { bytes ≡ bytes_of rows.now }
     ensures count { result.0 ≤ length rows.now }
     ensures bytes { result.1 ≡ bytes_of (drop result.0 rows.now) }
     ensures within { IsWithin most_rows most_bytes (drop result.0 rows.now) }

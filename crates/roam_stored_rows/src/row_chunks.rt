@@ -38,7 +38,7 @@ impl Model for RowChunks {
 
 // Removes the whole chunks whose rows are all dropped, and returns how many rows of the others are.
 fn forget(chunks: &mut VecDeque<RowChunk>, dropped: usize) -> usize
-    requires { AllWhole chunks.old.items }
+    requires whole { AllWhole chunks.old.items }
     ensures rest { (last : List StoredRow) → drop result (joined chunks.new.items ++ last) ≡ drop dropped (joined chunks.old.items ++ last) }
     ensures count { length (joined chunks.new.items) + dropped ≡ length (joined chunks.old.items) + result }
     ensures chunks { AllWhole chunks.new.items }
@@ -96,7 +96,7 @@ impl RowChunks {
 
     // The chunk of a row, and its place there.
     fn chunk_of(&self, at: usize) -> (&RowChunk, usize)
-        requires { at < length self.now }
+        requires within { at < length self.now }
         ensures within { result.1 < length result.0.now }
         ensures row { row_of result.0.now result.1 ≡ row_of self.now at }
     {
@@ -110,7 +110,7 @@ impl RowChunks {
 
     /// The bytes of a row.
     pub(crate) fn text_at(&self, at: usize) -> &[u8]
-        requires { at < length self.now }
+        requires within { at < length self.now }
         ensures text { result.now ≡ (row_of self.now at).text }
     {
         let (chunk, place) = self.chunk_of(at);
@@ -119,7 +119,7 @@ impl RowChunks {
 
     /// How a row ends.
     pub(crate) fn wrap_at(&self, at: usize) -> Wrap
-        requires { at < length self.now }
+        requires within { at < length self.now }
         ensures wrap { result ≡ (row_of self.now at).wrap }
     {
         let (chunk, place) = self.chunk_of(at);
